@@ -9,7 +9,9 @@ pub fn get_u16(bytes: &[u8], at: usize) -> u16
     requires { ⌜ at + 2 ≤ length (now bytes) ⌝ }
     ensures { λ r. ⌜ r ≡ number (part at 2 (now (bytes .entry))) ⌝ }
 {
-    (bytes[at] as u16) * 256 + (bytes[at + 1] as u16)
+    let high = bytes[at] as u16;
+    let low = bytes[at + 1] as u16;
+    high * 256 + low
 }
 
 // The 32-bit number at `at`.

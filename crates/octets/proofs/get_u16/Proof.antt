@@ -1,35 +1,40 @@
 -- `octets::get_u16` meets its contract: two bytes are the digits of the number (`number-two`), and a byte is below 256.
 -- Assumes nothing.
-use Prim.Native.Nat.{_+_}
 use mathlib.Core.Path.{sym}
+use Prim.Native.Nat.{ℕ, _+_, _<_}
 use native.Mathlib.Omega.{arith}
 use borrow.Author.Needs.{needs}
+use lib.ListN.{getD}
 use Rattle.octets.proofs.Laws.{number-two}
 use Rattle.octets.proofs.get_u16.Statement.{statement}
 use Rattle.octets.proofs.get_u16.Tie as tie
 
-shared-slice-read-result : tie.Need-shared-slice-read-result
-shared-slice-read-result c = search needs
+-- both bytes are below 256
+small : (c : tie.After-shared-slice-known2) → let a = c .before .before .args in
+    (getD (a .bytes .now) (a .at) 0 < 256) × (getD (a .bytes .now) (a .at + 1) 0 < 256)
+small c = let a = c .before .before .args in
+    (omega (arith, c .shared-slice-known2 .given (a .at)), omega (arith, c .shared-slice-known2 .given (a .at + 1)))
 
-cast-result : tie.Need-cast-result
-cast-result c = omega (arith, c .shared-slice-known .given (c .before .args .at))
+shared-slice-read-high : tie.Need-shared-slice-read-high
+shared-slice-read-high c = search needs
+
+cast-high : tie.Need-cast-high
+cast-high c = omega (arith, c .shared-slice-known .given (c .before .args .at))
+
+add-low : tie.Need-add-low
+add-low c = search needs
+
+shared-slice-read-low : tie.Need-shared-slice-read-low
+shared-slice-read-low c = search needs
+
+cast-low : tie.Need-cast-low
+cast-low c = omega (arith, small c)
 
 mul-result : tie.Need-mul-result
-mul-result c = omega (arith, c .shared-slice-known .given (c .before .args .at))
+mul-result c = omega (arith, small c)
 
 add-result : tie.Need-add-result
-add-result c = search needs
-
-shared-slice-read-result-2 : tie.Need-shared-slice-read-result-2
-shared-slice-read-result-2 c = search needs
-
-cast-result-2 : tie.Need-cast-result-2
-cast-result-2 c = omega (arith, c .shared-slice-known2 .given (c .before .before .args .at + 1))
-
-add-result-2 : tie.Need-add-result-2
-add-result-2 c =
-    let a = c .before .before .args in
-    omega (arith, c .shared-slice-known2 .given (a .at), c .shared-slice-known2 .given (a .at + 1))
+add-result c = omega (arith, small c)
 
 returns : tie.Need-returns
 returns c = let a = c .before .before .args in sym (number-two (a .at) (a .bytes .now) (c .before .before .pre))
@@ -38,11 +43,11 @@ pub get-u16-spec : {M : Type 1} → statement M
 get-u16-spec =
     tie.close
     (tie.spec
-    shared-slice-read-result
-    cast-result
+    shared-slice-read-high
+    cast-high
+    add-low
+    shared-slice-read-low
+    cast-low
     mul-result
     add-result
-    shared-slice-read-result-2
-    cast-result-2
-    add-result-2
     returns)

@@ -1,0 +1,52 @@
+#!/bin/sh
+# All tests. Its last line is 'N passed, M failed', and it exits 0 only where nothing failed.
+set -u
+cd "$(dirname "$0")/.." || exit 2
+log=target-test.log
+passed=0 failed=0
+
+# report NAME STATUS: counts one test.
+report() {
+    if [ "$2" -eq 0 ]; then
+        passed=$((passed + 1))
+        echo "test $1: ok"
+    else
+        failed=$((failed + 1))
+        echo "test $1: FAILED"
+    fi
+}
+
+if ! command -v rt >/dev/null 2>&1; then
+    echo "The Rattle kit is not on the PATH: see README.md."
+    echo "0 passed, 1 failed"
+    exit 1
+fi
+
+# The toolchain that the proofs were last checked with. A difference is reported and does not fail by itself: the proof decides.
+if [ "$(rt version)" != "$(cat TOOLCHAIN)" ]; then
+    echo "note: this toolchain is '$(rt version)', the one pinned in TOOLCHAIN is '$(cat TOOLCHAIN)'"
+fi
+
+rt fmt --check
+report layout $?
+
+# Files of Rattle or antt that stand outside crates/, which the proof does not see.
+stray=$(find . -path ./target -prune -o -path ./crates -prune -o -path ./.git -prune -o \( -name '*.rt' -o -name '*.antt' \) -print)
+[ -z "$stray" ] || echo "stray files: $stray"
+test -z "$stray"
+report stray-files $?
+
+# The proof of every crate from nothing, every must-fail edit, and every program against its stored output.
+rt ci 2>&1 | tee "$log" | grep -v '^[0-9]* passed, [0-9]* failed$'
+counts=$(tail -n 1 "$log" | sed -n 's/^\([0-9]*\) passed, \([0-9]*\) failed$/\1 \2/p')
+rm -f "$log"
+if [ -n "$counts" ]; then
+    passed=$((passed + ${counts% *}))
+    failed=$((failed + ${counts#* }))
+else
+    echo "rt ci did not end in a count"
+    failed=$((failed + 1))
+fi
+
+echo "$passed passed, $failed failed"
+[ "$failed" -eq 0 ] && [ "$passed" -gt 0 ]
