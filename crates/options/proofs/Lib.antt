@@ -1,1 +1,3 @@
 pub mod Classes
+pub mod Steps
+pub mod Walks

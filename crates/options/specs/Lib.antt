@@ -1,2 +1,4 @@
 pub mod Kinds
 pub mod Step
+pub mod Walk
+pub mod Turn
