@@ -1,3 +1,4 @@
+pub mod Areas
 pub mod Classes
 pub mod Steps
 pub mod Walks

@@ -2,3 +2,4 @@ pub mod Kinds
 pub mod Step
 pub mod Walk
 pub mod Turn
+pub mod Area

@@ -1,4 +1,4 @@
--- One step of the walk, and how it goes on.
+-- One step of the walk and how it goes on: names for what private functions answer.
 use mathlib.Core.Bool.{cond}
 use mathlib.Core.List.{List}
 use Prim.Native.Nat.{ℕ, zero, suc}
@@ -12,6 +12,11 @@ use Rattle.options.specs.declared.step.Step.the-variants.{End, Eol, Nop,
 use Rattle.options.specs.declared.walk.Fault.the-variants.{Malformed, Unsafe, Crowded}
 use Rattle.options.specs.declared.walk.Apcs.{Apcs}
 use Rattle.options.specs.declared.walk.Apcs.the-variants.{Absent}
+use Rattle.options.specs.declared.walk.Walk.{Walk}
+use Rattle.options.specs.declared.walk.Walk.the-variants.{Listed, Faulty}
+use Rattle.options.specs.declared.area.Fragment.{Fragment}
+use Rattle.options.specs.declared.area.Area.{Area}
+use Rattle.options.specs.declared.area.Area.the-variants.{Listed as AreaListed, Piece, Faulty as AreaFaulty}
 use Rattle.options.specs.declared.walk.Turn.{Turn}
 use Rattle.options.specs.declared.walk.Turn.the-variants.{On, Ended, Failed}
 
@@ -30,3 +35,13 @@ turnIn room l Outlawed = Failed Unsafe
 
 unfoldable pub turnOf : ℕ → List ℕ → Turn
 turnOf room l = turnIn room l (stepOf l)
+
+-- ---- what the answer of a plain walk becomes in the answer of an area's walk
+
+abbrev pub asPiece : Fragment → Walk → Area
+asPiece f (Listed count fill apcs) = Piece f
+asPiece f (Faulty x) = AreaFaulty x
+
+abbrev pub asArea : Walk → Area
+asArea (Listed count fill apcs) = AreaListed count fill apcs
+asArea (Faulty x) = AreaFaulty x

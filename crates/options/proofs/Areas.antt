@@ -1,0 +1,72 @@
+-- Laws of the walk of an area: leading NOPs, and what a fragment that was found keeps to.
+-- Assumes nothing.
+use mathlib.Core.Path.{_≡_, refl, sym, ap, _∙_}
+use mathlib.Core.Bool.{Bool, true, false, cond, _&&_}
+use mathlib.Core.List.{List, [], _∷_}
+use mathlib.Core.Logic.{⊎-elim}
+use Prim.Native.Nat.{ℕ, _+_, _-_, _≤_, _<_}
+use native.Mathlib.Numerals.{add-one}
+use native.Mathlib.Omega.{arith}
+use borrow.Author.Tests.{eq-eqb, ne-eqb, leb-true}
+use lib.Dec.{eqb, leb}
+use lib.ListN.{length, drop, getD, drop-of-length-le}
+use lib.Seq.{drop-cons}
+use Rattle.offsets.specs.Offsets.{placeOf}
+use Rattle.offsets.specs.declared.Origin.{Origin}
+use Rattle.offsets.specs.declared.Origin.the-variants.{At, BeforeData}
+use Rattle.options.specs.Kinds.{classOf, nop, frag}
+use Rattle.options.specs.Step.{stepOf}
+use Rattle.options.specs.Area.{nopsOf, placedAt, fragmentOf}
+use Rattle.options.specs.declared.step.Step.the-variants.{Found}
+use Rattle.options.specs.declared.area.Fields.{Fields}
+use Rattle.options.specs.declared.area.Fragment.{Fragment}
+use Rattle.options.specs.declared.area.Placed.{Placed}
+use Rattle.options.specs.declared.area.Placed.the-variants.{Sound, Refused}
+use Rattle.options.proofs.Steps.{step-found}
+
+-- ---- leading NOPs
+
+nops-front : (l : List ℕ) (i : ℕ) → i < length l → nopsOf (drop i l) ≡ cond (eqb (getD l i 0) nop) (1 + nopsOf (drop (i + 1) l)) 0
+unfolding nopsOf
+nops-front l i h = ap nopsOf (drop-cons l i 0 h) ∙ ap (λ (k : ℕ). cond (eqb (getD l i 0) nop) (1 + nopsOf (drop k l)) 0) (sym (add-one i))
+
+pub nops-one : (l : List ℕ) (i : ℕ) → i < length l → getD l i 0 ≡ nop → nopsOf (drop i l) ≡ 1 + nopsOf (drop (i + 1) l)
+nops-one l i h e = nops-front l i h ∙ simp (eq-eqb (getD l i 0) nop e)
+
+pub nops-other : (l : List ℕ) (i : ℕ) → i < length l → (getD l i 0 ≡ nop → ⊥) → nopsOf (drop i l) ≡ 0
+nops-other l i h d = nops-front l i h ∙ simp (ne-eqb (getD l i 0) nop d)
+
+pub nops-none : (l : List ℕ) (i : ℕ) → length l ≤ i → nopsOf (drop i l) ≡ 0
+unfolding nopsOf
+nops-none l i h = ap nopsOf (drop-of-length-le l h)
+
+-- ---- FRAG
+
+-- a FRAG that was found is whole: 10 bytes, or 12
+pub frag-found : (l : List ℕ) (kind h s : ℕ) → stepOf l ≡ Found kind h s → getD l 0 0 ≡ frag → (10 ≤ length l) × (s ≤ length l)
+unfolding classOf
+frag-found l kind h s e k =
+    let f = step-found l kind h s e in
+    let long : 10 ≤ s = ⊎-elim (λ u. omega arith) (λ u. omega arith) (f .fixed 10 12 (ap classOf (f .front ∙ k))) in
+    (omega (arith, f .sized .fits), f .sized .fits)
+
+abbrev startOf : Placed → ℕ
+startOf (Sound f) = f .start .0
+startOf Refused = 0
+
+-- a fragment's bytes start behind FRAG and end with the list
+pub fragment-within : (fields : Fields) (base behind size : ℕ) (f : Fragment) → fragmentOf fields base behind size ≡ Sound f
+    → (base + behind ≤ f .start .0) × (f .start .0 ≤ base + size)
+unfolding fragmentOf
+fragment-within fields base behind size f =
+    go (leb (base + behind) (fields .start)) (leb (fields .start) (base + size)) (placeOf (fields .offset)) (placeOf (fields .«option_start»)) refl refl
+  where
+    go : (s t : Bool) (o r : Origin) → leb (base + behind) (fields .start) ≡ s → leb (fields .start) (base + size) ≡ t
+        → cond (s && t) (placedAt fields (base + size) o r) Refused ≡ Sound f → (base + behind ≤ f .start .0) × (f .start .0 ≤ base + size)
+    go false t o r p q e = absurd (let z : _≡_ {A = ℕ} 0 1 = cc in omega arith)
+    go true false o r p q e = absurd (let z : _≡_ {A = ℕ} 0 1 = cc in omega arith)
+    go true true BeforeData r p q e = absurd (let z : _≡_ {A = ℕ} 0 1 = cc in omega arith)
+    go true true (At o) BeforeData p q e = absurd (let z : _≡_ {A = ℕ} 0 1 = cc in omega arith)
+    go true true (At o) (At r) p q e =
+        let same : fields .start ≡ f .start .0 = ap startOf e in
+        (omega (arith, leb-true (base + behind) (fields .start) p), omega (arith, leb-true (fields .start) (base + size) q))
