@@ -1,0 +1,5 @@
+pub mod Apcs
+pub mod Readings
+pub mod Refusals
+pub mod Starts
+pub mod Sums

@@ -1,0 +1,25 @@
+-- A reading by what the walk tells: the definition's, whatever the walk came to.
+-- Assumes nothing.
+use mathlib.Core.Path.{_≡_, refl, sym}
+use mathlib.Core.List.{List}
+use Prim.Native.Nat.{ℕ, _-_}
+use lib.ListN.{length}
+use Rattle.octets.specs.Octets.{part}
+use Rattle.offsets.specs.Offsets.{udpHeader}
+use Rattle.options.specs.Area.{AreaWalk, plain, piece, fault, toldArea}
+use Rattle.datagram.specs.Reading.{extent, walked}
+use Rattle.datagram.specs.Private.{readingBy}
+use Rattle.datagram.specs.declared.reading.Verdict.the-variants.{Read}
+use Rattle.datagram.proofs.Apcs.{apc-told}
+
+pub reading-told : (payload : List ℕ) (size from : ℕ) (w : AreaWalk) → readingBy payload size from (toldArea w) ≡ walked payload size from w
+reading-told payload size from (plain items fill) = λ i. record {
+  user = extent udpHeader size;
+  verdict = Read;
+  options = extent from (length payload);
+  count = length items;
+  fill = fill;
+  apc = (apc-told (part udpHeader (size - udpHeader) payload) items) i;
+}
+reading-told payload size from (piece f) = refl
+reading-told payload size from (fault f) = refl

@@ -1,0 +1,3 @@
+pub mod Surplus
+pub mod Reading
+pub mod Private

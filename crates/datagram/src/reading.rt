@@ -1,0 +1,201 @@
+// The reading of a payload: refusals in order, the user data's extent, and a verdict on the surplus area.
+use crate::surplus;
+use crate::surplus::Start;
+use offsets::PacketOffset;
+use offsets::UDP_HEADER;
+use options::area;
+use options::area::Area;
+use options::area::Fragment;
+use options::walk::Apcs;
+use options::walk::Fault;
+ghost use mathlib.Core.Path.{_≡_};
+ghost use mathlib.Core.Bool.{false};
+ghost use mathlib.Core.List.{_++_};
+ghost use Prim.Native.Nat.{_≤_};
+ghost use lib.ListN.{length, drop};
+ghost use lib.Dec.{eqb};
+ghost use Rattle.offsets.specs.Offsets.{udpHeader};
+ghost use Rattle.options.specs.Area.{areaOf};
+ghost use Rattle.checksum.specs.Checksum.{folded, wordSum};
+ghost use Rattle.datagram.specs.Surplus.{startOf};
+ghost use Rattle.datagram.specs.Reading.{payloadLimit, pseudoHeader, isOdd, extent, quiet, verdictOf, walked, started, reading, answerOf};
+ghost use Rattle.datagram.specs.Private.{apcBy};
+
+// An IPv4 packet of 65,535 bytes less its header.
+pub const PAYLOAD_LIMIT: usize = 65515;
+
+// UDP's protocol number.
+const UDP: u16 = 17;
+
+// Bytes of a packet, counted from its UDP header.
+pub struct Extent {
+    pub from: PacketOffset,
+    pub to: PacketOffset,
+}
+
+// What the APC options say of the user data: none there, all right, or one that differs.
+pub enum Apc {
+    Absent,
+    Right,
+    Wrong,
+}
+
+// The verdict on the surplus area, in document 01's words; `Bare` is its "none".
+pub enum Verdict {
+    Bare,
+    Short,
+    Pad,
+    Unsummed,
+    BadSum,
+    Malformed,
+    Unsafe,
+    FragData,
+    Crowded,
+    Read,
+    Piece(Fragment),
+}
+
+pub struct Reading {
+    // The user data. It is to be delivered with every verdict but `Piece`.
+    pub user: Extent,
+    pub verdict: Verdict,
+    // The option list with its fill. Empty, with no option, no fill and no APC, unless the verdict is `Read`.
+    pub options: Extent,
+    pub count: usize,
+    pub fill: usize,
+    pub apc: Apc,
+}
+
+pub enum Refusal {
+    PayloadTooShort,
+    PayloadTooLong,
+    LengthOutOfRange,
+    ChecksumWrong,
+}
+
+pub enum Outcome {
+    Refused(Refusal),
+    Accepted(Reading),
+}
+
+// Reads one IPv4 payload.
+pub fn read(payload: &[u8], source: [u8; 4], destination: [u8; 4]) -> Outcome
+    ensures { λ r. ⌜ answerOf r ≡ reading (now (payload .entry)) source destination ⌝ }
+{
+    if payload.len() < UDP_HEADER {
+        return Outcome::Refused(Refusal::PayloadTooShort);
+    }
+    if PAYLOAD_LIMIT < payload.len() {
+        return Outcome::Refused(Refusal::PayloadTooLong);
+    }
+    let size = octets::get_u16(payload, 4) as usize;
+    if size < UDP_HEADER {
+        return Outcome::Refused(Refusal::LengthOutOfRange);
+    }
+    if payload.len() < size {
+        return Outcome::Refused(Refusal::LengthOutOfRange);
+    }
+    let checksum = octets::get_u16(payload, 6);
+    if checksum != 0 {
+        if udp_sum(&payload[..size], source, destination) != 65535 {
+            return Outcome::Refused(Refusal::ChecksumWrong);
+        }
+    }
+    Outcome::Accepted(accept(payload, size, checksum == 0))
+}
+
+// The sum over the pseudo-header and a datagram.
+fn udp_sum(datagram: &[u8], source: [u8; 4], destination: [u8; 4]) -> u16
+    requires { ⌜ length (now datagram) ≤ 65535 ⌝ }
+    ensures { λ r. ⌜ r ≡ folded (wordSum false (pseudoHeader source destination (length (now (datagram .entry))) ++ now (datagram .entry))) ⌝ }
+{
+    let addresses = checksum::add(checksum::add(0, &source, false), &destination, false);
+    let rest = checksum::add_word(checksum::add_word(addresses, UDP), datagram.len() as u16);
+    checksum::add(rest, datagram, false)
+}
+
+// The reading of a payload that no refusal meets. `unused`: the UDP checksum is zero.
+fn accept(payload: &[u8], size: usize, unused: bool) -> Reading
+    requires { ⌜ (udpHeader ≤ size) × (size ≤ length (now payload)) × (length (now payload) ≤ payloadLimit) ⌝ }
+    ensures { λ r. ⌜ r ≡ started (now (payload .entry)) size (startOf (isOdd size) unused (drop size (now (payload .entry)))) ⌝ }
+{
+    let start = surplus::start_of(&payload[size..], size % 2 == 1, unused);
+    match start {
+        Start::Empty => quiet(size, Verdict::Bare),
+        Start::Short => quiet(size, Verdict::Short),
+        Start::Pad => quiet(size, Verdict::Pad),
+        Start::Unsummed => quiet(size, Verdict::Unsummed),
+        Start::BadSum => quiet(size, Verdict::BadSum),
+        Start::List(at) => listed(payload, size, size + at),
+    }
+}
+
+// The reading whose option list starts at packet offset `from`.
+fn listed(payload: &[u8], size: usize, from: usize) -> Reading
+    requires { ⌜ (udpHeader ≤ size) × (size ≤ from) × (from ≤ length (now payload)) ⌝ }
+    ensures { λ r. ⌜ r ≡ walked (now (payload .entry)) size from (areaOf (eqb size udpHeader) from (drop from (now (payload .entry)))) ⌝ }
+{
+    let list = area::walk_area(&payload[from..], PacketOffset(from), size == UDP_HEADER);
+    match list {
+        Area::Listed { count, fill, apcs } => Reading {
+            user: span(UDP_HEADER, size),
+            verdict: Verdict::Read,
+            options: span(from, payload.len()),
+            count,
+            fill,
+            apc: apc_of(&payload[UDP_HEADER..size], apcs),
+        },
+        Area::Piece(fragment) => quiet(size, Verdict::Piece(fragment)),
+        Area::Faulty(fault) => quiet(size, verdict_of(fault)),
+    }
+}
+
+// A CRC is computed only where an APC asks for it.
+fn apc_of(user: &[u8], apcs: Apcs) -> Apc
+    ensures { λ r. ⌜ r ≡ apcBy (now (user .entry)) apcs ⌝ }
+{
+    match apcs {
+        Apcs::Absent => Apc::Absent,
+        Apcs::Same(value) => {
+            if value == crc32c::crc32c(user) {
+                return Apc::Right;
+            }
+            Apc::Wrong
+        }
+        Apcs::Different => Apc::Wrong,
+    }
+}
+
+fn verdict_of(fault: Fault) -> Verdict
+    ensures { λ r. ⌜ r ≡ verdictOf fault ⌝ }
+{
+    match fault {
+        Fault::Malformed => Verdict::Malformed,
+        Fault::Unsafe => Verdict::Unsafe,
+        Fault::FragData => Verdict::FragData,
+        Fault::Crowded => Verdict::Crowded,
+    }
+}
+
+// A reading that reports no option.
+fn quiet(size: usize, verdict: Verdict) -> Reading
+    ensures { λ r. ⌜ r ≡ quiet size verdict ⌝ }
+{
+    Reading {
+        user: span(UDP_HEADER, size),
+        verdict,
+        options: span(0, 0),
+        count: 0,
+        fill: 0,
+        apc: Apc::Absent,
+    }
+}
+
+fn span(from: usize, to: usize) -> Extent
+    ensures { λ r. ⌜ r ≡ extent from to ⌝ }
+{
+    Extent {
+        from: PacketOffset(from),
+        to: PacketOffset(to),
+    }
+}
