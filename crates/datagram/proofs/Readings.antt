@@ -3,12 +3,14 @@
 use mathlib.Core.Path.{_≡_, refl, sym}
 use mathlib.Core.List.{List}
 use Prim.Native.Nat.{ℕ, _-_}
-use lib.ListN.{length}
+use lib.ListN.{length, take}
 use Rattle.octets.specs.Octets.{part}
 use Rattle.offsets.specs.Offsets.{udpHeader}
+use Rattle.options.specs.Walk.{Walked, listed, faulty, told}
 use Rattle.options.specs.Area.{AreaWalk, plain, piece, fault, toldArea}
 use Rattle.datagram.specs.Reading.{extent, walked}
-use Rattle.datagram.specs.Private.{readingBy}
+use Rattle.datagram.specs.Rereading.{places, rereads, rewalked}
+use Rattle.datagram.specs.Private.{readingBy, rewalkedBy}
 use Rattle.datagram.specs.declared.reading.Verdict.the-variants.{Read}
 use Rattle.datagram.proofs.Apcs.{apc-told}
 
@@ -23,3 +25,14 @@ reading-told payload size from (plain items fill) = λ i. record {
 }
 reading-told payload size from (piece f) = refl
 reading-told payload size from (fault f) = refl
+
+pub rereading-told : (original : List ℕ) (r from : ℕ) (w : Walked) → rewalkedBy original r from (told w) ≡ rewalked original r from w
+rereading-told original r from (listed items fill) = λ i. rereads (record {
+  user = places 0 r;
+  verdict = Read;
+  options = places from (length original);
+  count = length items;
+  fill = fill;
+  apc = (apc-told (take r original) items) i;
+})
+rereading-told original r from (faulty f) = refl

@@ -3,7 +3,7 @@ use mathlib.Core.Bool.{cond}
 use mathlib.Core.List.{List}
 use Prim.Native.Nat.{ℕ, _-_}
 use lib.Dec.{eqb}
-use lib.ListN.{length}
+use lib.ListN.{length, take}
 use Rattle.octets.specs.Octets.{part}
 use Rattle.offsets.specs.Offsets.{udpHeader}
 use Rattle.crc32c.specs.Crc.{crcOf}
@@ -11,6 +11,9 @@ use Rattle.options.specs.declared.walk.Apcs.{Apcs}
 use Rattle.options.specs.declared.walk.Apcs.the-variants.{Absent as absent, Same, Different}
 use Rattle.options.specs.declared.area.Area.{Area}
 use Rattle.options.specs.declared.area.Area.the-variants.{Listed, Piece as pieceArea, Faulty}
+use Rattle.options.specs.declared.walk.Walk.{Walk}
+use Rattle.options.specs.declared.walk.Walk.the-variants.{Listed as WalkListed, Faulty as WalkFaulty}
+use Rattle.datagram.specs.Rereading.{places, faultily, rereads, ReAnswer}
 use Rattle.datagram.specs.Reading.{extent, quiet, verdictOf}
 use Rattle.datagram.specs.declared.reading.Apc.{Apc}
 use Rattle.datagram.specs.declared.reading.Apc.the-variants.{Absent, Right, Wrong}
@@ -34,3 +37,14 @@ readingBy payload size from (Listed count fill apcs) = record {
 }
 readingBy payload size from (pieceArea fragment) = quiet size (Piece fragment)
 readingBy payload size from (Faulty f) = quiet size (verdictOf f)
+
+abbrev pub rewalkedBy : List ℕ → ℕ → ℕ → Walk → ReAnswer
+rewalkedBy original r from (WalkListed count fill apcs) = rereads (record {
+  user = places 0 r;
+  verdict = Read;
+  options = places from (length original);
+  count = count;
+  fill = fill;
+  apc = apcBy (take r original) apcs;
+})
+rewalkedBy original r from (WalkFaulty fault) = faultily r fault

@@ -151,7 +151,7 @@ fn listed(payload: &[u8], size: usize, from: usize) -> Reading
 }
 
 // A CRC is computed only where an APC asks for it.
-fn apc_of(user: &[u8], apcs: Apcs) -> Apc
+pub fn apc_of(user: &[u8], apcs: Apcs) -> Apc
     ensures { λ r. ⌜ r ≡ apcBy (now (user .entry)) apcs ⌝ }
 {
     match apcs {
