@@ -1,4 +1,5 @@
 pub mod Apcs
+pub mod Claims
 pub mod Readings
 pub mod Refusals
 pub mod Starts

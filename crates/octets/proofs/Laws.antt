@@ -167,6 +167,15 @@ number-four at l h =
 pub length-part : (at n : ℕ) (l : List ℕ) → at + n ≤ length l → length (part at n l) ≡ n
 length-part at n l h = simp (length-take, length-drop) (omega arith)
 
+-- a part of the front is that part of the whole
+pub part-take : (at n m : ℕ) (l : List ℕ) → at + n ≤ m → m ≤ length l → part at n (take m l) ≡ part at n l
+part-take at n m l inner fits =
+    let size : length (take m l) ≡ m = length-take-le m l fits in
+    let left : length (drop at (take m l)) ≡ m - at = length-drop at (take m l) ∙ ap (λ (k : ℕ). k - at) size in
+    sym (ap (λ (t : List ℕ). part at n t) (sym (take-append-drop m l))
+    ∙ ap (take n) (drop-append-le at (take m l) (drop m l) (omega arith))
+    ∙ take-append-le n (drop at (take m l)) (drop m l) (omega arith))
+
 pub part-bytes : (at n : ℕ) (l : List ℕ) → Octets l → Octets (take n (drop at l))
 part-bytes at n l h i = go n (drop at l) (λ j. subst (λ (x : ℕ). x < 256) (sym (getD-drop at l j 0)) (h (at + j))) i
   where
