@@ -1,4 +1,5 @@
 pub mod Areas
 pub mod Classes
+pub mod Locality
 pub mod Steps
 pub mod Walks
