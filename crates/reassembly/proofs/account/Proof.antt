@@ -1,0 +1,34 @@
+-- `reassembly::account` meets its contract: the test of the record decides between its two answers.
+-- Assumes nothing.
+use Rattle.record.specs.Record.{soundRecord}
+use Rattle.reassembly.specs.Answer.{firstOf}
+use Rattle.reassembly.specs.Advance.{accountOn, figures}
+use Rattle.record.specs.Limits.{assemblyLimit, lifetime}
+use Rattle.record.specs.declared.Assembly.{Assembly}
+use lib.Seq.{take-length}
+use lib.ListN.{length, take, drop, getD, set}
+use Prim.Native.Nat.{ℕ, _+_, _*_, _-_, _^_, _≤_, _<_}
+use mathlib.Core.List.{List, map}
+use mathlib.Core.Bool.{Bool, true, false, not, _&&_, _||_}
+use mathlib.Core.Path.{_≡_, refl, sym, ap, ap₂, _∙_}
+use borrow.Author.Needs.{needs}
+use Rattle.reassembly.proofs.account.Statement.{statement}
+use Rattle.reassembly.proofs.account.Tie as tie
+
+sound-requires : tie.Need-sound-requires
+sound-requires c κs = search needs
+
+returns : tie.Need-returns
+unfolding accountOn firstOf figures
+returns c =
+    let e : soundRecord (c .before .before .args .client) ≡ true = sym (c .before .sound .ensures) ∙ c .if1 .taken in
+    record { client = simp e; reply = simp e }
+
+returns-2 : tie.Need-returns-2
+unfolding accountOn firstOf
+returns-2 c =
+    let e : soundRecord (c .before .before .args .client) ≡ false = sym (c .before .sound .ensures) ∙ c .if1 .left in
+    record { client = simp e; reply = simp e }
+
+pub account-spec : {M : Type 1} → statement M
+account-spec = tie.close (tie.spec sound-requires returns returns-2)

@@ -1,0 +1,36 @@
+-- `reassembly::alike` meets its contract: the comparisons are the definition's.
+-- Assumes nothing.
+use Rattle.reassembly.specs.Offer.{alike}
+use borrow.Author.Needs.{needs}
+use Rattle.reassembly.proofs.alike.Statement.{statement}
+use Rattle.reassembly.proofs.alike.Tie as tie
+
+same-mark-requires : tie.Need-same-mark-requires
+same-mark-requires c κs = search needs
+
+either-requires : tie.Need-either-requires
+either-requires c κs = search needs
+
+both-requires : tie.Need-both-requires
+both-requires c κs = search needs
+
+both-requires-2 : tie.Need-both-requires-2
+both-requires-2 c κs = search needs
+
+both-requires-3 : tie.Need-both-requires-3
+both-requires-3 c κs = search needs
+
+returns : tie.Need-returns
+unfolding alike
+returns c = cc
+
+pub alike-spec : {M : Type 1} → statement M
+alike-spec =
+    tie.close
+    (tie.spec
+    same-mark-requires
+    either-requires
+    both-requires
+    both-requires-2
+    both-requires-3
+    returns)

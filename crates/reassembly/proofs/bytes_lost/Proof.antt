@@ -1,0 +1,37 @@
+-- `reassembly::bytes_lost` meets its contract: the branches are the definition's.
+-- Assumes nothing.
+use Rattle.record.specs.Record.{bytesHeld}
+use Rattle.reassembly.proofs.Laws.{if-yes, if-no}
+use Rattle.reassembly.specs.Advance.{old, lost}
+use Rattle.record.specs.Limits.{assemblyLimit, lifetime}
+use Rattle.record.specs.declared.Assembly.{Assembly}
+use lib.Seq.{take-length}
+use lib.ListN.{length, take, drop, getD, set}
+use Prim.Native.Nat.{ℕ, _+_, _*_, _-_, _^_, _≤_, _<_}
+use mathlib.Core.List.{List, map}
+use mathlib.Core.Bool.{Bool, true, false, not, _&&_, _||_}
+use mathlib.Core.Path.{_≡_, refl, sym, ap, ap₂, _∙_}
+use borrow.Author.Needs.{needs}
+use Rattle.reassembly.proofs.bytes_lost.Statement.{statement}
+use Rattle.reassembly.proofs.bytes_lost.Tie as tie
+
+old-requires : tie.Need-old-requires
+old-requires c κs = search needs
+
+bytes-held-requires : tie.Need-bytes-held-requires
+bytes-held-requires c κs = search needs
+
+returns : tie.Need-returns
+unfolding lost
+returns c =
+    let s = c .before .before .before .args in
+    c .bytes-held .ensures ∙ sym (if-yes (old (s .time) (s .a)) (bytesHeld (s .a)) 0 (sym (c .before .before .old .ensures) ∙ c .before .if1 .taken))
+
+returns-2 : tie.Need-returns-2
+unfolding lost
+returns-2 c =
+    let s = c .before .before .args in
+    sym (if-no (old (s .time) (s .a)) (bytesHeld (s .a)) 0 (sym (c .before .old .ensures) ∙ c .if1 .left))
+
+pub bytes-lost-spec : {M : Type 1} → statement M
+bytes-lost-spec = tie.close (tie.spec old-requires bytes-held-requires returns returns-2)

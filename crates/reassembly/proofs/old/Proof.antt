@@ -1,0 +1,42 @@
+-- `reassembly::old` meets its contract: without the subtraction, which cannot wrap, the comparison is the definition's (`behind`).
+-- Assumes nothing.
+use lib.Dec.{leb}
+use Rattle.record.specs.Record.{live}
+use Rattle.record.proofs.Lists.{and-false}
+use Rattle.reassembly.proofs.Laws.{behind}
+use Rattle.reassembly.specs.Advance.{old}
+use borrow.Author.Tests.{lt-leb}
+use native.Mathlib.Omega.{arith}
+use Rattle.record.specs.Limits.{assemblyLimit, lifetime}
+use Rattle.record.specs.declared.Assembly.{Assembly}
+use lib.Seq.{take-length}
+use lib.ListN.{length, take, drop, getD, set}
+use Prim.Native.Nat.{ℕ, _+_, _*_, _-_, _^_, _≤_, _<_}
+use mathlib.Core.List.{List, map}
+use mathlib.Core.Bool.{Bool, true, false, not, _&&_, _||_}
+use mathlib.Core.Path.{_≡_, refl, sym, ap, ap₂, _∙_}
+use borrow.Author.Needs.{needs}
+use Rattle.reassembly.proofs.old.Statement.{statement}
+use Rattle.reassembly.proofs.old.Tie as tie
+
+returns : tie.Need-returns
+unfolding old lifetime
+returns c =
+    let s = c .before .args in
+    let h : s .time < s .a .opened + lifetime = omega (arith, c .if1 .taken) in
+    sym (ap (λ (b : Bool). live (s .a) && b) (lt-leb (s .a .opened + lifetime) (s .time) h) ∙ and-false (live (s .a)))
+
+live-requires : tie.Need-live-requires
+live-requires c κs = search needs
+
+both-requires : tie.Need-both-requires
+both-requires c κs = search needs
+
+returns-2 : tie.Need-returns-2
+unfolding old lifetime
+returns-2 c =
+    let s = c .before .before .before .args in
+    c .both .ensures ∙ ap₂ _&&_ (c .before .live .ensures) (behind (s .a .opened) (s .time) lifetime (c .before .before .if1 .left))
+
+pub old-spec : {M : Type 1} → statement M
+old-spec = tie.close (tie.spec returns live-requires both-requires returns-2)

@@ -1,0 +1,4 @@
+pub mod Answer
+pub mod Advance
+pub mod Offer
+pub mod Post

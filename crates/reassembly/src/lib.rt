@@ -1,0 +1,580 @@
+// Reassembly for one client (document 01, "The table"): its record by value, and its share of the store. The calls are `offer`,
+// `advance` and `account`; refusals 20 and 21 belong to the table above.
+use offsets::OriginalOffset;
+use record::Assembly;
+use record::Client;
+use record::Flow;
+use record::Fragment;
+ghost use mathlib.Core.Path.{_≡_};
+ghost use mathlib.Core.Bool.{true, not};
+ghost use mathlib.Core.List.{map};
+ghost use Prim.Native.Nat.{_<_};
+ghost use lib.ListN.{length};
+ghost use Rattle.record.specs.Limits.{fragmentLimit, shareSize};
+ghost use Rattle.record.specs.Lists.{sameBytes, any, sum};
+ghost use Rattle.record.specs.Record.{live, heldFragments, soundRecord};
+ghost use Rattle.reassembly.specs.Answer.{firstOf};
+ghost use Rattle.reassembly.specs.Advance.{old, expire, lost, elapse, advanceOn, accountOn};
+ghost use Rattle.reassembly.specs.Offer.{offerTests, fragmentOf, matches, firstIndex, placeFor, opening, assemblyFor, alike, repeats, added};
+ghost use Rattle.reassembly.specs.Offer.{rejecting, repeating, conflicting, storing, delivering, joined, placed, taken, fragmentOn};
+ghost use Rattle.reassembly.specs.Post.{Turned, checkedNumber, Sized, Room, PlaceFor, Ending, Storing, Joining, Placing, Taking, Left};
+
+// Why a call changes nothing, or a fragment is turned away.
+pub enum Refusal {
+    UnsoundRecord,
+    OutTooShort,
+    EmptyFragment,
+    EndPastLimit,
+    OptionStartPastEnd,
+    TimeBeforeLast,
+    OfferedPastLimit,
+    NoFreeAssembly,
+    AssemblyFull,
+}
+
+// A client's account (document 01's bill).
+pub struct Figures {
+    pub offered: u64,
+    pub held: u64,
+    pub delivered: u64,
+    pub expired: u64,
+    pub conflicted: u64,
+    pub repeated: u64,
+    pub rejected: u64,
+}
+
+pub enum Answer {
+    Refused(Refusal),
+    Stored,
+    Repeated,
+    Conflict,
+    Delivered {
+        length: usize,
+        option_start: OriginalOffset,
+    },
+    Advanced,
+    Account(Figures),
+}
+
+// The record after a call, and the answer.
+pub struct Step {
+    pub client: Client,
+    pub answer: Answer,
+}
+
+// A fragment that a client offers (document 01's piece call), without its bytes.
+pub struct Arrival {
+    pub time: u64,
+    pub flow: Flow,
+    pub identification: u32,
+    pub offset: OriginalOffset,
+    pub option_start: OriginalOffset,
+    pub last: bool,
+}
+
+// ---- expiry
+
+// Opened the lifetime ago or more.
+fn old(a: Assembly, time: u64) -> bool
+    ensures { λ r. ⌜ r ≡ old time a ⌝ }
+{
+    let opened = a.opened;
+    if time < opened {
+        return false;
+    }
+    record::both(record::live(a), record::LIFETIME <= time - opened)
+}
+
+fn expired(a: Assembly, time: u64) -> Assembly
+    ensures { λ r. ⌜ r ≡ expire time a ⌝ }
+{
+    if old(a, time) {
+        record::fresh_assembly()
+    } else {
+        a
+    }
+}
+
+fn bytes_lost(a: Assembly, time: u64) -> u32
+    ensures { λ r. ⌜ r ≡ lost time a ⌝ }
+{
+    if old(a, time) {
+        record::bytes_held(a)
+    } else {
+        0
+    }
+}
+
+// Every place with what is old made fresh.
+fn expire_all(c: Client, time: u64) -> [Assembly; record::ASSEMBLY_LIMIT]
+    ensures { λ r. ⌜ r ≡ map (expire time) (c .assemblies) ⌝ }
+{
+    let mut kept = c.assemblies;
+    let mut i = 0;
+    while i < record::ASSEMBLY_LIMIT {
+        let a = c.assemblies[i];
+        kept[i] = expired(a, time);
+        i += 1;
+    }
+    kept
+}
+
+// The bytes of what is old.
+fn total_lost(c: Client, time: u64) -> u64
+    ensures { λ r. ⌜ r ≡ sum (lost time) (c .assemblies) ⌝ }
+{
+    let mut total = 0u64;
+    let mut i = 0;
+    while i < record::ASSEMBLY_LIMIT {
+        let a = c.assemblies[i];
+        let bytes = bytes_lost(a, time);
+        total += bytes as u64;
+        i += 1;
+    }
+    total
+}
+
+// The client's time is `time`, and what is old expires.
+fn elapsed(c: Client, time: u64) -> Client
+    requires { ⌜ soundRecord c ≡ true ⌝ }
+    ensures { λ r. ⌜ r ≡ elapse time c ⌝ }
+{
+    let gone = total_lost(c, time);
+    let kept = expire_all(c, time);
+    Client {
+        time: time,
+        offered: c.offered,
+        held: c.held - gone,
+        delivered: c.delivered,
+        expired: c.expired + gone,
+        conflicted: c.conflicted,
+        repeated: c.repeated,
+        rejected: c.rejected,
+        assemblies: kept,
+    }
+}
+
+// ---- the clock and the account
+
+// Document 01's clock, after 21.
+pub fn advance(client: Client, time: u64) -> Step
+    ensures { λ r. ⌜ Turned (advanceOn client time) r ⌝ }
+{
+    if record::sound(client) {
+        if time < client.time {
+            return Step {
+                client: client,
+                answer: Answer::Refused(Refusal::TimeBeforeLast),
+            };
+        }
+        return Step {
+            client: elapsed(client, time),
+            answer: Answer::Advanced,
+        };
+    }
+    Step {
+        client: client,
+        answer: Answer::Refused(Refusal::UnsoundRecord),
+    }
+}
+
+// Document 01's bill, after 21.
+pub fn account(client: Client) -> Step
+    ensures { λ r. ⌜ Turned (accountOn client) r ⌝ }
+{
+    if record::sound(client) {
+        let figures = Figures {
+            offered: client.offered,
+            held: client.held,
+            delivered: client.delivered,
+            expired: client.expired,
+            conflicted: client.conflicted,
+            repeated: client.repeated,
+            rejected: client.rejected,
+        };
+        return Step {
+            client: client,
+            answer: Answer::Account(figures),
+        };
+    }
+    Step {
+        client: client,
+        answer: Answer::Refused(Refusal::UnsoundRecord),
+    }
+}
+
+// ---- what is asked of an offer
+
+enum Checked {
+    Refused(Refusal),
+    Passed,
+}
+
+// Refusals 22 to 28, with an out buffer of `out_length` bytes and a fragment of `n` bytes.
+fn check(client: Client, out_length: usize, o: Arrival, n: usize) -> Checked
+    ensures { λ r. ⌜ checkedNumber r ≡ firstOf (offerTests client «out_length» o n) ⌝ }
+{
+    if record::sound(client) {
+        let offset = o.offset.0;
+        let options = o.option_start.0;
+        if out_length < record::DATAGRAM_LIMIT {
+            return Checked::Refused(Refusal::OutTooShort);
+        }
+        if n == 0 {
+            return Checked::Refused(Refusal::EmptyFragment);
+        }
+        if record::DATAGRAM_LIMIT < offset {
+            return Checked::Refused(Refusal::EndPastLimit);
+        }
+        if record::DATAGRAM_LIMIT - offset < n {
+            return Checked::Refused(Refusal::EndPastLimit);
+        }
+        if record::both(o.last, offset + n < options) {
+            return Checked::Refused(Refusal::OptionStartPastEnd);
+        }
+        if o.time < client.time {
+            return Checked::Refused(Refusal::TimeBeforeLast);
+        }
+        if record::OFFERED_LIMIT - client.offered < n as u64 {
+            return Checked::Refused(Refusal::OfferedPastLimit);
+        }
+        return Checked::Passed;
+    }
+    Checked::Refused(Refusal::UnsoundRecord)
+}
+
+// ---- where a fragment belongs
+
+// The offer as a fragment of `n` bytes to be held. The option start is 0 unless it is the last one.
+fn fragment_of(o: Arrival, n: usize) -> Fragment
+    requires { ⌜ Sized o n ⌝ }
+    ensures { λ r. ⌜ r ≡ fragmentOf o n ⌝ }
+{
+    let offset = o.offset.0 as u16;
+    let length = n as u16;
+    if o.last {
+        return Fragment {
+            offset: offset,
+            length: length,
+            option_start: o.option_start.0 as u16,
+            last: true,
+        };
+    }
+    Fragment {
+        offset: offset,
+        length: length,
+        option_start: 0,
+        last: false,
+    }
+}
+
+// A live assembly with the offer's key.
+fn matches(a: Assembly, o: Arrival) -> bool
+    ensures { λ r. ⌜ r ≡ matches o a ⌝ }
+{
+    let flow = o.flow;
+    record::both(record::live(a), record::has_key(a, flow, o.identification))
+}
+
+// The place of the assembly with the offer's key; past the places if there is none.
+fn find(c: Client, o: Arrival) -> usize
+    ensures { λ r. ⌜ r ≡ firstIndex (matches o) (c .assemblies) ⌝ }
+{
+    let mut i = 0;
+    while i < record::ASSEMBLY_LIMIT {
+        let a = c.assemblies[i];
+        if matches(a, o) {
+            return i;
+        }
+        i += 1;
+    }
+    i
+}
+
+// The lowest free place; past the places if there is none.
+fn lowest_free(c: Client) -> usize
+    ensures { λ r. ⌜ r ≡ firstIndex (λ a. not (live a)) (c .assemblies) ⌝ }
+{
+    let mut i = 0;
+    while i < record::ASSEMBLY_LIMIT {
+        let a = c.assemblies[i];
+        if !record::live(a) {
+            return i;
+        }
+        i += 1;
+    }
+    i
+}
+
+// The place where the fragment belongs; past the places if there is none.
+fn place_for(c: Client, o: Arrival) -> usize
+    ensures { λ r. ⌜ r ≡ placeFor o (c .assemblies) ⌝ }
+{
+    let i = find(c, o);
+    if i < record::ASSEMBLY_LIMIT {
+        return i;
+    }
+    lowest_free(c)
+}
+
+// An assembly that the offer opens, before its first fragment.
+fn opening(o: Arrival) -> Assembly
+    ensures { λ r. ⌜ r ≡ opening o ⌝ }
+{
+    let none = record::fresh_assembly();
+    let flow = o.flow;
+    let fragments = none.fragments;
+    Assembly {
+        flow: flow,
+        identification: o.identification,
+        opened: o.time,
+        count: 0,
+        fragments: fragments,
+    }
+}
+
+// The assembly at place `p`, or the one that the offer opens there.
+fn assembly_for(c: Client, p: usize, o: Arrival) -> Assembly
+    requires { ⌜ PlaceFor c o p ⌝ }
+    ensures { λ r. ⌜ r ≡ assemblyFor o p (c .assemblies) ⌝ }
+{
+    let a = c.assemblies[p];
+    if record::live(a) {
+        return a;
+    }
+    opening(o)
+}
+
+// ---- what becomes of a fragment
+
+// The same range, mark and option start; that of a fragment which is not last is ignored.
+fn alike(f: Fragment, g: Fragment) -> bool
+    ensures { λ r. ⌜ r ≡ alike f g ⌝ }
+{
+    let marks = record::same_mark(f.last, g.last);
+    let starts = record::either(!f.last, f.option_start == g.option_start);
+    record::both(
+        f.offset == g.offset,
+        record::both(f.length == g.length, record::both(marks, starts)),
+    )
+}
+
+// Some held fragment is alike.
+fn alike_any(a: Assembly, f: Fragment) -> bool
+    ensures { λ r. ⌜ r ≡ any (alike f) (heldFragments a) ⌝ }
+{
+    let n = record::held_count(a);
+    let mut found = false;
+    let mut i = 0;
+    while i < n {
+        let g = a.fragments[i];
+        found = record::either(found, alike(f, g));
+        i += 1;
+    }
+    found
+}
+
+// The same bytes, of two slices of one length.
+fn same_bytes(a: &[u8], b: &[u8]) -> bool
+    requires { ⌜ length (now a) ≡ length (now b) ⌝ }
+    ensures { λ r. ⌜ r ≡ sameBytes (now (a .entry)) (now (b .entry)) ⌝ }
+{
+    let mut ok = true;
+    let mut i = 0;
+    while i < a.len() {
+        ok = record::both(ok, a[i] == b[i]);
+        i += 1;
+    }
+    ok
+}
+
+// The fragment repeats a held one: `kept` is what is stored in its range.
+fn repeats(a: Assembly, f: Fragment, kept: &[u8], bytes: &[u8]) -> bool
+    requires { ⌜ length (now bytes) ≡ length (now kept) ⌝ }
+    ensures { λ r. ⌜ r ≡ repeats a f (now (kept .entry)) (now (bytes .entry)) ⌝ }
+{
+    if alike_any(a, f) {
+        return same_bytes(bytes, kept);
+    }
+    false
+}
+
+// The assembly with the fragment listed after the earlier ones.
+fn added(a: Assembly, f: Fragment) -> Assembly
+    requires { ⌜ a .count < fragmentLimit ⌝ }
+    ensures { λ r. ⌜ r ≡ added a f ⌝ }
+{
+    let mut b = a;
+    let at = a.count as usize;
+    b.fragments[at] = f;
+    b.count = a.count + 1;
+    b
+}
+
+// ---- the record after each fate of a fragment of `n` bytes
+
+fn rejecting(c: Client, n: u64) -> Client
+    requires { ⌜ Room c n ⌝ }
+    ensures { λ r. ⌜ r ≡ rejecting n c ⌝ }
+{
+    let mut d = c;
+    d.offered = c.offered + n;
+    d.rejected = c.rejected + n;
+    d
+}
+
+fn repeating(c: Client, n: u64) -> Client
+    requires { ⌜ Room c n ⌝ }
+    ensures { λ r. ⌜ r ≡ repeating n c ⌝ }
+{
+    let mut d = c;
+    d.offered = c.offered + n;
+    d.repeated = c.repeated + n;
+    d
+}
+
+// The assembly `a` at place `p` ends in a conflict.
+fn conflicting(c: Client, p: usize, a: Assembly, n: u64) -> Client
+    requires { ⌜ Ending c p a n ⌝ }
+    ensures { λ r. ⌜ r ≡ conflicting p a n c ⌝ }
+{
+    let bytes = record::bytes_held(a) as u64;
+    let none = record::fresh_assembly();
+    let mut d = c;
+    d.offered = c.offered + n;
+    d.held = c.held - bytes;
+    d.conflicted = c.conflicted + (bytes + n);
+    d.assemblies[p] = none;
+    d
+}
+
+// The assembly `a` at place `p` ends in a delivery.
+fn delivering(c: Client, p: usize, a: Assembly, n: u64) -> Client
+    requires { ⌜ Ending c p a n ⌝ }
+    ensures { λ r. ⌜ r ≡ delivering p a n c ⌝ }
+{
+    let bytes = record::bytes_held(a) as u64;
+    let none = record::fresh_assembly();
+    let mut d = c;
+    d.offered = c.offered + n;
+    d.held = c.held - bytes;
+    d.delivered = c.delivered + (bytes + n);
+    d.assemblies[p] = none;
+    d
+}
+
+// The assembly at place `p` is `b`, with the fragment.
+fn storing(c: Client, p: usize, b: Assembly, n: u64) -> Client
+    requires { ⌜ Storing c p n ⌝ }
+    ensures { λ r. ⌜ r ≡ storing p b n c ⌝ }
+{
+    let mut d = c;
+    d.offered = c.offered + n;
+    d.held = c.held + n;
+    d.assemblies[p] = b;
+    d
+}
+
+// ---- the fragment call
+
+// A fragment whose bytes are stored joins the assembly `a` at place `p`: the original is handed out if it is whole with it.
+fn join(c: Client, share: &[u8], out: &mut [u8], p: usize, a: Assembly, f: Fragment) -> Step
+    requires { ⌜ Joining c (now share) (now out) p a f ⌝ }
+    ensures { λ r. ⌜ Left (joined c (now (share .entry)) (now (out .entry)) p a f) r (now (share .entry)) (now (out .exit)) ⌝ }
+{
+    let b = added(a, f);
+    let n = f.length as u64;
+    if record::whole(b) {
+        let last = record::last_of(b);
+        let options = last.option_start as usize;
+        let length = record::end_of(last);
+        let start = p * record::DATAGRAM_LIMIT;
+        let stop = start + length;
+        octets::copy(&share[start..stop], out, 0);
+        return Step {
+            client: delivering(c, p, a, n),
+            answer: Answer::Delivered {
+                length: length,
+                option_start: OriginalOffset(options),
+            },
+        };
+    }
+    Step {
+        client: storing(c, p, b, n),
+        answer: Answer::Stored,
+    }
+}
+
+// A fragment of these bytes for the assembly `a` at place `p`: repeated, in conflict, one too many, or taken in.
+fn place(
+    c: Client,
+    share: &mut [u8],
+    out: &mut [u8],
+    p: usize,
+    a: Assembly,
+    f: Fragment,
+    bytes: &[u8],
+) -> Step
+    requires { ⌜ Placing c (now share) (now out) p a f (now bytes) ⌝ }
+    ensures { λ r. ⌜ Left (placed c (now (share .entry)) (now (out .entry)) p a f (now (bytes .entry))) r (now (share .exit)) (now (out .exit)) ⌝ }
+{
+    let n = f.length as u64;
+    let start = p * record::DATAGRAM_LIMIT + (f.offset as usize);
+    let stop = start + (f.length as usize);
+    if repeats(a, f, &share[start..stop], bytes) {
+        return Step {
+            client: repeating(c, n),
+            answer: Answer::Repeated,
+        };
+    }
+    if record::conflicts_any(a, f) {
+        return Step {
+            client: conflicting(c, p, a, n),
+            answer: Answer::Conflict,
+        };
+    }
+    let count = a.count as usize;
+    if count == record::FRAGMENT_LIMIT {
+        return Step {
+            client: rejecting(c, n),
+            answer: Answer::Refused(Refusal::AssemblyFull),
+        };
+    }
+    octets::copy(bytes, share, start);
+    join(c, share, out, p, a, f)
+}
+
+// A fragment that 22 to 28 let pass, for a record that has the call's time.
+fn take(c: Client, share: &mut [u8], out: &mut [u8], o: Arrival, bytes: &[u8]) -> Step
+    requires { ⌜ Taking c (now share) (now out) o (now bytes) ⌝ }
+    ensures { λ r. ⌜ Left (taken c (now (share .entry)) (now (out .entry)) o (now (bytes .entry))) r (now (share .exit)) (now (out .exit)) ⌝ }
+{
+    let f = fragment_of(o, bytes.len());
+    let p = place_for(c, o);
+    if p == record::ASSEMBLY_LIMIT {
+        return Step {
+            client: rejecting(c, bytes.len() as u64),
+            answer: Answer::Refused(Refusal::NoFreeAssembly),
+        };
+    }
+    let a = assembly_for(c, p, o);
+    place(c, share, out, p, a, f, bytes)
+}
+
+// Document 01's piece call, after 21, on the client's record and its share of the store.
+pub fn offer(client: Client, share: &mut [u8], out: &mut [u8], o: Arrival, bytes: &[u8]) -> Step
+    requires { ⌜ length (now share) ≡ shareSize ⌝ }
+    ensures { λ r. ⌜ Left (fragmentOn client (now (share .entry)) (now (out .entry)) o (now (bytes .entry))) r (now (share .exit)) (now (out .exit)) ⌝ }
+{
+    let checked = check(client, out.len(), o, bytes.len());
+    match checked {
+        Checked::Refused(r) => Step {
+            client: client,
+            answer: Answer::Refused(r),
+        },
+        Checked::Passed => {
+            let c = elapsed(client, o.time);
+            take(c, share, out, o, bytes)
+        }
+    }
+}

@@ -1,0 +1,35 @@
+-- Laws of the fragments that an assembly holds: the front of its slots.
+-- Assumes nothing.
+use mathlib.Core.Path.{_≡_, sym, ap, _∙_}
+use mathlib.Core.Bool.{false}
+use mathlib.Core.List.{List}
+use Prim.Native.Nat.{ℕ, _+_, _<_}
+use lib.ListN.{length, getD, drop}
+use Rattle.record.specs.declared.Fragment.{Fragment}
+use Rattle.record.specs.declared.Assembly.{Assembly}
+use Rattle.record.specs.Lists.{if}
+use Rattle.record.specs.Record.{heldFragments, spareSlots, lastOf}
+use Rattle.record.proofs.Lists.{getD-front, drop-front, drop-next}
+
+-- what a read past the slots would give
+abbrev pub none : Fragment
+none = record { offset = 0; length = 0; «option_start» = 0; last = false }
+
+-- a slot below the count is a held fragment
+pub held-at : (a : Assembly) (i : ℕ) (d : Fragment) → i < length (heldFragments a) → getD (a .fragments) i d ≡ getD (heldFragments a) i d
+unfolding heldFragments
+held-at a i d h = sym (getD-front (a .count) (a .fragments) i d h)
+
+-- the slots behind the held fragments
+pub spare-from : (a : Assembly) → drop (length (heldFragments a)) (a .fragments) ≡ spareSlots a
+unfolding heldFragments spareSlots
+spare-from a = drop-front (a .count) (a .fragments)
+
+pub spare-all : (a : Assembly) → a .count ≡ 0 → spareSlots a ≡ a .fragments
+unfolding spareSlots
+spare-all a e = ap (λ (k : ℕ). drop k (a .fragments)) e
+
+-- the one marked last, looked for from i on
+pub last-left : (l : List Fragment) (i : ℕ) (d : Fragment) → i < length l → lastOf (drop i l) ≡ if (getD l i d .last) (getD l i d) (lastOf (drop (i + 1) l))
+unfolding lastOf
+last-left l i d h = ap lastOf (drop-next l i d h)

@@ -1,0 +1,593 @@
+// The record of one client: its figures and its assemblies, each with the fragments that it holds; a fresh record, and the record
+// test of document 01 (refusal 22).
+ghost use mathlib.Core.Path.{_≡_};
+ghost use mathlib.Core.Bool.{_&&_, _||_};
+ghost use Prim.Native.Nat.{_+_, _≤_};
+ghost use lib.ListN.{length, take};
+ghost use Rattle.record.specs.Limits.{assemblyLimit};
+ghost use Rattle.record.specs.Lists.{sameMark, sameBytes, all, any, sum};
+ghost use Rattle.record.specs.Post.{HeldCount, HeldFront};
+ghost use Rattle.record.specs.Record.{freshFragment, freshFlow, freshAssembly, freshClient, end, covers, conflicts};
+ghost use Rattle.record.specs.Record.{soundFragment, isFreshFragment, outruns, overlaps, compatible, coveredTo, lastOf, whole};
+ghost use Rattle.record.specs.Record.{live, heldFragments, spareSlots, bytesHeld, sameFlow, hasKey, isFreshAssembly, openedWithin, soundLive};
+ghost use Rattle.record.specs.Record.{soundAssembly, sameLiveKey, keysDiffer, sumsTo, balanced, soundRecord};
+
+// The bytes of an original that an assembly holds at most.
+pub const DATAGRAM_LIMIT: usize = 4096;
+
+// The fragments of an assembly.
+pub const FRAGMENT_LIMIT: usize = 16;
+
+// The assemblies of a client.
+pub const ASSEMBLY_LIMIT: usize = 4;
+
+// The bytes of an IPv4 address.
+pub const ADDRESS: usize = 4;
+
+// How long an assembly lives, in milliseconds.
+pub const LIFETIME: u64 = 120000;
+
+// The bytes that a client may offer in all.
+pub const OFFERED_LIMIT: u64 = 1000000000000000;
+
+// Whose datagrams: RFC 9868 section 11.4 keys fragments by addresses, ports and identification.
+#[repr(C)]
+pub struct Flow {
+    pub source: [u8; ADDRESS],
+    pub destination: [u8; ADDRESS],
+    pub source_port: u16,
+    pub destination_port: u16,
+}
+
+// A held fragment (document 01's piece): where it stands in the original, and the option start if it is the last one.
+#[repr(C)]
+pub struct Fragment {
+    pub offset: u16,
+    pub length: u16,
+    pub option_start: u16,
+    pub last: bool,
+}
+
+// The fragments of one key. It is live while it holds any: with `count` 0 every other field is as in a fresh record.
+#[repr(C)]
+pub struct Assembly {
+    pub flow: Flow,
+    pub identification: u32,
+    pub opened: u64,
+    pub count: u8,
+    pub fragments: [Fragment; FRAGMENT_LIMIT],
+}
+
+// All that is kept of one client beside its share of the store.
+#[repr(C)]
+pub struct Client {
+    pub time: u64,
+    pub offered: u64,
+    pub held: u64,
+    pub delivered: u64,
+    pub expired: u64,
+    pub conflicted: u64,
+    pub repeated: u64,
+    pub rejected: u64,
+    pub assemblies: [Assembly; ASSEMBLY_LIMIT],
+}
+
+pub fn fresh_fragment() -> Fragment
+    ensures { λ r. ⌜ r ≡ freshFragment ⌝ }
+{
+    Fragment {
+        offset: 0,
+        length: 0,
+        option_start: 0,
+        last: false,
+    }
+}
+
+fn fresh_flow() -> Flow
+    ensures { λ r. ⌜ r ≡ freshFlow ⌝ }
+{
+    let zero = [0; ADDRESS];
+    Flow {
+        source: zero,
+        destination: zero,
+        source_port: 0,
+        destination_port: 0,
+    }
+}
+
+pub fn fresh_assembly() -> Assembly
+    ensures { λ r. ⌜ r ≡ freshAssembly ⌝ }
+{
+    let flow = fresh_flow();
+    let none = fresh_fragment();
+    let fragments = [none; FRAGMENT_LIMIT];
+    Assembly {
+        flow: flow,
+        identification: 0,
+        opened: 0,
+        count: 0,
+        fragments: fragments,
+    }
+}
+
+// A client before its first call.
+pub fn fresh() -> Client
+    ensures { λ r. ⌜ r ≡ freshClient ⌝ }
+{
+    let unused = fresh_assembly();
+    let assemblies = [unused; ASSEMBLY_LIMIT];
+    Client {
+        time: 0,
+        offered: 0,
+        held: 0,
+        delivered: 0,
+        expired: 0,
+        conflicted: 0,
+        repeated: 0,
+        rejected: 0,
+        assemblies: assemblies,
+    }
+}
+
+// ---- tests
+
+pub fn both(a: bool, b: bool) -> bool
+    ensures { λ r. ⌜ r ≡ a && b ⌝ }
+{
+    if a { b } else { false }
+}
+
+pub fn either(a: bool, b: bool) -> bool
+    ensures { λ r. ⌜ r ≡ a || b ⌝ }
+{
+    if a { true } else { b }
+}
+
+pub fn same_mark(a: bool, b: bool) -> bool
+    ensures { λ r. ⌜ r ≡ sameMark a b ⌝ }
+{
+    if a { b } else { !b }
+}
+
+// ---- one fragment, and two
+
+// The first place behind it.
+pub fn end_of(f: Fragment) -> usize
+    ensures { λ r. ⌜ r ≡ end f ⌝ }
+{
+    (f.offset as usize) + (f.length as usize)
+}
+
+// The fragment holds the place `i`.
+pub fn covers(f: Fragment, i: usize) -> bool
+    ensures { λ r. ⌜ r ≡ covers i f ⌝ }
+{
+    let start = f.offset as usize;
+    let past = end_of(f);
+    both(start <= i, i < past)
+}
+
+fn fresh_slot(f: Fragment) -> bool
+    ensures { λ r. ⌜ r ≡ isFreshFragment f ⌝ }
+{
+    both(
+        f.offset == 0,
+        both(f.length == 0, both(f.option_start == 0, !f.last)),
+    )
+}
+
+// What the record test asks of a held fragment by itself. The option start of one that is not last is ignored.
+fn fragment_sound(f: Fragment) -> bool
+    ensures { λ r. ⌜ r ≡ soundFragment f ⌝ }
+{
+    let past = end_of(f);
+    let options = f.option_start as usize;
+    let inside = either(!f.last, options <= past);
+    both(f.length != 0, both(past <= DATAGRAM_LIMIT, inside))
+}
+
+// `f` ends past the end that `g`, the last one, makes known.
+fn outruns(f: Fragment, g: Fragment) -> bool
+    ensures { λ r. ⌜ r ≡ outruns f g ⌝ }
+{
+    both(g.last, end_of(g) < end_of(f))
+}
+
+fn overlaps(f: Fragment, g: Fragment) -> bool
+    ensures { λ r. ⌜ r ≡ overlaps f g ⌝ }
+{
+    let start = f.offset as usize;
+    let other = g.offset as usize;
+    both(start < end_of(g), other < end_of(f))
+}
+
+// The two contradict each other (document 01's clash).
+pub fn conflicts(f: Fragment, g: Fragment) -> bool
+    ensures { λ r. ⌜ r ≡ conflicts f g ⌝ }
+{
+    let lasts = both(f.last, g.last);
+    either(
+        overlaps(f, g),
+        either(lasts, either(outruns(f, g), outruns(g, f))),
+    )
+}
+
+// ---- the fragments of one assembly
+
+// How many fragments it holds; a forged count may pass the slots.
+pub fn held_count(a: Assembly) -> usize
+    ensures { λ r. ⌜ HeldCount a r ⌝ }
+{
+    let n = a.count as usize;
+    if n < FRAGMENT_LIMIT {
+        n
+    } else {
+        FRAGMENT_LIMIT
+    }
+}
+
+fn fragments_sound(a: Assembly) -> bool
+    ensures { λ r. ⌜ r ≡ all soundFragment (heldFragments a) ⌝ }
+{
+    let n = held_count(a);
+    let mut ok = true;
+    let mut i = 0;
+    while i < n {
+        let f = a.fragments[i];
+        ok = both(ok, fragment_sound(f));
+        i += 1;
+    }
+    ok
+}
+
+// One of the first `n` fragments conflicts with `f`.
+fn conflicts_among(a: Assembly, n: usize, f: Fragment) -> bool
+    requires { ⌜ HeldFront a n ⌝ }
+    ensures { λ r. ⌜ r ≡ any (λ g. conflicts g f) (take n (heldFragments a)) ⌝ }
+{
+    let mut found = false;
+    let mut i = 0;
+    while i < n {
+        let g = a.fragments[i];
+        found = either(found, conflicts(g, f));
+        i += 1;
+    }
+    found
+}
+
+// One of the held fragments conflicts with `f`.
+pub fn conflicts_any(a: Assembly, f: Fragment) -> bool
+    ensures { λ r. ⌜ r ≡ any (λ g. conflicts g f) (heldFragments a) ⌝ }
+{
+    conflicts_among(a, held_count(a), f)
+}
+
+// No fragment conflicts with an earlier one.
+fn fragments_compatible(a: Assembly) -> bool
+    ensures { λ r. ⌜ r ≡ compatible (heldFragments a) ⌝ }
+{
+    let n = held_count(a);
+    let mut ok = true;
+    let mut i = 0;
+    while i < n {
+        let f = a.fragments[i];
+        ok = both(ok, !conflicts_among(a, i, f));
+        i += 1;
+    }
+    ok
+}
+
+// Some fragment holds the place `at`.
+fn covered_at(a: Assembly, at: usize) -> bool
+    ensures { λ r. ⌜ r ≡ any (covers at) (heldFragments a) ⌝ }
+{
+    let n = held_count(a);
+    let mut found = false;
+    let mut i = 0;
+    while i < n {
+        let f = a.fragments[i];
+        found = either(found, covers(f, at));
+        i += 1;
+    }
+    found
+}
+
+// Every place before `past` is held.
+fn covered_to(a: Assembly, past: usize) -> bool
+    ensures { λ r. ⌜ r ≡ coveredTo past (heldFragments a) ⌝ }
+{
+    let mut ok = true;
+    let mut i = 0;
+    while i < past {
+        ok = both(ok, covered_at(a, i));
+        i += 1;
+    }
+    ok
+}
+
+// The fragment that is marked last; a fresh one if there is none.
+pub fn last_of(a: Assembly) -> Fragment
+    ensures { λ r. ⌜ r ≡ lastOf (heldFragments a) ⌝ }
+{
+    let n = held_count(a);
+    let mut i = 0;
+    while i < n {
+        let f = a.fragments[i];
+        if f.last {
+            return f;
+        }
+        i += 1;
+    }
+    fresh_fragment()
+}
+
+// The last fragment is held, and all before its end: the completion test.
+pub fn whole(a: Assembly) -> bool
+    ensures { λ r. ⌜ r ≡ whole (heldFragments a) ⌝ }
+{
+    let last = last_of(a);
+    if last.last {
+        return covered_to(a, end_of(last));
+    }
+    false
+}
+
+// The slots behind the held fragments are as in a fresh record.
+fn spare_fresh(a: Assembly) -> bool
+    ensures { λ r. ⌜ r ≡ all isFreshFragment (spareSlots a) ⌝ }
+{
+    let mut ok = true;
+    let mut i = held_count(a);
+    while i < FRAGMENT_LIMIT {
+        let f = a.fragments[i];
+        ok = both(ok, fresh_slot(f));
+        i += 1;
+    }
+    ok
+}
+
+fn length_of(f: Fragment) -> u16
+    ensures { λ r. ⌜ r ≡ f .length ⌝ }
+{
+    f.length
+}
+
+// The bytes of the held fragments.
+pub fn bytes_held(a: Assembly) -> u32
+    ensures { λ r. ⌜ r ≡ bytesHeld a ⌝ }
+{
+    let n = held_count(a);
+    let mut total = 0u32;
+    let mut i = 0;
+    while i < n {
+        let f = a.fragments[i];
+        let bytes = length_of(f);
+        total += bytes as u32;
+        i += 1;
+    }
+    total
+}
+
+// ---- keys
+
+fn same_address(a: [u8; ADDRESS], b: [u8; ADDRESS]) -> bool
+    ensures { λ r. ⌜ r ≡ sameBytes a b ⌝ }
+{
+    let mut ok = true;
+    let mut i = 0;
+    while i < ADDRESS {
+        ok = both(ok, a[i] == b[i]);
+        i += 1;
+    }
+    ok
+}
+
+fn same_flow(x: Flow, y: Flow) -> bool
+    ensures { λ r. ⌜ r ≡ sameFlow x y ⌝ }
+{
+    let source = x.source;
+    let other_source = y.source;
+    let destination = x.destination;
+    let other_destination = y.destination;
+    let sources = same_address(source, other_source);
+    let destinations = same_address(destination, other_destination);
+    let ports = both(
+        x.source_port == y.source_port,
+        x.destination_port == y.destination_port,
+    );
+    both(sources, both(destinations, ports))
+}
+
+// The assembly has this key.
+pub fn has_key(a: Assembly, flow: Flow, identification: u32) -> bool
+    ensures { λ r. ⌜ r ≡ hasKey flow identification a ⌝ }
+{
+    let flows = same_flow(flow, a.flow);
+    both(flows, identification == a.identification)
+}
+
+// ---- one assembly
+
+// It holds fragments.
+pub fn live(a: Assembly) -> bool
+    ensures { λ r. ⌜ r ≡ live a ⌝ }
+{
+    a.count != 0
+}
+
+// It is as in a fresh record.
+fn unused(a: Assembly) -> bool
+    ensures { λ r. ⌜ r ≡ isFreshAssembly a ⌝ }
+{
+    if live(a) {
+        return false;
+    }
+    let flows = same_flow(a.flow, fresh_flow());
+    both(
+        flows,
+        both(a.identification == 0, both(a.opened == 0, spare_fresh(a))),
+    )
+}
+
+// Opened at or before `time`, and less than the lifetime before it.
+fn opened_within(a: Assembly, time: u64) -> bool
+    ensures { λ r. ⌜ r ≡ openedWithin time a ⌝ }
+{
+    let opened = a.opened;
+    if time < opened {
+        return false;
+    }
+    time - opened < LIFETIME
+}
+
+// What the record test asks of a live assembly.
+fn live_sound(a: Assembly, time: u64) -> bool
+    ensures { λ r. ⌜ r ≡ soundLive time a ⌝ }
+{
+    let count = a.count as usize;
+    if FRAGMENT_LIMIT < count {
+        return false;
+    }
+    let fragments = both(fragments_sound(a), fragments_compatible(a));
+    if fragments {
+        return both(!whole(a), both(opened_within(a, time), spare_fresh(a)));
+    }
+    false
+}
+
+fn assembly_sound(a: Assembly, time: u64) -> bool
+    ensures { λ r. ⌜ r ≡ soundAssembly time a ⌝ }
+{
+    if live(a) {
+        live_sound(a, time)
+    } else {
+        unused(a)
+    }
+}
+
+// ---- the record
+
+fn assemblies_sound(c: Client) -> bool
+    ensures { λ r. ⌜ r ≡ all (soundAssembly (c .time)) (c .assemblies) ⌝ }
+{
+    let time = c.time;
+    let mut ok = true;
+    let mut i = 0;
+    while i < ASSEMBLY_LIMIT {
+        let a = c.assemblies[i];
+        ok = both(ok, assembly_sound(a, time));
+        i += 1;
+    }
+    ok
+}
+
+// Both are live and have one key.
+fn same_live_key(a: Assembly, b: Assembly) -> bool
+    ensures { λ r. ⌜ r ≡ sameLiveKey a b ⌝ }
+{
+    let flow = a.flow;
+    let keys = has_key(b, flow, a.identification);
+    both(live(a), both(live(b), keys))
+}
+
+// One of the first `n` assemblies has the key of `a`.
+fn key_among(c: Client, n: usize, a: Assembly) -> bool
+    requires { ⌜ n ≤ assemblyLimit ⌝ }
+    ensures { λ r. ⌜ r ≡ any (λ b. sameLiveKey b a) (take n (c .assemblies)) ⌝ }
+{
+    let mut found = false;
+    let mut i = 0;
+    while i < n {
+        let b = c.assemblies[i];
+        found = either(found, same_live_key(b, a));
+        i += 1;
+    }
+    found
+}
+
+fn keys_differ(c: Client) -> bool
+    ensures { λ r. ⌜ r ≡ keysDiffer (c .assemblies) ⌝ }
+{
+    let mut ok = true;
+    let mut i = 0;
+    while i < ASSEMBLY_LIMIT {
+        let a = c.assemblies[i];
+        ok = both(ok, !key_among(c, i, a));
+        i += 1;
+    }
+    ok
+}
+
+// The bytes of the live fragments.
+fn total_held(c: Client) -> u64
+    ensures { λ r. ⌜ r ≡ sum bytesHeld (c .assemblies) ⌝ }
+{
+    let mut total = 0u64;
+    let mut i = 0;
+    while i < ASSEMBLY_LIMIT {
+        let a = c.assemblies[i];
+        let bytes = bytes_held(a);
+        total += bytes as u64;
+        i += 1;
+    }
+    total
+}
+
+// The six figures sum to `offered`, at most the limit: with a figure over the limit they cannot.
+fn figures_sum(
+    offered: u64,
+    held: u64,
+    delivered: u64,
+    expired: u64,
+    conflicted: u64,
+    repeated: u64,
+    rejected: u64,
+) -> bool
+    ensures { λ r. ⌜ r ≡ sumsTo offered (held + delivered + expired + conflicted + repeated + rejected) ⌝ }
+{
+    if OFFERED_LIMIT < offered {
+        return false;
+    }
+    if OFFERED_LIMIT < held {
+        return false;
+    }
+    if OFFERED_LIMIT < delivered {
+        return false;
+    }
+    if OFFERED_LIMIT < expired {
+        return false;
+    }
+    if OFFERED_LIMIT < conflicted {
+        return false;
+    }
+    if OFFERED_LIMIT < repeated {
+        return false;
+    }
+    if OFFERED_LIMIT < rejected {
+        return false;
+    }
+    held + delivered + expired + conflicted + repeated + rejected == offered
+}
+
+fn balanced(c: Client) -> bool
+    ensures { λ r. ⌜ r ≡ balanced c ⌝ }
+{
+    figures_sum(
+        c.offered,
+        c.held,
+        c.delivered,
+        c.expired,
+        c.conflicted,
+        c.repeated,
+        c.rejected,
+    )
+}
+
+// The record test of document 01 (refusal 22).
+pub fn sound(c: Client) -> bool
+    ensures { λ r. ⌜ r ≡ soundRecord c ⌝ }
+{
+    let held = total_held(c);
+    let figures = both(c.held == held, balanced(c));
+    both(assemblies_sound(c), both(keys_differ(c), figures))
+}
