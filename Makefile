@@ -1,5 +1,9 @@
-# make test: layout, the toolchain's identity, then the whole proof with must-fail edits and programs.
-.PHONY: test check fmt
+# make run: shows the program on sample datagrams, or on a file: make run IN=path
+# make test: layout, the toolchain's identity, then the whole proof with must-fail edits and programs, and the samples.
+.PHONY: run test check fmt
+
+run:
+	@IN="$(IN)" sh tools/run.sh
 
 test:
 	@sh tools/test.sh

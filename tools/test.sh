@@ -37,9 +37,12 @@ test -z "$stray"
 report stray-files $?
 
 # The proof of every crate from nothing, every must-fail edit, and every program against its stored output.
-rt ci 2>&1 | tee "$log" | grep -v '^[0-9]* passed, [0-9]* failed$'
+{ rt ci 2>&1; echo $? >"$log.status"; } | tee "$log" | grep -v '^[0-9]* passed, [0-9]* failed$'
+status=$(cat "$log.status")
 counts=$(tail -n 1 "$log" | sed -n 's/^\([0-9]*\) passed, \([0-9]*\) failed$/\1 \2/p')
-rm -f "$log"
+rm -f "$log" "$log.status"
+test "$status" -eq 0
+report rt-ci $?
 if [ -n "$counts" ]; then
     passed=$((passed + ${counts% *}))
     failed=$((failed + ${counts#* }))
@@ -47,6 +50,13 @@ else
     echo "rt ci did not end in a count"
     failed=$((failed + 1))
 fi
+
+# The program on each sample, against the output that stands beside it.
+for sample in samples/*.bin; do
+    [ -f "$sample" ] || continue
+    target/bin/inspect <"$sample" | cmp -s - "${sample%.bin}.txt"
+    report "$sample" $?
+done
 
 echo "$passed passed, $failed failed"
 [ "$failed" -eq 0 ] && [ "$passed" -gt 0 ]

@@ -93,14 +93,16 @@ pub wordSum-two : (l : List ℕ) (i : ℕ) → i + 1 < length l
     × (wordSum true (drop i l) ≡ getD l i 0 + getD l (i + 1) 0 * 256 + wordSum true (drop (i + 2) l))
 unfolding wordSum
 wordSum-two l i h =
-    let front : drop i l ≡ getD l i 0 ∷ getD l (i + 1) 0 ∷ drop (i + 2) l = simp towards-suc (drop-cons l i 0 (omega arith) ∙ ap (λ (t : List ℕ). getD l i 0 ∷ t) (drop-cons l (suc i) 0 (omega arith))) in
+    let front : drop i l ≡ getD l i 0 ∷ getD l (i + 1) 0 ∷ drop (i + 2) l = simp towards-suc
+    (drop-cons l i 0 (omega arith) ∙ ap (λ (t : List ℕ). getD l i 0 ∷ t) (drop-cons l (suc i) 0 (omega arith))) in
     (ap (wordSum false) front ∙ omega arith, ap (wordSum true) front ∙ omega arith)
 
 pub wordSum-one : (l : List ℕ) (i : ℕ) → i + 1 ≡ length l
     → (wordSum false (drop i l) ≡ getD l i 0 * 256) × (wordSum true (drop i l) ≡ getD l i 0)
 unfolding wordSum
 wordSum-one l i h =
-    let front : drop i l ≡ getD l i 0 ∷ [] = drop-cons l i 0 (omega arith) ∙ ap (λ (t : List ℕ). getD l i 0 ∷ t) (drop-of-length-le l {i = suc i} (omega arith)) in
+    let front : drop i l ≡ getD l i 0 ∷ [] = drop-cons l i 0 (omega arith)
+    ∙ ap (λ (t : List ℕ). getD l i 0 ∷ t) (drop-of-length-le l {i = suc i} (omega arith)) in
     (ap (wordSum false) front ∙ omega arith, ap (wordSum true) front ∙ omega arith)
 
 pub wordSum-none : (odd : Bool) (l : List ℕ) (i : ℕ) → length l ≤ i → wordSum odd (drop i l) ≡ 0

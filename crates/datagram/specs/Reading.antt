@@ -16,7 +16,14 @@ use Rattle.options.specs.declared.walk.Fault.{Fault}
 use Rattle.options.specs.declared.walk.Fault.the-variants.{Malformed as malformedList, Unsafe as unsafeList, FragData as fragData, Crowded as crowdedList}
 use Rattle.datagram.specs.Surplus.{startOf}
 use Rattle.datagram.specs.declared.surplus.Start.{Start}
-use Rattle.datagram.specs.declared.surplus.Start.the-variants.{Empty, Short as shortArea, Pad as badPad, Unsummed as noSum, BadSum as badSum, List as ListAt}
+use Rattle.datagram.specs.declared.surplus.Start.the-variants.{
+  Empty,
+  Short as shortArea,
+  Pad as badPad,
+  Unsummed as noSum,
+  BadSum as badSum,
+  List as ListAt,
+}
 use Rattle.datagram.specs.declared.reading.Extent.{Extent}
 use Rattle.datagram.specs.declared.reading.Apc.{Apc}
 use Rattle.datagram.specs.declared.reading.Apc.the-variants.{Absent, Right, Wrong}

@@ -12,7 +12,14 @@ use Rattle.options.specs.declared.walk.Fault.the-variants.{Malformed as malform
 use Rattle.datagram.specs.Surplus.{startOf}
 use Rattle.datagram.specs.Reading.{apcValues, apcOf, verdictOf, isOdd, firstOf}
 use Rattle.datagram.specs.declared.surplus.Start.{Start}
-use Rattle.datagram.specs.declared.surplus.Start.the-variants.{Empty, Short as shortArea, Pad as badPad, Unsummed as noSum, BadSum as badSum, List as ListAt}
+use Rattle.datagram.specs.declared.surplus.Start.the-variants.{
+  Empty,
+  Short as shortArea,
+  Pad as badPad,
+  Unsummed as noSum,
+  BadSum as badSum,
+  List as ListAt,
+}
 use Rattle.datagram.specs.declared.reading.Apc.the-variants.{Absent}
 use Rattle.datagram.specs.declared.reading.Verdict.{Verdict}
 use Rattle.datagram.specs.declared.reading.Verdict.the-variants.{Bare, Short, Pad, Unsummed, BadSum, Malformed, FragData, Crowded, Read}

@@ -107,7 +107,8 @@ number-octets w n h = number-octets-mod w n ∙ mod-eq-of-lt h
 pub octets-mod : (w n m : ℕ) → n % 256 ^ w ≡ m % 256 ^ w → octets w n ≡ octets w m
 unfolding octets
 octets-mod zero n m e = refl
-octets-mod (suc w) n m e = ap₂ _∷_ (sym (top n) ∙ ap (λ (x : ℕ). x / 256 ^ w) e ∙ top m) (octets-mod w n m (sym (rest n) ∙ ap (λ (x : ℕ). x % 256 ^ w) e ∙ rest m))
+octets-mod (suc w) n m e = ap₂ _∷_ (sym (top n) ∙ ap (λ (x : ℕ). x / 256 ^ w) e ∙ top m)
+    (octets-mod w n m (sym (rest n) ∙ ap (λ (x : ℕ). x % 256 ^ w) e ∙ rest m))
   where
     cut : (x : ℕ) → x % 256 ^ suc w ≡ x / 256 ^ w % 256 * 256 ^ w + x % 256 ^ w
     cut x = ap (λ (k : ℕ). x % k) (radix-suc w) ∙ mod-mul x {m = 256} (lit< tt) (radix-pos w)

@@ -9,7 +9,20 @@ use lib.Seq.{length-take-le, drop-at}
 use Rattle.varint.specs.SevenBit.{Taken, taken, untaken, front, number, encoded}
 use Rattle.varint.specs.Answer.{decodedAs, decodedAt, endOf, placed}
 use Rattle.varint.specs.declared.Decoded.the-variants.{Number}
-use Rattle.varint.proofs.Groups.{narrowed-only, number-reads, reads-number, reads-width, reads-alone, encodes, encodes-same, encodes-read, reads-encodes, groups-some, groups-short, groups-bytes}
+use Rattle.varint.proofs.Groups.{
+  narrowed-only,
+  number-reads,
+  reads-number,
+  reads-width,
+  reads-alone,
+  encodes,
+  encodes-same,
+  encodes-read,
+  reads-encodes,
+  groups-some,
+  groups-short,
+  groups-bytes,
+}
 
 -- ---- of `number` and `encoded`
 

@@ -31,7 +31,8 @@ add-result c = search needs
 returns : tie.Need-returns
 returns c =
     let a = c .before .before .before .args in
-    ap₂ (λ (x y : ℕ). x * 65536 + y) (c .before .get-u16 .ensures) (c .get-u162 .ensures) ∙ sym (number-four (a .at) (a .bytes .now) (c .before .before .before .pre))
+    ap₂ (λ (x y : ℕ). x * 65536 + y) (c .before .get-u16 .ensures) (c .get-u162 .ensures)
+    ∙ sym (number-four (a .at) (a .bytes .now) (c .before .before .before .pre))
 
 pub get-u32-spec : {M : Type 1} → statement M
 get-u32-spec =

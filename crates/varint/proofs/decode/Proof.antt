@@ -5,7 +5,18 @@ use native.Mathlib.Omega.{arith}
 use borrow.Author.Needs.{needs}
 use lib.ListN.{length}
 use Rattle.varint.proofs.Room.{weight-small}
-use Rattle.varint.proofs.Partly.{Partly, none-there, one-there, partly-first, partly-more, partly-cut, partly-idle, partly-wide, partly-last, partly-fits}
+use Rattle.varint.proofs.Partly.{
+  Partly,
+  none-there,
+  one-there,
+  partly-first,
+  partly-more,
+  partly-cut,
+  partly-idle,
+  partly-wide,
+  partly-last,
+  partly-fits,
+}
 use Rattle.varint.proofs.decode.Statement.{statement}
 use Rattle.varint.proofs.decode.Tie as tie
 

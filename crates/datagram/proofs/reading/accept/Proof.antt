@@ -25,7 +25,8 @@ begun c =
     (take-all (length l - start .args .size) (drop (start .args .size) l) (simp length-drop (omega arith))))
 
 -- where the list starts is within the payload
-within : (c : tie.After-known-told) → let a = c .before .before .before .before .before .before .args in a .size + c .before .start .given .0 .0 ≤ length (a .payload .now)
+within : (c : tie.After-known-told)
+    → let a = c .before .before .before .before .before .before .args in a .size + c .before .start .given .0 .0 ≤ length (a .payload .now)
 within c =
     let start = c .before .before .before .before .before .before in
     let h = start-list (isOdd (start .args .size)) (start .args .unused) (drop (start .args .size) (start .args .payload .now)) _

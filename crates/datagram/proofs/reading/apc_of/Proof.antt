@@ -20,7 +20,8 @@ crc32c-requires c κs = search needs
 returns : tie.Need-returns
 returns c =
     let a = c .before .before .before .before .before .before .args in
-    sym (ap (apcBy (a .user .now)) (c .before .before .before .apcs .given .1) ∙ simp (eq-eqb _ (crcOf (a .user .now)) (c .if1 .taken ∙ c .before .crc32c .ensures)))
+    sym (ap (apcBy (a .user .now)) (c .before .before .before .apcs .given .1)
+    ∙ simp (eq-eqb _ (crcOf (a .user .now)) (c .if1 .taken ∙ c .before .crc32c .ensures)))
 
 enum-told-2 : tie.Need-enum-told-2
 enum-told-2 c = search needs
@@ -31,7 +32,8 @@ returns-2 c = search needs
 returns-3 : tie.Need-returns-3
 returns-3 c =
     let a = c .before .before .before .before .before .before .args in
-    sym (ap (apcBy (a .user .now)) (c .before .before .before .apcs .given .1) ∙ simp (ne-eqb _ (crcOf (a .user .now)) (λ e. c .if1 .left (e ∙ sym (c .before .crc32c .ensures)))))
+    sym (ap (apcBy (a .user .now)) (c .before .before .before .apcs .given .1)
+    ∙ simp (ne-eqb _ (crcOf (a .user .now)) (λ e. c .if1 .left (e ∙ sym (c .before .crc32c .ensures)))))
 
 returns-4 : tie.Need-returns-4
 returns-4 c = search needs

@@ -84,7 +84,9 @@ unfolding udpHeader
 returns c =
     let a = c .before .before .before .before .before .before .before .before .before .before .args in
     let place = c .before .before .before .before .before .before .before in
-    _∙_ {b = readingBy (a .payload .now) (a .size) (a .from) (Listed (c .before .before .before .before .before .list .given .0 .0) (c .before .before .before .before .before .list .given .0 .1 .0) (c .before .before .before .before .before .list .given .0 .1 .1 .0))}
+    _∙_ {b = readingBy (a .payload .now) (a .size) (a .from)
+    (Listed (c .before .before .before .before .before .list .given .0 .0) (c .before .before .before .before .before .list .given .0 .1 .0)
+    (c .before .before .before .before .before .list .given .0 .1 .1 .0))}
     (λ i. record {
       user = (c .before .before .before .span .ensures) i;
       verdict = Read;

@@ -14,7 +14,14 @@ span-requires-2 c κs = search needs
 
 returns : tie.Need-returns
 unfolding udpHeader
-returns c = λ i. record { user = (c .before .span .ensures) i; verdict = c .before .before .args .verdict; options = (c .span2 .ensures) i; count = 0; fill = 0; apc = Absent }
+returns c = λ i. record {
+  user = (c .before .span .ensures) i;
+  verdict = c .before .before .args .verdict;
+  options = (c .span2 .ensures) i;
+  count = 0;
+  fill = 0;
+  apc = Absent;
+}
 
 pub quiet-spec : {M : Type 1} → statement M
 quiet-spec = tie.close (tie.spec span-requires span-requires-2 returns)

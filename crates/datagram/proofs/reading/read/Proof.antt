@@ -65,7 +65,8 @@ unfolding udpHeader payloadLimit
 returns-4 c =
     let a = c .before .before .before .before .before .before .args in
     let e = c .before .before .get-u16 .ensures in
-    sym (refused-large (a .payload .now) (a .source) (a .destination) (c .before .before .before .before .if1 .left) (c .before .before .before .if2 .left) (omega arith) (omega arith))
+    sym (refused-large (a .payload .now) (a .source) (a .destination) (c .before .before .before .before .if1 .left)
+    (c .before .before .before .if2 .left) (omega arith) (omega arith))
 
 get-u16-requires-2 : tie.Need-get-u16-requires-2
 get-u16-requires-2 c κs = search needs
@@ -86,7 +87,8 @@ returns-5 c =
     let e = place .before .before .before .get-u16 .ensures in
     let z = sized place in
     let sum = sum-is (a .payload .now) (a .source) (a .destination) _ _ e (omega (arith, z .within)) (c .before .udp-sum .ensures) in
-    sym (refused-sum (a .payload .now) (a .source) (a .destination) z (λ n. c .before .before .before .if5 .taken (place .get-u162 .ensures ∙ n)) (λ n. c .if6 .taken (sum ∙ n)))
+    sym (refused-sum (a .payload .now) (a .source) (a .destination) z (λ n. c .before .before .before .if5 .taken (place .get-u162 .ensures ∙ n))
+    (λ n. c .if6 .taken (sum ∙ n)))
 
 accept-requires : tie.Need-accept-requires
 accept-requires c κs =

@@ -58,7 +58,8 @@ returns c =
     let t : length (a .t3) ≡ 4 = good-length (eInt w8) 4 (a .t3) _ (start .good .1 .1 .0) in
     let parts = pseudo-sum (a .t2) (a .t3) (length d) d (ap (λ (n : ℕ). n % 2) s) (ap (λ (n : ℕ). n % 2) t) (start .pre) in
     five-sums (wordSum false (a .t2)) (wordSum false (a .t3)) 17 (length d) (wordSum false d)
-    (c .before .before .before .before .before .add .ensures) (c .before .before .before .add2 .ensures) (c .before .before .add-word .ensures) (c .before .add-word2 .ensures) (c .add3 .ensures)
+    (c .before .before .before .before .before .add .ensures) (c .before .before .before .add2 .ensures) (c .before .before .add-word .ensures)
+    (c .before .add-word2 .ensures) (c .add3 .ensures)
     ∙ ap folded (sym parts)
 
 pub udp-sum-spec : {M : Type 1} → statement M

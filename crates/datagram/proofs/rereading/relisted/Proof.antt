@@ -63,7 +63,9 @@ returns : tie.Need-returns
 returns c =
     let a = c .before .before .before .before .before .before .before .before .before .before .args in
     let place = c .before .before .before .before .before .before .before in
-    _∙_ {b = rewalkedBy (a .original .now) (a .r) (a .from) (WalkListed (c .before .before .before .before .before .list .given .0 .0) (c .before .before .before .before .before .list .given .0 .1 .0) (c .before .before .before .before .before .list .given .0 .1 .1 .0))}
+    _∙_ {b = rewalkedBy (a .original .now) (a .r) (a .from)
+    (WalkListed (c .before .before .before .before .before .list .given .0 .0) (c .before .before .before .before .before .list .given .0 .1 .0)
+    (c .before .before .before .before .before .list .given .0 .1 .1 .0))}
     (λ i. rereads (record {
       user = (c .before .before .before .places .ensures) i;
       verdict = Read;

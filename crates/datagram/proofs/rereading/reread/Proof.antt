@@ -34,10 +34,13 @@ begun c =
 taken : (c : tie.After-start-of) → let a = c .before .before .before .before .before .args in let r = a .option-start .0 in
     rereading (a .original .now) r ≡ restarted (a .original .now) r (startOf (isOdd (udpHeader + r)) true (drop r (a .original .now)))
 unfolding originalLimit
-taken c = let a = c .before .before .before .before .before .args in re-accepted (a .original .now) (a .option-start .0) (c .before .before .before .if1 .left) (c .before .before .if2 .left)
+taken c = let a = c .before .before .before .before .before .args in re-accepted (a .original .now) (a .option-start .0)
+    (c .before .before .before .if1 .left) (c .before .before .if2 .left)
 
 -- where the list starts is within the original
-within : (c : tie.After-known-told) → let a = c .before .before .before .before .before .before .before .before .args in a .option-start .0 + c .before .start .given .0 .0 ≤ length (a .original .now)
+within : (c : tie.After-known-told)
+    → let a = c .before .before .before .before .before .before .before .before .args in a .option-start .0 + c .before .start .given .0 .0 ≤ length
+    (a .original .now)
 within c =
     let a = c .before .before .before .before .before .before .before .before .args in
     let h = start-list (isOdd (udpHeader + a .option-start .0)) true (drop (a .option-start .0) (a .original .now)) _
@@ -114,27 +117,32 @@ relisted-requires c κs =
 returns-3 : tie.Need-returns-3
 returns-3 c =
     let a = c .before .before .before .before .before .before .before .before .args in
-    c .quietly .ensures ∙ ap (restarted (a .original .now) (a .option-start .0)) (sym (begun (c .before .before .before) ∙ c .before .enum-told .given .1)) ∙ sym (taken (c .before .before .before))
+    c .quietly .ensures ∙ ap (restarted (a .original .now) (a .option-start .0))
+    (sym (begun (c .before .before .before) ∙ c .before .enum-told .given .1)) ∙ sym (taken (c .before .before .before))
 
 returns-4 : tie.Need-returns-4
 returns-4 c =
     let a = c .before .before .before .before .before .before .before .before .args in
-    c .quietly2 .ensures ∙ ap (restarted (a .original .now) (a .option-start .0)) (sym (begun (c .before .before .before) ∙ c .before .enum-told2 .given .1)) ∙ sym (taken (c .before .before .before))
+    c .quietly2 .ensures ∙ ap (restarted (a .original .now) (a .option-start .0))
+    (sym (begun (c .before .before .before) ∙ c .before .enum-told2 .given .1)) ∙ sym (taken (c .before .before .before))
 
 returns-5 : tie.Need-returns-5
 returns-5 c =
     let a = c .before .before .before .before .before .before .before .before .args in
-    c .quietly3 .ensures ∙ ap (restarted (a .original .now) (a .option-start .0)) (sym (begun (c .before .before .before) ∙ c .before .enum-told3 .given .1)) ∙ sym (taken (c .before .before .before))
+    c .quietly3 .ensures ∙ ap (restarted (a .original .now) (a .option-start .0))
+    (sym (begun (c .before .before .before) ∙ c .before .enum-told3 .given .1)) ∙ sym (taken (c .before .before .before))
 
 returns-6 : tie.Need-returns-6
 returns-6 c =
     let a = c .before .before .before .before .before .before .before .before .args in
-    c .quietly4 .ensures ∙ ap (restarted (a .original .now) (a .option-start .0)) (sym (begun (c .before .before .before) ∙ c .before .enum-told4 .given .1)) ∙ sym (taken (c .before .before .before))
+    c .quietly4 .ensures ∙ ap (restarted (a .original .now) (a .option-start .0))
+    (sym (begun (c .before .before .before) ∙ c .before .enum-told4 .given .1)) ∙ sym (taken (c .before .before .before))
 
 returns-7 : tie.Need-returns-7
 returns-7 c =
     let a = c .before .before .before .before .before .before .before .before .args in
-    c .quietly5 .ensures ∙ ap (restarted (a .original .now) (a .option-start .0)) (sym (begun (c .before .before .before) ∙ c .before .enum-told5 .given .1)) ∙ sym (taken (c .before .before .before))
+    c .quietly5 .ensures ∙ ap (restarted (a .original .now) (a .option-start .0))
+    (sym (begun (c .before .before .before) ∙ c .before .enum-told5 .given .1)) ∙ sym (taken (c .before .before .before))
 
 returns-8 : tie.Need-returns-8
 returns-8 c =

@@ -16,7 +16,8 @@ returns c =
 returns-2 : tie.Need-returns-2
 returns-2 c =
     let a = c .before .before .before .before .args in
-    sym (ap (λ (o : Bool). startOf o (a .unused) (a .area .now)) (c .before .if2 .taken) ∙ start-short (a .unused) (a .area .now) true (c .before .before .if1 .left) (c .if3 .taken))
+    sym (ap (λ (o : Bool). startOf o (a .unused) (a .area .now)) (c .before .if2 .taken)
+    ∙ start-short (a .unused) (a .area .now) true (c .before .before .if1 .left) (c .if3 .taken))
 
 shared-slice-read-if4 : tie.Need-shared-slice-read-if4
 shared-slice-read-if4 c = search needs
@@ -24,7 +25,8 @@ shared-slice-read-if4 c = search needs
 returns-3 : tie.Need-returns-3
 returns-3 c =
     let a = c .before .before .before .before .before .before .args in
-    sym (ap (λ (o : Bool). startOf o (a .unused) (a .area .now)) (c .before .before .before .if2 .taken) ∙ start-pad (a .unused) (a .area .now) (c .before .before .if3 .left) (c .if4 .taken))
+    sym (ap (λ (o : Bool). startOf o (a .unused) (a .area .now)) (c .before .before .before .if2 .taken)
+    ∙ start-pad (a .unused) (a .area .now) (c .before .before .if3 .left) (c .if4 .taken))
 
 summed-requires : tie.Need-summed-requires
 summed-requires c κs = search needs
@@ -34,12 +36,14 @@ returns-4 c =
     let a = c .before .before .before .before .before .before .before .args in
     let odd = c .before .before .before .before .if2 .taken in
     c .summed .ensures ∙ ap (λ (o : Bool). summedOf o (a .unused) (a .area .now)) odd
-    ∙ sym (ap (λ (o : Bool). startOf o (a .unused) (a .area .now)) odd ∙ start-odd (a .unused) (a .area .now) (c .before .before .before .if3 .left) (c .before .if4 .left))
+    ∙ sym (ap (λ (o : Bool). startOf o (a .unused) (a .area .now)) odd
+    ∙ start-odd (a .unused) (a .area .now) (c .before .before .before .if3 .left) (c .before .if4 .left))
 
 returns-5 : tie.Need-returns-5
 returns-5 c =
     let a = c .before .before .before .before .args in
-    sym (ap (λ (o : Bool). startOf o (a .unused) (a .area .now)) (c .before .if2 .left) ∙ start-short (a .unused) (a .area .now) false (c .before .before .if1 .left) (c .if5 .taken))
+    sym (ap (λ (o : Bool). startOf o (a .unused) (a .area .now)) (c .before .if2 .left)
+    ∙ start-short (a .unused) (a .area .now) false (c .before .before .if1 .left) (c .if5 .taken))
 
 summed-requires-2 : tie.Need-summed-requires-2
 summed-requires-2 c κs = search needs

@@ -26,12 +26,15 @@ add-t8 c = search needs
 returns : tie.Need-returns
 returns c =
     let a = c .before .before .before .before .args in
-    ap (λ (p : ℕ). ListAt (p + 2)) (c .before .before .before .before .pre .0) ∙ sym (ap (λ (u : Bool). summedOf (a .odd) u (a .area .now)) (c .if2 .taken) ∙ summed-unused (a .odd) (a .area .now) (ocs (c .before .before) ∙ c .before .if1 .taken))
+    ap (λ (p : ℕ). ListAt (p + 2)) (c .before .before .before .before .pre .0)
+    ∙ sym (ap (λ (u : Bool). summedOf (a .odd) u (a .area .now)) (c .if2 .taken)
+    ∙ summed-unused (a .odd) (a .area .now) (ocs (c .before .before) ∙ c .before .if1 .taken))
 
 returns-2 : tie.Need-returns-2
 returns-2 c =
     let a = c .before .before .before .before .args in
-    sym (ap (λ (u : Bool). summedOf (a .odd) u (a .area .now)) (c .if2 .left) ∙ summed-missing (a .odd) (a .area .now) (ocs (c .before .before) ∙ c .before .if1 .taken))
+    sym (ap (λ (u : Bool). summedOf (a .odd) u (a .area .now)) (c .if2 .left)
+    ∙ summed-missing (a .odd) (a .area .now) (ocs (c .before .before) ∙ c .before .if1 .taken))
 
 area-sum-requires : tie.Need-area-sum-requires
 area-sum-requires c κs = search needs
@@ -43,12 +46,14 @@ returns-3 : tie.Need-returns-3
 returns-3 c =
     let a = c .before .before .before .before .before .args in
     ap (λ (p : ℕ). ListAt (p + 2)) (c .before .before .before .before .before .pre .0)
-    ∙ sym (summed-right (a .odd) (a .area .now) (a .unused) (λ z. c .before .before .if1 .left (sym (ocs (c .before .before .before)) ∙ z)) (sym (c .before .area-sum .ensures) ∙ c .if3 .taken))
+    ∙ sym (summed-right (a .odd) (a .area .now) (a .unused) (λ z. c .before .before .if1 .left (sym (ocs (c .before .before .before)) ∙ z))
+    (sym (c .before .area-sum .ensures) ∙ c .if3 .taken))
 
 returns-4 : tie.Need-returns-4
 returns-4 c =
     let a = c .before .before .before .before .before .args in
-    sym (summed-wrong (a .odd) (a .area .now) (a .unused) (λ z. c .before .before .if1 .left (sym (ocs (c .before .before .before)) ∙ z)) (λ z. c .if3 .left (c .before .area-sum .ensures ∙ z)))
+    sym (summed-wrong (a .odd) (a .area .now) (a .unused) (λ z. c .before .before .if1 .left (sym (ocs (c .before .before .before)) ∙ z))
+    (λ z. c .if3 .left (c .before .area-sum .ensures ∙ z)))
 
 pub summed-spec : {M : Type 1} → statement M
 summed-spec =

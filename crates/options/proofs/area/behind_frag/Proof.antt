@@ -83,7 +83,8 @@ returns-3 c =
     c .as-piece .ensures ∙ ap (asPiece f) (c .before .walk-list .ensures)
     ∙ piece-told f (walkFrom (optionLimit - 1) 0 (part (a .behind) (f .start .0 - a .base .0 - a .behind) l))
     ∙ ap (λ (n : ℕ). toldArea (pieceWith f (walkFrom (optionLimit - 1) 0 (part (a .behind) n l)))) middle
-    ∙ ap₂ (λ (e : Bool) (p : Placed). toldArea (behindFrag e l (a .base .0) (a .behind) p)) (sym (not-false _ (c .before .before .before .before .before .if1 .left)))
+    ∙ ap₂ (λ (e : Bool) (p : Placed). toldArea (behindFrag e l (a .base .0) (a .behind) p))
+    (sym (not-false _ (c .before .before .before .before .before .if1 .left)))
     (sym (sym (place .before .before .fragment-of .ensures) ∙ place .found .given .1))
 
 pub behind-frag-spec : {M : Type 1} → statement M

@@ -46,7 +46,8 @@ whole : (c : tie.After-known-told) → let a = c .before .before .before .before
 whole c =
     let start = c .before .before .before .before .before .before in
     frag-found (drop (start .args .nops) (start .args .list .now)) _ _ _ (found c)
-    (getD-drop (start .args .nops) (start .args .list .now) 0 0 ∙ ap (λ (n : ℕ). getD (start .args .list .now) n 0) (add-zero (start .args .nops)) ∙ start .pre .1)
+    (getD-drop (start .args .nops) (start .args .list .now) 0 0 ∙ ap (λ (n : ℕ). getD (start .args .list .now) n 0) (add-zero (start .args .nops))
+    ∙ start .pre .1)
 
 within : (c : tie.After-known-told) → let a = c .before .before .before .before .before .before .args in
     a .nops + c .before .step .given .0 .1 .1 .0 ≤ length (a .list .now)
@@ -63,7 +64,8 @@ enum-known-step c = search needs
 fields-of-requires : tie.Need-fields-of-requires
 fields-of-requires c κs =
     let f = whole c in
-    let same = ap length (rest-is (c .before .before .before .before .before .before .args .list .now) (c .before .before .before .before .before .before .args .nops) (omega (arith, c .before .before .before .before .before .before .pre .0))) in
+    let same = ap length (rest-is (c .before .before .before .before .before .before .args .list .now)
+    (c .before .before .before .before .before .before .args .nops) (omega (arith, c .before .before .before .before .before .before .pre .0))) in
     (omega arith, omega arith)
 
 add-behind-frag : tie.Need-add-behind-frag
@@ -93,8 +95,11 @@ returns c =
     let place = c .before .before in
     let size : ℕ = place .before .step .given .0 .1 .1 .0 in
     c .behind-frag .ensures
-    ∙ ap (λ (f : Fields). toldArea (behindFrag (a .empty) (a .list .now) (a .base .0) (a .nops + size) (fragmentOf f (a .base .0) (a .nops + size) (length (a .list .now)))))
-    (c .before .fields-of .ensures .0 ∙ ap (fieldsOf size) (rest-is (a .list .now) (a .nops) (omega (arith, c .before .before .before .before .before .before .before .before .pre .0))))
+    ∙ ap (λ (f : Fields). toldArea
+    (behindFrag (a .empty) (a .list .now) (a .base .0) (a .nops + size) (fragmentOf f (a .base .0) (a .nops + size) (length (a .list .now)))))
+    (c .before .fields-of .ensures .0
+    ∙ ap (fieldsOf size) (rest-is (a .list .now) (a .nops)
+    (omega (arith, c .before .before .before .before .before .before .before .before .pre .0))))
     ∙ ap (λ (s : Step). toldArea (ledBy (a .empty) (a .list .now) (a .base .0) (a .nops) s)) (sym (found place))
 
 returns-2 : tie.Need-returns-2

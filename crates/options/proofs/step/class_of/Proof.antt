@@ -15,7 +15,8 @@ past n h d = omega arith
 low : (c : tie.At-match-rest) → 6 ≤ c .before .args .kind
 low c =
     let r = c .match .rest in
-    past 5 (past 4 (past 3 (past 2 (past 1 (past 0 zero-le (r .0 .0 .0 .0 .0 .0 .1)) (r .0 .0 .0 .0 .0 .1)) (r .0 .0 .0 .0 .1)) (r .0 .0 .0 .1)) (r .0 .0 .1)) (r .0 .1)
+    past 5 (past 4 (past 3 (past 2 (past 1 (past 0 zero-le (r .0 .0 .0 .0 .0 .0 .1)) (r .0 .0 .0 .0 .0 .1)) (r .0 .0 .0 .0 .1)) (r .0 .0 .0 .1))
+    (r .0 .0 .1)) (r .0 .1)
 
 returns : tie.Need-returns
 unfolding classOf

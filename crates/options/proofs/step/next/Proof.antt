@@ -75,12 +75,16 @@ returns-3 c =
 returns-4 : tie.Need-returns-4
 returns-4 c =
     let l = c .before .before .before .before .before .before .before .before .before .args .rest .now in
-    c .fixed-step .ensures ∙ ap (fixedStep (getD l 0 0) _ _) (c .before .header-of .ensures) ∙ sym (step-class l _ (some (c .before .before .before .before .before .before .before)) (sym (c .before .before .before .before .before .class-of .ensures) ∙ c .before .before .before .class .given .1))
+    c .fixed-step .ensures ∙ ap (fixedStep (getD l 0 0) _ _) (c .before .header-of .ensures)
+    ∙ sym (step-class l _ (some (c .before .before .before .before .before .before .before))
+    (sym (c .before .before .before .before .before .class-of .ensures) ∙ c .before .before .before .class .given .1))
 
 returns-5 : tie.Need-returns-5
 returns-5 c =
     let l = c .before .before .before .before .before .before .before .before .args .rest .now in
-    c .varying-step .ensures ∙ ap (varyingStep (getD l 0 0)) (c .before .header-of2 .ensures) ∙ sym (step-class l _ (some (c .before .before .before .before .before .before)) (sym (c .before .before .before .before .class-of .ensures) ∙ c .before .before .enum-told3 .given .1))
+    c .varying-step .ensures ∙ ap (varyingStep (getD l 0 0)) (c .before .header-of2 .ensures)
+    ∙ sym (step-class l _ (some (c .before .before .before .before .before .before))
+    (sym (c .before .before .before .before .class-of .ensures) ∙ c .before .before .enum-told3 .given .1))
 
 returns-6 : tie.Need-returns-6
 returns-6 c =

@@ -23,7 +23,8 @@ returns : tie.Need-returns
 returns c = search needs
 
 returns-2 : tie.Need-returns-2
-returns-2 c = let a = c .before .before .before .before .args in c .join-value .ensures ∙ sym (ap (λ (x : Apcs). joined x (a .b)) (c .before .before .a .given .1))
+returns-2 c = let a = c .before .before .before .before .args in c .join-value .ensures
+    ∙ sym (ap (λ (x : Apcs). joined x (a .b)) (c .before .before .a .given .1))
 
 returns-3 : tie.Need-returns-3
 returns-3 c = search needs

@@ -15,7 +15,8 @@ enum-known-b : tie.Need-enum-known-b
 enum-known-b c = search needs
 
 returns : tie.Need-returns
-returns c = let a = c .before .before .before .before .args in sym (ap (joined (Same (a .v))) (c .before .before .b .given .1) ∙ simp (eq-eqb _ _ (c .if1 .taken)))
+returns c = let a = c .before .before .before .before .args in sym
+    (ap (joined (Same (a .v))) (c .before .before .b .given .1) ∙ simp (eq-eqb _ _ (c .if1 .taken)))
 
 enum-told-2 : tie.Need-enum-told-2
 enum-told-2 c = search needs
@@ -24,7 +25,8 @@ returns-2 : tie.Need-returns-2
 returns-2 c = sym (ap (joined (Same (c .before .before .args .v))) (c .enum-told .given .1))
 
 returns-3 : tie.Need-returns-3
-returns-3 c = let a = c .before .before .before .before .args in sym (ap (joined (Same (a .v))) (c .before .before .b .given .1) ∙ simp (ne-eqb _ _ (c .if1 .left)))
+returns-3 c = let a = c .before .before .before .before .args in sym
+    (ap (joined (Same (a .v))) (c .before .before .b .given .1) ∙ simp (ne-eqb _ _ (c .if1 .left)))
 
 returns-4 : tie.Need-returns-4
 returns-4 c = search needs

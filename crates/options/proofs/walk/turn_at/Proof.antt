@@ -57,7 +57,8 @@ sizeOf c = c .before .step .given .0 .1 .1 .0
 found : (c : tie.After-known-told) → stepOf (c .before .before .before .before .before .args .rest .now) ≡ Found (kindOf c) (headerOf c) (sizeOf c)
 found c = sym (c .before .before .before .next .ensures) ∙ c .before .step .given .1
 
-an-apc : (c : tie.After-known-told) → kindOf c ≡ apc → (headerOf c ≡ 2) × (sizeOf c ≡ 6) × (6 ≤ length (c .before .before .before .before .before .args .rest .now))
+an-apc : (c : tie.After-known-told) → kindOf c ≡ apc → (headerOf c ≡ 2) × (sizeOf c ≡ 6)
+    × (6 ≤ length (c .before .before .before .before .before .args .rest .now))
 an-apc c e =
     apc-found (c .before .before .before .before .before .args .rest .now) (headerOf c) (sizeOf c)
     (found c ∙ ap (λ (k : ℕ). Found k (headerOf c) (sizeOf c)) e)
@@ -70,10 +71,12 @@ some-room zero size apcs e = absurd (e refl)
 some-room (suc room) size apcs e = ap (λ (r : ℕ). On r size apcs) (omega arith)
 
 returns : tie.Need-returns
-returns c = let a = c .before .before .before .before .before .before .args in sym (turn-is (a .room) (a .rest .now) _ (found (c .before)) ∙ simp (eq-eqb _ _ (c .if1 .taken)))
+returns c = let a = c .before .before .before .before .before .before .args in sym
+    (turn-is (a .room) (a .rest .now) _ (found (c .before)) ∙ simp (eq-eqb _ _ (c .if1 .taken)))
 
 returns-2 : tie.Need-returns-2
-returns-2 c = let a = c .before .before .before .before .before .before .before .args in sym (turn-is (a .room) (a .rest .now) _ (found (c .before .before)) ∙ simp (ne-eqb _ _ (c .before .if1 .left)) (no-room _ _ _ (c .if2 .taken)))
+returns-2 c = let a = c .before .before .before .before .before .before .before .args in sym
+    (turn-is (a .room) (a .rest .now) _ (found (c .before .before)) ∙ simp (ne-eqb _ _ (c .before .if1 .left)) (no-room _ _ _ (c .if2 .taken)))
 
 get-u32-requires : tie.Need-get-u32-requires
 get-u32-requires c κs = let f = an-apc (c .before .before .before) (c .if3 .taken) in omega arith
@@ -110,13 +113,16 @@ enum-told-5 : tie.Need-enum-told-5
 enum-told-5 c = search needs
 
 returns-4 : tie.Need-returns-4
-returns-4 c = let a = c .before .before .before .before .args in sym (turn-is (a .room) (a .rest .now) _ (sym (c .before .before .next .ensures) ∙ c .enum-told .given .1))
+returns-4 c = let a = c .before .before .before .before .args in sym
+    (turn-is (a .room) (a .rest .now) _ (sym (c .before .before .next .ensures) ∙ c .enum-told .given .1))
 
 returns-5 : tie.Need-returns-5
-returns-5 c = let a = c .before .before .before .before .args in sym (turn-is (a .room) (a .rest .now) _ (sym (c .before .before .next .ensures) ∙ c .enum-told2 .given .1))
+returns-5 c = let a = c .before .before .before .before .args in sym
+    (turn-is (a .room) (a .rest .now) _ (sym (c .before .before .next .ensures) ∙ c .enum-told2 .given .1))
 
 returns-6 : tie.Need-returns-6
-returns-6 c = let a = c .before .before .before .before .before .args in c .on .ensures ∙ sym (turn-is (a .room) (a .rest .now) _ (sym (c .before .before .before .next .ensures) ∙ c .before .enum-told3 .given .1))
+returns-6 c = let a = c .before .before .before .before .before .args in c .on .ensures
+    ∙ sym (turn-is (a .room) (a .rest .now) _ (sym (c .before .before .before .next .ensures) ∙ c .before .enum-told3 .given .1))
 
 returns-7 : tie.Need-returns-7
 returns-7 c =
@@ -128,10 +134,12 @@ returns-7 c =
     (some-room (a .room) (sizeOf place) Absent (c .before .before .if2 .left)))
 
 returns-8 : tie.Need-returns-8
-returns-8 c = let a = c .before .before .before .before .args in sym (turn-is (a .room) (a .rest .now) _ (sym (c .before .before .next .ensures) ∙ c .enum-told4 .given .1))
+returns-8 c = let a = c .before .before .before .before .args in sym
+    (turn-is (a .room) (a .rest .now) _ (sym (c .before .before .next .ensures) ∙ c .enum-told4 .given .1))
 
 returns-9 : tie.Need-returns-9
-returns-9 c = let a = c .before .before .before .before .args in sym (turn-is (a .room) (a .rest .now) _ (sym (c .before .before .next .ensures) ∙ c .enum-told5 .given .1))
+returns-9 c = let a = c .before .before .before .before .args in sym
+    (turn-is (a .room) (a .rest .now) _ (sym (c .before .before .next .ensures) ∙ c .enum-told5 .given .1))
 
 pub turn-at-spec : {M : Type 1} → statement M
 turn-at-spec =

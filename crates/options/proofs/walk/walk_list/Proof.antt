@@ -57,8 +57,13 @@ bound c =
 loop-holds : tie.Need-loop-holds Inv-loop μ-loop
 loop-holds c =
     let a = c .before .args in
-    let none : a .room - a .room ≡ 0 = omega arith in
-    (search needs, search needs, sym (ap (λ (n : ℕ). behind n Absent (told (walkFrom (a .room) 0 (a .list .now)))) none ∙ behind-none (told (walkFrom (a .room) 0 (a .list .now)))))
+    let none : a .room - a .room ≡ 0 = omega arith in (
+      search needs,
+      search needs,
+      sym
+          (ap (λ (n : ℕ). behind n Absent (told (walkFrom (a .room) 0 (a .list .now)))) none
+          ∙ behind-none (told (walkFrom (a .room) 0 (a .list .now)))),
+    )
 
 sub-turn-at : tie.Need-sub-turn-at Inv-loop μ-loop
 sub-turn-at c = omega arith
@@ -122,7 +127,8 @@ returns-2 c =
     let here = at-loop p in
     let a = here .before .before .args in
     sym (here .loop .inv .2
-    ∙ ap (behind (a .room - here .loop .left) (here .loop .apcs)) (turn-failed (here .loop .left) (rest p) _ (some-rest p) (turned p ∙ c .before .turn3 .given .1)))
+    ∙ ap (behind (a .room - here .loop .left) (here .loop .apcs))
+    (turn-failed (here .loop .left) (rest p) _ (some-rest p) (turned p ∙ c .before .turn3 .given .1)))
 
 sub-t18 : tie.Need-sub-t18 Inv-loop μ-loop
 sub-t18 c = omega arith
