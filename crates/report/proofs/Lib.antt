@@ -1,0 +1,6 @@
+pub mod Puts
+pub mod Decimals
+pub mod Hexes
+pub mod Fields
+pub mod Items
+pub mod Sounds

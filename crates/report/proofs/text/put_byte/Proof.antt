@@ -1,0 +1,53 @@
+-- `report::text::put_byte` meets its contract: the two digits are those of the byte's halves.
+-- Assumes nothing.
+use mathlib.Core.Path.{ap₂}
+use mathlib.Core.List.{[], _∷_}
+use Prim.Native.Nat.{ℕ}
+use Rattle.report.specs.Digits.{hexOf}
+use Rattle.report.proofs.Puts.{put-as}
+use borrow.Author.Needs.{needs}
+use Rattle.report.proofs.text.put_byte.Statement.{statement}
+use Rattle.report.proofs.text.put_byte.Tie as tie
+use Rattle.report.proofs.text.put_byte.Reads as reads
+use Rattle.report.proofs.text.put_byte.Lts as lts
+use Rattle.report.proofs.text.hex_digit.Reads as hex-digit-reads
+use Rattle.report.proofs.text.put.Reads as put-reads
+
+-- src/text.rt:60:19
+hex-digit-requires : tie.Need-hex-digit-requires
+hex-digit-requires c κs = search needs
+
+-- src/text.rt:60:41
+hex-digit-requires-2 : tie.Need-hex-digit-requires-2
+hex-digit-requires-2 c κs = search needs
+
+-- src/text.rt:61:9
+slice-aggregate-put : tie.Need-slice-aggregate-put
+slice-aggregate-put c = search needs
+
+-- src/text.rt:61:5
+put-requires : tie.Need-put-requires
+put-requires c κs = search needs
+
+-- src/text.rt:56:1
+same-length : tie.Need-same-length
+same-length c = search needs
+
+-- src/text.rt:56:1
+returns : tie.Need-returns
+unfolding hexOf
+returns c =
+    let high = c .before .before .before .before .before .before .hex-digit .ensures in
+    let low = c .before .before .before .before .before .hex-digit2 .ensures in
+    put-as (ap₂ (λ (x y : ℕ). x ∷ y ∷ []) high low) (c .before .before .put .ensures)
+
+pub put-byte-spec : {M : Type 1} → statement M
+put-byte-spec =
+    tie.close
+    (tie.spec
+    hex-digit-requires
+    hex-digit-requires-2
+    slice-aggregate-put
+    put-requires
+    same-length
+    returns)
