@@ -9,7 +9,7 @@ use Rattle.record.specs.declared.Client.{Client}
 use Rattle.record.specs.Limits.{offeredLimit}
 use Rattle.record.specs.Lists.{if, sum}
 use Rattle.record.specs.Record.{bytesHeld, figureSum, soundRecord}
-use Rattle.record.proofs.SoundParts.{Sound, sound-parts, sum-le}
+use Rattle.record.proofs.SoundParts.{sound-parts, sum-le}
 use Rattle.reassembly.specs.Advance.{old, lost}
 
 lost-le : (t : ℕ) (a : Assembly) → lost t a ≤ bytesHeld a

@@ -1,17 +1,14 @@
 -- The record test passes again after every call: what the one-client theorem rests on.
 -- Assumes nothing.
-use mathlib.Core.Path.{_≡_, refl, sym, ap, ap₂, _∙_, subst}
+use mathlib.Core.Path.{_≡_, refl, sym, ap, ap₂, _∙_}
 use mathlib.Core.Bool.{Bool, true, false, not, _&&_, _||_}
-use mathlib.Core.List.{List, [], _∷_, _++_, map}
-use Prim.Native.Nat.{ℕ, zero, suc, _+_, _-_, _<_, _≤_}
+use mathlib.Core.List.{List, [], _∷_, map}
+use Prim.Native.Nat.{ℕ, zero, suc, _+_, _<_, _≤_}
 use native.Mathlib.Nat.{not-suc-le-zero, le-of-suc-le-suc}
-use native.Mathlib.Numerals.{add-one}
 use native.Mathlib.Omega.{arith}
-use lib.Dec.{eqb, leb, ltb}
-use lib.ListN.{length, take, drop, getD, set}
-use lib.Seq.{drop-set-lt, take-suc-set}
-use borrow.Author.Tests.{eqb-true, leb-true, leb-false, ltb-true, eq-eqb, le-leb, lt-ltb, not-true, not-false}
-use Rattle.record.specs.declared.Fragment.{Fragment}
+use lib.Dec.{leb, ltb}
+use lib.ListN.{length, getD, set}
+use borrow.Author.Tests.{leb-true, leb-false, eq-eqb, le-leb, lt-ltb}
 use Rattle.record.specs.declared.Assembly.{Assembly}
 use Rattle.record.specs.declared.Client.{Client}
 use Rattle.record.specs.Limits.{fragmentLimit, addressSize, lifetime, offeredLimit}
@@ -20,7 +17,6 @@ use Rattle.record.specs.Record.{
   freshFragment,
   freshFlow,
   freshAssembly,
-  conflicts,
   soundFragment,
   isFreshFragment,
   compatible,
@@ -43,15 +39,12 @@ use Rattle.record.specs.Record.{
   balanced,
   soundRecord,
 }
-use Rattle.record.proofs.Lists.{all-append, all-not, all-left, pairs-append, and-true, and-false}
+use Rattle.record.proofs.Lists.{and-false}
 use Rattle.record.proofs.SoundParts.{Sound, sound-parts, all-at, all-weaker, all-map}
 use Rattle.record.proofs.Tests.{both-true}
-use Rattle.reassembly.specs.declared.Arrival.{Arrival}
-use Rattle.reassembly.specs.Advance.{old, expire, lost, elapse}
-use Rattle.reassembly.specs.Offer.{matches, opening, added, isConflict, rejecting, repeating, conflicting, storing, delivering}
-use Rattle.reassembly.specs.Post.{Room}
+use Rattle.reassembly.specs.Advance.{old, expire, elapse}
+use Rattle.reassembly.specs.Offer.{rejecting, repeating, conflicting, delivering}
 use Rattle.reassembly.proofs.Expiry.{gone}
-use Rattle.reassembly.proofs.Joins.{held-added}
 use Rattle.reassembly.proofs.Steady.{empty-bytes, fresh-count, elapse-held}
 
 -- ---- the record test from its parts
@@ -174,7 +167,7 @@ unfolding live freshAssembly
 fresh-not-live = refl
 
 -- an assembly is sound by its live test, or as an unused one
-sound-by : (t : ℕ) (a : Assembly) (b : Bool) → live a ≡ b → if b (soundLive t a) (isFreshAssembly a) ≡ true → soundAssembly t a ≡ true
+pub sound-by : (t : ℕ) (a : Assembly) (b : Bool) → live a ≡ b → if b (soundLive t a) (isFreshAssembly a) ≡ true → soundAssembly t a ≡ true
 unfolding soundAssembly
 sound-by t a b l h = ap (λ (x : Bool). if x (soundLive t a) (isFreshAssembly a)) l ∙ h
 
@@ -217,7 +210,7 @@ expire-sound u t a le s = go (old t a) refl
     go false o = later-sound u t a le o s
 
 -- a fresh place has nobody's key
-fresh-first : (a : Assembly) → not (sameLiveKey freshAssembly a) ≡ true
+pub fresh-first : (a : Assembly) → not (sameLiveKey freshAssembly a) ≡ true
 unfolding sameLiveKey live freshAssembly
 fresh-first a = refl
 

@@ -1,8 +1,12 @@
+pub mod Bytes
+pub mod Examples
 pub mod Expiry
 pub mod Fates
 pub mod Joins
 pub mod Kept
+pub mod Lasting
 pub mod Laws
 pub mod Passes
 pub mod Places
 pub mod Steady
+pub mod Stored

@@ -1,10 +1,10 @@
 -- What a sound record still has once its time is set and what is old has expired: figures within the limit, held bytes that are those
 -- of the live fragments, and assemblies within their limits.
 -- Assumes nothing.
-use mathlib.Core.Path.{_≡_, refl, sym, ap, ap₂, _∙_, subst}
+use mathlib.Core.Path.{_≡_, refl, ap, ap₂, _∙_}
 use mathlib.Core.Bool.{Bool, true, false, not, _&&_}
 use mathlib.Core.List.{List, [], _∷_, map}
-use Prim.Native.Nat.{ℕ, zero, suc, _+_, _-_, _<_, _≤_}
+use Prim.Native.Nat.{ℕ, _+_, _<_, _≤_}
 use native.Mathlib.Omega.{arith}
 use lib.Dec.{eqb, leb}
 use lib.ListN.{length, take, getD}
@@ -36,7 +36,7 @@ use Rattle.record.specs.Record.{
   figureSum,
   soundRecord,
 }
-use Rattle.record.proofs.SoundParts.{Sound, sound-parts, part-le, all-at, all-weaker, all-map}
+use Rattle.record.proofs.SoundParts.{sound-parts, part-le, all-at, all-weaker, all-map}
 use Rattle.record.proofs.Tests.{both-true}
 use Rattle.reassembly.specs.declared.Arrival.{Arrival}
 use Rattle.reassembly.specs.Advance.{old, expire, lost, elapse}

@@ -19,7 +19,7 @@ ghost use Rattle.reassembly.specs.Offer.{offerTests, fragmentOf, matches
 ghost use Rattle.reassembly.specs.Offer.{rejecting, repeating, conflicting, storing, delivering, joined, placed, taken, fragmentOn};
 ghost use Rattle.reassembly.specs.Post.{Turned, checkedNumber, Sized, Room, PlaceFor, Ending, Storing, Joining, Placing, Taking, Left};
 
-// Why a call changes nothing, or a fragment is turned away.
+// Why a call changes nothing (document 01's 22 to 28), or a fragment is turned away (29, 30).
 pub enum Refusal {
     UnsoundRecord,
     OutTooShort,

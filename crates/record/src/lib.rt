@@ -58,7 +58,8 @@ pub struct Assembly {
     pub fragments: [Fragment; FRAGMENT_LIMIT],
 }
 
-// All that is kept of one client beside its share of the store.
+// All that is kept of one client beside its share of the store: its last time, the bytes offered, and the six figures that they
+// sum to. `conflicted` is document 01's clashed, `rejected` its turned away.
 #[repr(C)]
 pub struct Client {
     pub time: u64,
@@ -72,6 +73,7 @@ pub struct Client {
     pub assemblies: [Assembly; ASSEMBLY_LIMIT],
 }
 
+// A slot that holds nothing.
 pub fn fresh_fragment() -> Fragment
     ensures { λ r. ⌜ r ≡ freshFragment ⌝ }
 {
@@ -95,6 +97,7 @@ fn fresh_flow() -> Flow
     }
 }
 
+// A place that holds nothing.
 pub fn fresh_assembly() -> Assembly
     ensures { λ r. ⌜ r ≡ freshAssembly ⌝ }
 {
@@ -326,10 +329,8 @@ pub fn whole(a: Assembly) -> bool
     ensures { λ r. ⌜ r ≡ whole (heldFragments a) ⌝ }
 {
     let last = last_of(a);
-    if last.last {
-        return covered_to(a, end_of(last));
-    }
-    false
+    let past = end_of(last);
+    both(last.last, covered_to(a, past))
 }
 
 // The slots behind the held fragments are as in a fresh record.

@@ -4,3 +4,4 @@ pub mod Hexes
 pub mod Fields
 pub mod Items
 pub mod Sounds
+pub mod Examples

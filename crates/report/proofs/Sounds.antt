@@ -3,7 +3,7 @@
 use mathlib.Core.Path.{_≡_, refl, sym, ap, _∙_, subst}
 use mathlib.Core.Bool.{Bool, true, false, cond, not, _&&_, _||_}
 use mathlib.Core.List.{List, _++_, append-nil, []}
-use mathlib.Core.Option.{Option, none, some}
+use mathlib.Core.Option.{none, some}
 use Prim.Native.Nat.{ℕ, _+_, _-_, _≤_}
 use native.Mathlib.Omega.{arith}
 use borrow.Author.Tests.{ltb-false}
@@ -37,8 +37,6 @@ use Rattle.datagram.specs.Reading.{
   started,
   isOdd,
   accepted,
-  Answer,
-  refused,
   reads,
   answered,
   reading,
@@ -51,7 +49,7 @@ use Rattle.datagram.specs.declared.reading.Reading.{Reading}
 use Rattle.datagram.proofs.Starts.{start-list}
 use Rattle.report.specs.Words.{userWord}
 use Rattle.report.specs.Report.{isRead, sizeOf, numberLine, verdictLine, listingOf, readingText}
-use Rattle.report.specs.Sound.{isListed, Listable, Sound}
+use Rattle.report.specs.Sound.{isListed, Sound}
 
 -- ---- a list whose walk gives options
 
@@ -122,7 +120,8 @@ module _ (p : List ℕ) (size : ℕ) (header : udpHeader ≤ size) where
   started-sound odd unused badSum h e = quiet-sound BadSum refl
   started-sound odd unused (ListAt at) h e =
       let within : at ≤ length (drop size p) = start-list odd unused (drop size p) at e in
-      walked-sound (eqb size udpHeader) (size + at) (areaOf (eqb size udpHeader) (size + at) (drop (size + at) p)) (omega (arith, simp length-drop at within)) refl
+      let from : ℕ = size + at in
+      walked-sound (eqb size udpHeader) from (areaOf (eqb size udpHeader) from (drop from p)) (omega (arith, simp length-drop at within)) refl
 
 accepted-sound : (p : List ℕ) → udpHeader ≤ udpLength p → udpLength p ≤ length p → Sound p (accepted p)
 unfolding accepted
@@ -154,14 +153,16 @@ reading-sound p s d r =
 
 -- ---- its text
 
-pub text-read : (p : List ℕ) (r : Reading) → isRead (r .verdict) ≡ true
-    → numberLine userWord (sizeOf (r .user)) ++ verdictLine (r .verdict) ++ listingOf p r ≡ readingText p r
-unfolding readingText
-text-read p r e = sym (ap (λ (t : Bool). numberLine userWord (sizeOf (r .user)) ++ verdictLine (r .verdict) ++ cond t (listingOf p r) []) e)
+module _ (p : List ℕ) (r : Reading) where
+  abbrev twoLines : List ℕ
+  twoLines = numberLine userWord (sizeOf (r .user)) ++ verdictLine (r .verdict)
 
-pub text-other : (p : List ℕ) (r : Reading) → isRead (r .verdict) ≡ false
-    → numberLine userWord (sizeOf (r .user)) ++ verdictLine (r .verdict) ≡ readingText p r
-unfolding readingText
-text-other p r e =
-    sym (ap (λ (t : Bool). numberLine userWord (sizeOf (r .user)) ++ verdictLine (r .verdict) ++ cond t (listingOf p r) []) e
-    ∙ append-nil (numberLine userWord (sizeOf (r .user)) ++ verdictLine (r .verdict)))
+  textBy : (t : Bool) → isRead (r .verdict) ≡ t → twoLines ++ cond t (listingOf p (r .options) (r .fill)) [] ≡ readingText p r
+  unfolding readingText
+  textBy t e = ap (λ (x : Bool). twoLines ++ cond x (listingOf p (r .options) (r .fill)) []) (sym e)
+
+  pub text-read : isRead (r .verdict) ≡ true → twoLines ++ listingOf p (r .options) (r .fill) ≡ readingText p r
+  text-read e = textBy true e
+
+  pub text-other : isRead (r .verdict) ≡ false → twoLines ≡ readingText p r
+  text-other e = sym (append-nil twoLines) ∙ textBy false e

@@ -3,7 +3,7 @@ use mathlib.Core.Bool.{Bool, true, false, cond}
 use mathlib.Core.List.{List, [], _∷_, _++_}
 use Prim.Native.Nat.{ℕ, _-_}
 use lib.Dec.{eqb}
-use lib.ListN.{length, take, drop}
+use lib.ListN.{take, drop}
 use Rattle.octets.specs.Octets.{number, part}
 use Rattle.options.specs.Walk.{Item, Walked, listed, faulty, walkFrom, optionLimit}
 use Rattle.datagram.specs.Reading.{Answer, refused, reads, reading}
@@ -87,15 +87,15 @@ isRead Crowded = false
 isRead Read = true
 isRead (Piece fragment) = false
 
--- the options of a reading with verdict "read", and the fill
-unfoldable pub listingOf : List ℕ → Reading → List ℕ
-listingOf payload reading =
-    itemLines (itemsOf (walkFrom optionLimit 0 (bytesIn (reading .options) payload))) ++ numberLine fillWord (reading .fill)
+-- the options that an extent of the payload lists, and the fill
+unfoldable pub listingOf : List ℕ → Extent → ℕ → List ℕ
+listingOf payload options fill = itemLines (itemsOf (walkFrom optionLimit 0 (bytesIn options payload))) ++ numberLine fillWord fill
 
 -- the count of user bytes, the verdict and, only with "read", the options
 unfoldable pub readingText : List ℕ → Reading → List ℕ
 readingText payload reading =
-    numberLine userWord (sizeOf (reading .user)) ++ verdictLine (reading .verdict) ++ cond (isRead (reading .verdict)) (listingOf payload reading) []
+    numberLine userWord (sizeOf (reading .user)) ++ verdictLine (reading .verdict)
+    ++ cond (isRead (reading .verdict)) (listingOf payload (reading .options) (reading .fill)) []
 
 abbrev pub answerText : List ℕ → Answer → List ℕ
 answerText payload (refused number) = numberLine refusedWord number

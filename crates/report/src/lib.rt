@@ -9,14 +9,12 @@ use datagram::reading::Reading;
 use datagram::reading::Refusal;
 use datagram::reading::Verdict;
 ghost use mathlib.Core.Path.{_≡_};
-ghost use mathlib.Core.List.{_++_};
 ghost use Prim.Native.Nat.{_≤_};
 ghost use lib.ListN.{length};
-ghost use Rattle.options.specs.Walk.{walkFrom, optionLimit};
 ghost use Rattle.datagram.specs.Reading.{refusalNumber};
-ghost use Rattle.report.specs.Words.{fillWord, wordOf};
+ghost use Rattle.report.specs.Words.{wordOf};
 ghost use Rattle.report.specs.Put.{Put};
-ghost use Rattle.report.specs.Report.{itemLines, itemsOf, bytesIn, numberLine, verdictLine, isRead, readingText, reportOf};
+ghost use Rattle.report.specs.Report.{isRead, listingOf, readingText, reportOf, verdictLine};
 ghost use Rattle.report.specs.Sound.{Listable, Sound};
 
 // Writes what fits of the report to the front of `text`, and answers where it ends.
@@ -106,7 +104,7 @@ fn put_word(verdict: Verdict, text: &mut [u8], at: usize) -> usize
 // The options of a list, and the fill.
 fn put_listing(payload: &[u8], options: Extent, fill: usize, text: &mut [u8], at: usize) -> usize
     requires { ⌜ (at ≤ length (now text)) × Listable (now payload) options ⌝ }
-    ensures { λ r. ⌜ Put (now (text .entry)) at (itemLines (itemsOf (walkFrom optionLimit 0 (bytesIn options (now (payload .entry))))) ++ numberLine fillWord fill) r (now (text .exit)) ⌝ }
+    ensures { λ r. ⌜ Put (now (text .entry)) at (listingOf (now (payload .entry)) options fill) r (now (text .exit)) ⌝ }
 {
     let from = options.from;
     let to = options.to;

@@ -7,93 +7,67 @@ use Rattle.report.proofs.Puts.{put-room}
 use borrow.Author.Needs.{needs}
 use Rattle.inspect.proofs.main.Statement.{statement}
 use Rattle.inspect.proofs.main.Tie as tie
-use Rattle.inspect.proofs.main.Reads as reads
-use Rattle.inspect.proofs.main.Lts as lts
-use Rattle.io.proofs.read_full.Reads as read-full-reads
-use Rattle.io.proofs.write_all.Reads as write-all-reads
-use Rattle.report.proofs.report.Reads as report-reads
 
--- src/main.rt:16:43
 slice-aggregate-read-full : tie.Need-slice-aggregate-read-full
 slice-aggregate-read-full c = search needs
 
--- src/main.rt:16:9
 read-full-requires : tie.Need-read-full-requires
 read-full-requires c κs = search needs
 
--- src/main.rt:18:38
 slice-aggregate-write-all : tie.Need-slice-aggregate-write-all
 slice-aggregate-write-all c = search needs
 
--- src/main.rt:18:9
 write-all-requires : tie.Need-write-all-requires
 write-all-requires c κs = search needs
 
--- src/main.rt:19:9
 returns : tie.Need-returns
 returns c = search needs
 
--- src/main.rt:21:19
 array-read-t16 : tie.Need-array-read-t16
 array-read-t16 c = search needs
 
--- src/main.rt:21:29
 array-read-t19 : tie.Need-array-read-t19
 array-read-t19 c = search needs
 
--- src/main.rt:21:39
 array-read-t22 : tie.Need-array-read-t22
 array-read-t22 c = search needs
 
--- src/main.rt:21:49
 array-read-t25 : tie.Need-array-read-t25
 array-read-t25 c = search needs
 
--- src/main.rt:22:24
 array-read-t16-2 : tie.Need-array-read-t16-2
 array-read-t16-2 c = search needs
 
--- src/main.rt:22:34
 array-read-t25-2 : tie.Need-array-read-t25-2
 array-read-t25-2 c = search needs
 
--- src/main.rt:22:44
 array-read-t22-2 : tie.Need-array-read-t22-2
 array-read-t22-2 c = search needs
 
--- src/main.rt:22:54
 array-read-t19-2 : tie.Need-array-read-t19-2
 array-read-t19-2 c = search needs
 
--- src/main.rt:24:30
 part-report-start : tie.Need-part-report-start
 part-report-start c = search needs
 
--- src/main.rt:24:30
 part-report-end : tie.Need-part-report-end
 part-report-end c = search needs
 
--- src/main.rt:24:75
 slice-aggregate-report : tie.Need-slice-aggregate-report
 slice-aggregate-report c = search needs
 
--- src/main.rt:24:9
 report-requires : tie.Need-report-requires
 report-requires c κs = search needs
 
--- src/main.rt:25:34
 array-share-prefix-text : tie.Need-array-share-prefix-text
 array-share-prefix-text c = put-room (omega arith) (c .before .report .ensures)
 
--- src/main.rt:25:34
 slice-aggregate-write-all-2 : tie.Need-slice-aggregate-write-all-2
 slice-aggregate-write-all-2 c = sym (length-take-le _ _ (put-room (omega arith) (c .before .before .report .ensures)))
 
--- src/main.rt:25:5
 write-all-requires-2 : tie.Need-write-all-requires-2
 write-all-requires-2 c κs = search needs
 
--- src/main.rt:14:1
 returns-2 : tie.Need-returns-2
 returns-2 c = search needs
 

@@ -3,14 +3,8 @@
 use Rattle.record.specs.Record.{soundRecord}
 use Rattle.reassembly.specs.Answer.{firstOf}
 use Rattle.reassembly.specs.Advance.{accountOn, figures}
-use Rattle.record.specs.Limits.{assemblyLimit, lifetime}
-use Rattle.record.specs.declared.Assembly.{Assembly}
-use lib.Seq.{take-length}
-use lib.ListN.{length, take, drop, getD, set}
-use Prim.Native.Nat.{ℕ, _+_, _*_, _-_, _^_, _≤_, _<_}
-use mathlib.Core.List.{List, map}
-use mathlib.Core.Bool.{Bool, true, false, not, _&&_, _||_}
-use mathlib.Core.Path.{_≡_, refl, sym, ap, ap₂, _∙_}
+use mathlib.Core.Bool.{true, false}
+use mathlib.Core.Path.{_≡_, sym, _∙_}
 use borrow.Author.Needs.{needs}
 use Rattle.reassembly.proofs.account.Statement.{statement}
 use Rattle.reassembly.proofs.account.Tie as tie

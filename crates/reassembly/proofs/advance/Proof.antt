@@ -5,7 +5,7 @@ use Rattle.reassembly.specs.Answer.{firstOf}
 use Rattle.reassembly.specs.Advance.{advanceOn}
 use borrow.Author.Tests.{lt-ltb, le-ltb}
 use mathlib.Core.Bool.{true, false}
-use mathlib.Core.Path.{_≡_, sym, ap, _∙_}
+use mathlib.Core.Path.{_≡_, sym, _∙_}
 use borrow.Author.Needs.{needs}
 use Rattle.reassembly.proofs.advance.Statement.{statement}
 use Rattle.reassembly.proofs.advance.Tie as tie

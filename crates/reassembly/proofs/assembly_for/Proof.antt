@@ -5,14 +5,13 @@ use Rattle.record.proofs.Lists.{unmapped}
 use Rattle.reassembly.proofs.Places.{live-at}
 use Rattle.reassembly.proofs.Laws.{if-yes, if-no}
 use Rattle.reassembly.specs.Offer.{matches, opening, assemblyFor}
-use Rattle.record.specs.Record.{live, freshAssembly}
+use Rattle.record.specs.Record.{freshAssembly}
 use Rattle.record.specs.Lists.{any}
 use Rattle.record.specs.Limits.{assemblyLimit}
-use lib.Seq.{take-length}
-use lib.ListN.{length, take, drop, getD}
-use Prim.Native.Nat.{ℕ, _+_, _*_, _-_, _^_, _≤_, _<_}
-use mathlib.Core.Bool.{Bool, true, false, not, _&&_, _||_}
-use mathlib.Core.Path.{_≡_, refl, sym, ap, ap₂, _∙_}
+use lib.ListN.{length, getD}
+use Prim.Native.Nat.{_<_}
+use mathlib.Core.Bool.{true, false}
+use mathlib.Core.Path.{_≡_, sym, _∙_}
 use native.Mathlib.Omega.{arith}
 use borrow.Author.Needs.{needs}
 use Rattle.reassembly.proofs.assembly_for.Statement.{statement}

@@ -1,6 +1,6 @@
 -- `reassembly::check` meets its contract: the tests are the definition's, in its order; none of the sums and differences wraps.
 -- Assumes nothing.
-use mathlib.Core.Path.{_≡_, sym, ap, _∙_}
+use mathlib.Core.Path.{_≡_, sym, _∙_}
 use mathlib.Core.Bool.{true, false, _&&_}
 use Prim.Native.Nat.{ℕ, _+_, _<_, _≤_}
 use native.Mathlib.Omega.{arith}
@@ -11,7 +11,6 @@ use Rattle.record.specs.Limits.{datagramLimit, offeredLimit}
 use Rattle.record.specs.Record.{soundRecord}
 use Rattle.record.proofs.SoundParts.{sound-parts}
 use Rattle.reassembly.specs.Answer.{firstOf}
-use Rattle.reassembly.specs.declared.Arrival.{Arrival}
 use Rattle.reassembly.specs.Offer.{offerTests}
 use borrow.Author.Needs.{needs}
 use Rattle.reassembly.proofs.check.Statement.{statement}

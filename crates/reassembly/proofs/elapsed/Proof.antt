@@ -6,9 +6,9 @@ use Rattle.record.specs.Limits.{offeredLimit}
 use Rattle.record.specs.declared.Client.{Client}
 use Rattle.record.specs.declared.Assembly.{Assembly}
 use native.Mathlib.Omega.{arith}
-use Prim.Native.Nat.{ℕ, _+_, _-_, _≤_}
+use Prim.Native.Nat.{ℕ, _+_, _-_}
 use mathlib.Core.List.{List}
-use mathlib.Core.Path.{_≡_, sym, ap, ap₂, _∙_}
+use mathlib.Core.Path.{ap₂}
 use borrow.Author.Needs.{needs}
 use Rattle.reassembly.proofs.elapsed.Statement.{statement}
 use Rattle.reassembly.proofs.elapsed.Tie as tie

@@ -3,14 +3,12 @@
 use Rattle.record.proofs.Lists.{unmapped}
 use Rattle.reassembly.proofs.Laws.{front-mapped, mapped-next, mapped-all}
 use Rattle.reassembly.specs.Advance.{expire}
-use Rattle.record.specs.Limits.{assemblyLimit, lifetime}
+use Rattle.record.specs.Limits.{assemblyLimit}
 use Rattle.record.specs.declared.Assembly.{Assembly}
-use lib.Seq.{take-length}
-use lib.ListN.{length, take, drop, getD, set}
-use Prim.Native.Nat.{ℕ, _+_, _*_, _-_, _^_, _≤_, _<_}
-use mathlib.Core.List.{List, map}
-use mathlib.Core.Bool.{Bool, true, false, not, _&&_, _||_}
-use mathlib.Core.Path.{_≡_, refl, sym, ap, ap₂, _∙_}
+use lib.ListN.{length, set}
+use Prim.Native.Nat.{_-_, _≤_, _<_}
+use mathlib.Core.List.{List}
+use mathlib.Core.Path.{_≡_, refl, ap₂, _∙_}
 use borrow.Author.Needs.{needs}
 use native.Mathlib.Omega.{arith}
 use Rattle.reassembly.proofs.expire_all.Statement.{statement}

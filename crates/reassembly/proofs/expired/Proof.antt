@@ -3,14 +3,7 @@
 use Rattle.record.specs.Record.{freshAssembly}
 use Rattle.reassembly.proofs.Laws.{if-yes, if-no}
 use Rattle.reassembly.specs.Advance.{old, expire}
-use Rattle.record.specs.Limits.{assemblyLimit, lifetime}
-use Rattle.record.specs.declared.Assembly.{Assembly}
-use lib.Seq.{take-length}
-use lib.ListN.{length, take, drop, getD, set}
-use Prim.Native.Nat.{ℕ, _+_, _*_, _-_, _^_, _≤_, _<_}
-use mathlib.Core.List.{List, map}
-use mathlib.Core.Bool.{Bool, true, false, not, _&&_, _||_}
-use mathlib.Core.Path.{_≡_, refl, sym, ap, ap₂, _∙_}
+use mathlib.Core.Path.{sym, _∙_}
 use borrow.Author.Needs.{needs}
 use Rattle.reassembly.proofs.expired.Statement.{statement}
 use Rattle.reassembly.proofs.expired.Tie as tie

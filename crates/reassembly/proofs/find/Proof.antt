@@ -4,11 +4,9 @@ use Rattle.record.proofs.Lists.{unmapped}
 use Rattle.reassembly.proofs.Places.{first-here, first-later, first-never}
 use Rattle.reassembly.specs.Offer.{firstIndex, matches}
 use Rattle.record.specs.Limits.{assemblyLimit}
-use Rattle.record.specs.declared.Assembly.{Assembly}
-use lib.ListN.{length, take, drop, getD, set}
-use Prim.Native.Nat.{ℕ, _+_, _*_, _-_, _^_, _≤_, _<_}
-use mathlib.Core.Bool.{Bool, true, false, not, _&&_, _||_}
-use mathlib.Core.Path.{_≡_, refl, sym, ap, ap₂, _∙_}
+use lib.ListN.{length, drop}
+use Prim.Native.Nat.{_+_, _-_, _≤_, _<_}
+use mathlib.Core.Path.{_≡_, sym, _∙_}
 use borrow.Author.Needs.{needs}
 use native.Mathlib.Omega.{arith}
 use Rattle.reassembly.proofs.find.Statement.{statement}

@@ -8,8 +8,8 @@ use Rattle.record.specs.declared.Fragment.{Fragment}
 use borrow.Author.Tests.{ltb-false}
 use lib.Dec.{ltb}
 use native.Mathlib.Omega.{arith}
-use Prim.Native.Nat.{ℕ, _+_, _≤_}
-use mathlib.Core.Bool.{Bool, true, false, _&&_}
+use Prim.Native.Nat.{ℕ, _+_}
+use mathlib.Core.Bool.{Bool, false, _&&_}
 use mathlib.Core.Path.{_≡_, sym, ap, _∙_}
 use Rattle.reassembly.proofs.fragment_of.Statement.{statement}
 use Rattle.reassembly.proofs.fragment_of.Tie as tie

@@ -1,20 +1,15 @@
 -- `reassembly::old` meets its contract: without the subtraction, which cannot wrap, the comparison is the definition's (`behind`).
 -- Assumes nothing.
-use lib.Dec.{leb}
 use Rattle.record.specs.Record.{live}
 use Rattle.record.proofs.Lists.{and-false}
 use Rattle.reassembly.proofs.Laws.{behind}
 use Rattle.reassembly.specs.Advance.{old}
 use borrow.Author.Tests.{lt-leb}
 use native.Mathlib.Omega.{arith}
-use Rattle.record.specs.Limits.{assemblyLimit, lifetime}
-use Rattle.record.specs.declared.Assembly.{Assembly}
-use lib.Seq.{take-length}
-use lib.ListN.{length, take, drop, getD, set}
-use Prim.Native.Nat.{ℕ, _+_, _*_, _-_, _^_, _≤_, _<_}
-use mathlib.Core.List.{List, map}
-use mathlib.Core.Bool.{Bool, true, false, not, _&&_, _||_}
-use mathlib.Core.Path.{_≡_, refl, sym, ap, ap₂, _∙_}
+use Rattle.record.specs.Limits.{lifetime}
+use Prim.Native.Nat.{_+_, _<_}
+use mathlib.Core.Bool.{Bool, _&&_}
+use mathlib.Core.Path.{sym, ap, ap₂, _∙_}
 use borrow.Author.Needs.{needs}
 use Rattle.reassembly.proofs.old.Statement.{statement}
 use Rattle.reassembly.proofs.old.Tie as tie

@@ -11,7 +11,7 @@ use Rattle.record.specs.Lists.{any}
 use borrow.Author.Tests.{lt-ltb, le-ltb}
 use lib.ListN.{length}
 use mathlib.Core.Bool.{true, false}
-use mathlib.Core.Path.{_≡_, sym, ap, _∙_}
+use mathlib.Core.Path.{_≡_, sym, _∙_}
 use borrow.Author.Needs.{needs}
 use Rattle.reassembly.proofs.place_for.Statement.{statement}
 use Rattle.reassembly.proofs.place_for.Tie as tie

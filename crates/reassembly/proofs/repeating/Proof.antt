@@ -4,7 +4,6 @@ use Rattle.reassembly.specs.Offer.{repeating}
 use Rattle.record.specs.Record.{figureSum}
 use Rattle.record.specs.Limits.{offeredLimit, assemblyLimit}
 use mathlib.Core.Path.{refl}
-use borrow.Author.Needs.{needs}
 use native.Mathlib.Omega.{arith}
 use Rattle.reassembly.proofs.repeating.Statement.{statement}
 use Rattle.reassembly.proofs.repeating.Tie as tie

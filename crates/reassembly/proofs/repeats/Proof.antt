@@ -3,7 +3,7 @@
 use Rattle.reassembly.specs.Offer.{repeats}
 use Rattle.record.specs.Lists.{sameBytes}
 use mathlib.Core.Bool.{Bool, _&&_}
-use mathlib.Core.Path.{_≡_, sym, ap, _∙_}
+use mathlib.Core.Path.{sym, ap, _∙_}
 use borrow.Author.Needs.{needs}
 use Rattle.reassembly.proofs.repeats.Statement.{statement}
 use Rattle.reassembly.proofs.repeats.Tie as tie

@@ -1,18 +1,16 @@
 -- `reassembly::take` meets its contract: the place decides, and the assembly there is within its limits (`assembly-fit`).
 -- Assumes nothing.
 use mathlib.Core.Path.{_≡_, refl, sym, ap, ap₂, _∙_, subst}
-use mathlib.Core.Bool.{Bool, true, false}
-use Prim.Native.Nat.{ℕ, _+_, _<_, _≤_}
+use Prim.Native.Nat.{ℕ, _<_}
 use native.Mathlib.Omega.{arith}
-use lib.Dec.{eqb}
 use lib.ListN.{length}
 use borrow.Author.Tests.{eq-eqb, ne-eqb}
 use Rattle.record.specs.declared.Fragment.{Fragment}
 use Rattle.record.specs.declared.Assembly.{Assembly}
-use Rattle.record.specs.Limits.{datagramLimit, assemblyLimit}
+use Rattle.record.specs.Limits.{assemblyLimit}
 use Rattle.record.specs.Record.{end}
 use Rattle.record.proofs.Lists.{unmapped}
-use Rattle.reassembly.specs.Offer.{fragmentOf, noRoom, placeFor, assemblyFor, placed}
+use Rattle.reassembly.specs.Offer.{fragmentOf, placeFor, assemblyFor, placed}
 use Rattle.reassembly.specs.Post.{Room}
 use Rattle.reassembly.proofs.Fates.{left-of, taken-rejected, taken-placed}
 use Rattle.reassembly.proofs.Places.{room-place, place-le}

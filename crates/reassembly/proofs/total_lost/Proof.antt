@@ -3,13 +3,10 @@
 use Rattle.record.proofs.Lists.{sum-next, unmapped}
 use Rattle.reassembly.specs.Advance.{lost}
 use Rattle.record.specs.Lists.{sum}
-use Rattle.record.specs.Limits.{assemblyLimit, lifetime}
-use Rattle.record.specs.declared.Assembly.{Assembly}
+use Rattle.record.specs.Limits.{assemblyLimit}
 use lib.Seq.{take-length}
-use lib.ListN.{length, take, drop, getD, set}
+use lib.ListN.{length, take}
 use Prim.Native.Nat.{ℕ, _+_, _*_, _-_, _^_, _≤_, _<_}
-use mathlib.Core.List.{List, map}
-use mathlib.Core.Bool.{Bool, true, false, not, _&&_, _||_}
 use mathlib.Core.Path.{_≡_, refl, sym, ap, ap₂, _∙_}
 use borrow.Author.Needs.{needs}
 use native.Mathlib.Omega.{arith}

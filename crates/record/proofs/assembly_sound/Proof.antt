@@ -1,6 +1,6 @@
 -- `record::assembly_sound` meets its contract: the branches are the definition's.
 -- Assumes nothing.
-use Rattle.record.specs.Record.{live, soundLive, isFreshAssembly, soundAssembly}
+use Rattle.record.specs.Record.{soundLive, isFreshAssembly, soundAssembly}
 use Rattle.record.specs.Lists.{if}
 use mathlib.Core.Bool.{Bool}
 use mathlib.Core.Path.{sym, ap, _∙_}

@@ -6,10 +6,9 @@ use Rattle.record.specs.declared.Fragment.{Fragment}
 use Rattle.record.specs.Lists.{any}
 use Rattle.record.proofs.Held.{held-at}
 use Rattle.record.specs.Limits.{fragmentLimit}
-use lib.Seq.{take-length}
-use lib.ListN.{length, take, drop}
-use Prim.Native.Nat.{ℕ, _+_, _*_, _-_, _≤_, _<_}
-use mathlib.Core.Bool.{Bool, true, false, not, _&&_, _||_}
+use lib.ListN.{length, take}
+use Prim.Native.Nat.{ℕ, _-_, _≤_, _<_}
+use mathlib.Core.Bool.{Bool, _||_}
 use mathlib.Core.Path.{_≡_, refl, sym, ap, ap₂, _∙_}
 use borrow.Author.Needs.{needs}
 use native.Mathlib.Omega.{arith}

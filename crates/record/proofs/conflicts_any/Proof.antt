@@ -3,13 +3,11 @@
 use Rattle.record.specs.Record.{heldFragments, conflicts}
 use Rattle.record.specs.Lists.{any}
 use Rattle.record.specs.declared.Fragment.{Fragment}
-use Rattle.record.specs.Limits.{fragmentLimit}
-use lib.Seq.{take-length, drop-length}
-use lib.ListN.{length, take, drop, getD}
-use Prim.Native.Nat.{ℕ, _+_, _*_, _-_, _≤_, _<_}
-use mathlib.Core.List.{List}
-use mathlib.Core.Bool.{Bool, true, false, not, _&&_, _||_}
-use mathlib.Core.Path.{_≡_, refl, sym, ap, ap₂, _∙_}
+use lib.Seq.{take-length}
+use lib.ListN.{take}
+use Prim.Native.Nat.{ℕ}
+use mathlib.Core.Bool.{Bool}
+use mathlib.Core.Path.{ap, _∙_}
 use borrow.Author.Needs.{needs}
 use Rattle.record.proofs.conflicts_any.Statement.{statement}
 use Rattle.record.proofs.conflicts_any.Tie as tie

@@ -1,14 +1,10 @@
 -- `record::covered_to` meets its contract: the loop's invariant says that `ok` is the test of the places before `i`.
 -- Assumes nothing.
-use Rattle.record.specs.Record.{heldFragments, covers, coveredTo}
-use Rattle.record.specs.Lists.{any}
+use Rattle.record.specs.Record.{heldFragments, coveredTo}
 use native.Mathlib.Numerals.{add-one}
-use Rattle.record.specs.declared.Fragment.{Fragment}
 use Rattle.record.specs.Limits.{fragmentLimit}
-use lib.Seq.{take-length, drop-length}
-use lib.ListN.{length, take, drop, getD}
-use Prim.Native.Nat.{ℕ, _+_, _*_, _-_, _≤_, _<_}
-use mathlib.Core.Bool.{Bool, true, false, not, _&&_, _||_}
+use Prim.Native.Nat.{ℕ, _-_, _≤_}
+use mathlib.Core.Bool.{_&&_}
 use mathlib.Core.Path.{_≡_, refl, sym, ap, ap₂, _∙_}
 use borrow.Author.Needs.{needs}
 use native.Mathlib.Omega.{arith}

@@ -3,14 +3,13 @@
 use Rattle.record.proofs.Lists.{pairs-next, all-not}
 use Rattle.record.proofs.Held.{held-at, none}
 use Rattle.record.specs.Record.{heldFragments, conflicts, compatible}
-use Rattle.record.specs.Lists.{any, all, pairs}
+use Rattle.record.specs.Lists.{any, pairs}
 use Rattle.record.specs.declared.Fragment.{Fragment}
 use Rattle.record.specs.Limits.{fragmentLimit}
-use lib.Seq.{take-length, drop-length}
-use lib.ListN.{length, take, drop, getD}
-use Prim.Native.Nat.{ℕ, _+_, _*_, _-_, _≤_, _<_}
-use mathlib.Core.List.{List}
-use mathlib.Core.Bool.{Bool, true, false, not, _&&_, _||_}
+use lib.Seq.{take-length}
+use lib.ListN.{length, take, getD}
+use Prim.Native.Nat.{ℕ, _-_, _≤_, _<_}
+use mathlib.Core.Bool.{not, _&&_}
 use mathlib.Core.Path.{_≡_, refl, sym, ap, ap₂, _∙_}
 use borrow.Author.Needs.{needs}
 use native.Mathlib.Omega.{arith}

@@ -1,16 +1,16 @@
 -- `record::last_of` meets its contract: the loop's invariant says that the one marked last is looked for among those from `i` on (`last-left`).
 -- Assumes nothing.
 use Rattle.record.proofs.Held.{none, held-at, last-left}
-use Rattle.record.specs.Record.{heldFragments, lastOf, freshFragment}
+use Rattle.record.specs.Record.{heldFragments, lastOf}
 use Rattle.record.specs.Lists.{if}
 use Rattle.record.specs.declared.Fragment.{Fragment}
 use Rattle.record.specs.declared.Assembly.{Assembly}
 use Rattle.record.specs.Limits.{fragmentLimit}
-use lib.Seq.{take-length, drop-length}
-use lib.ListN.{length, take, drop, getD}
-use Prim.Native.Nat.{ℕ, _+_, _*_, _-_, _≤_, _<_}
-use mathlib.Core.Bool.{Bool, true, false, not, _&&_, _||_}
-use mathlib.Core.Path.{_≡_, refl, sym, ap, ap₂, _∙_}
+use lib.Seq.{drop-length}
+use lib.ListN.{length, drop, getD}
+use Prim.Native.Nat.{ℕ, _+_, _-_, _≤_, _<_}
+use mathlib.Core.Bool.{Bool, true, false}
+use mathlib.Core.Path.{_≡_, refl, sym, ap, _∙_}
 use borrow.Author.Needs.{needs}
 use native.Mathlib.Omega.{arith}
 use Rattle.record.proofs.last_of.Statement.{statement}

@@ -8,7 +8,7 @@ use mathlib.Core.Path.{_≡_}
 use Rattle.record.specs.Record.{soundLive}
 use Rattle.record.specs.Limits.{fragmentLimit}
 use borrow.Author.Tests.{lt-leb, le-leb}
-use mathlib.Core.Path.{sym, ap, _∙_}
+use mathlib.Core.Path.{sym, _∙_}
 use borrow.Author.Needs.{needs}
 use Rattle.record.proofs.live_sound.Statement.{statement}
 use Rattle.record.proofs.live_sound.Tie as tie

@@ -3,8 +3,7 @@
 use Rattle.record.proofs.Tests.{within}
 use Rattle.record.specs.Record.{openedWithin}
 use Rattle.record.specs.Limits.{lifetime}
-use borrow.Author.Tests.{lt-leb, le-leb}
-use mathlib.Core.Path.{sym, ap, _∙_}
+use borrow.Author.Tests.{lt-leb}
 use Rattle.record.proofs.opened_within.Statement.{statement}
 use Rattle.record.proofs.opened_within.Tie as tie
 

@@ -4,11 +4,10 @@ use Rattle.record.proofs.Lists.{same-next}
 use Rattle.record.specs.Limits.{addressSize}
 use Rattle.record.specs.Lists.{sameBytes}
 use lib.Dec.{eqb}
-use lib.Seq.{take-length, drop-length}
-use lib.ListN.{length, take, drop, getD}
-use Prim.Native.Nat.{ℕ, _+_, _*_, _-_, _≤_, _<_}
-use mathlib.Core.List.{List}
-use mathlib.Core.Bool.{Bool, true, false, not, _&&_, _||_}
+use lib.Seq.{take-length}
+use lib.ListN.{length, take, getD}
+use Prim.Native.Nat.{ℕ, _-_, _≤_, _<_}
+use mathlib.Core.Bool.{Bool, _&&_}
 use mathlib.Core.Path.{_≡_, refl, sym, ap, ap₂, _∙_}
 use borrow.Author.Needs.{needs}
 use native.Mathlib.Omega.{arith}

@@ -2,16 +2,16 @@
 -- Assumes nothing.
 use Rattle.record.proofs.Lists.{all-left, and-assoc, and-true, unmapped}
 use Rattle.record.proofs.Held.{spare-from}
-use Rattle.record.specs.Record.{heldFragments, spareSlots, isFreshFragment}
+use Rattle.record.specs.Record.{spareSlots, isFreshFragment}
 use Rattle.record.specs.Lists.{all}
 use Rattle.record.specs.declared.Fragment.{Fragment}
 use mathlib.Core.List.{List}
 use Rattle.record.specs.Limits.{fragmentLimit}
-use lib.Seq.{take-length, drop-length}
-use lib.ListN.{length, take, drop, getD}
-use Prim.Native.Nat.{ℕ, _+_, _*_, _-_, _≤_, _<_}
-use mathlib.Core.Bool.{Bool, true, false, not, _&&_, _||_}
-use mathlib.Core.Path.{_≡_, refl, sym, ap, ap₂, _∙_}
+use lib.Seq.{drop-length}
+use lib.ListN.{length, drop}
+use Prim.Native.Nat.{ℕ, _+_, _-_, _≤_, _<_}
+use mathlib.Core.Bool.{Bool, _&&_}
+use mathlib.Core.Path.{_≡_, sym, ap, _∙_}
 use borrow.Author.Needs.{needs}
 use native.Mathlib.Omega.{arith}
 use Rattle.record.proofs.spare_fresh.Statement.{statement}

@@ -4,12 +4,9 @@ use Rattle.record.proofs.Lists.{sum-next, unmapped}
 use Rattle.record.specs.Record.{bytesHeld}
 use Rattle.record.specs.Lists.{sum}
 use Rattle.record.specs.Limits.{assemblyLimit}
-use Rattle.record.specs.declared.Assembly.{Assembly}
 use lib.Seq.{take-length}
-use lib.ListN.{length, take, drop, getD}
+use lib.ListN.{length, take}
 use Prim.Native.Nat.{ℕ, _+_, _*_, _-_, _^_, _≤_, _<_}
-use mathlib.Core.List.{List}
-use mathlib.Core.Bool.{Bool, true, false, not, _&&_, _||_}
 use mathlib.Core.Path.{_≡_, refl, sym, ap, ap₂, _∙_}
 use borrow.Author.Needs.{needs}
 use native.Mathlib.Omega.{arith}

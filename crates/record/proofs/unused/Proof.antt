@@ -2,7 +2,7 @@
 -- Assumes nothing.
 use Rattle.record.proofs.Lists.{and-false}
 use Rattle.record.proofs.Held.{spare-all}
-use Rattle.record.specs.Record.{live, isFreshFragment, isFreshAssembly, spareSlots}
+use Rattle.record.specs.Record.{live, isFreshFragment, isFreshAssembly}
 use Rattle.record.specs.Lists.{all}
 use borrow.Author.Tests.{not-true, not-false, eqb-true}
 use lib.Dec.{eqb}

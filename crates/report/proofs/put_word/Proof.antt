@@ -6,227 +6,169 @@ use Rattle.report.proofs.Puts.{put-as}
 use borrow.Author.Needs.{needs}
 use Rattle.report.proofs.put_word.Statement.{statement}
 use Rattle.report.proofs.put_word.Tie as tie
-use Rattle.report.proofs.put_word.Reads as reads
-use Rattle.report.proofs.put_word.Lts as lts
-use Rattle.report.proofs.text.put.Reads as put-reads
 
--- src/lib.rt:91:36
 enum-told : tie.Need-enum-told
 enum-told c = search needs
 
--- src/lib.rt:91:36
 slice-aggregate-put : tie.Need-slice-aggregate-put
 slice-aggregate-put c = search needs
 
--- src/lib.rt:91:26
 put-requires : tie.Need-put-requires
 put-requires c κs = search needs
 
--- src/lib.rt:92:37
 enum-told-2 : tie.Need-enum-told-2
 enum-told-2 c = search needs
 
--- src/lib.rt:92:37
 slice-aggregate-put-2 : tie.Need-slice-aggregate-put-2
 slice-aggregate-put-2 c = search needs
 
--- src/lib.rt:92:27
 put-requires-2 : tie.Need-put-requires-2
 put-requires-2 c κs = search needs
 
--- src/lib.rt:93:35
 enum-told-3 : tie.Need-enum-told-3
 enum-told-3 c = search needs
 
--- src/lib.rt:93:35
 slice-aggregate-put-3 : tie.Need-slice-aggregate-put-3
 slice-aggregate-put-3 c = search needs
 
--- src/lib.rt:93:25
 put-requires-3 : tie.Need-put-requires-3
 put-requires-3 c κs = search needs
 
--- src/lib.rt:94:40
 enum-told-4 : tie.Need-enum-told-4
 enum-told-4 c = search needs
 
--- src/lib.rt:94:40
 slice-aggregate-put-4 : tie.Need-slice-aggregate-put-4
 slice-aggregate-put-4 c = search needs
 
--- src/lib.rt:94:30
 put-requires-4 : tie.Need-put-requires-4
 put-requires-4 c κs = search needs
 
--- src/lib.rt:95:38
 enum-told-5 : tie.Need-enum-told-5
 enum-told-5 c = search needs
 
--- src/lib.rt:95:38
 slice-aggregate-put-5 : tie.Need-slice-aggregate-put-5
 slice-aggregate-put-5 c = search needs
 
--- src/lib.rt:95:28
 put-requires-5 : tie.Need-put-requires-5
 put-requires-5 c κs = search needs
 
--- src/lib.rt:96:41
 enum-told-6 : tie.Need-enum-told-6
 enum-told-6 c = search needs
 
--- src/lib.rt:96:41
 slice-aggregate-put-6 : tie.Need-slice-aggregate-put-6
 slice-aggregate-put-6 c = search needs
 
--- src/lib.rt:96:31
 put-requires-6 : tie.Need-put-requires-6
 put-requires-6 c κs = search needs
 
--- src/lib.rt:97:38
 enum-told-7 : tie.Need-enum-told-7
 enum-told-7 c = search needs
 
--- src/lib.rt:97:38
 slice-aggregate-put-7 : tie.Need-slice-aggregate-put-7
 slice-aggregate-put-7 c = search needs
 
--- src/lib.rt:97:28
 put-requires-7 : tie.Need-put-requires-7
 put-requires-7 c κs = search needs
 
--- src/lib.rt:98:40
 enum-told-8 : tie.Need-enum-told-8
 enum-told-8 c = search needs
 
--- src/lib.rt:98:40
 slice-aggregate-put-8 : tie.Need-slice-aggregate-put-8
 slice-aggregate-put-8 c = search needs
 
--- src/lib.rt:98:30
 put-requires-8 : tie.Need-put-requires-8
 put-requires-8 c κs = search needs
 
--- src/lib.rt:99:39
 enum-told-9 : tie.Need-enum-told-9
 enum-told-9 c = search needs
 
--- src/lib.rt:99:39
 slice-aggregate-put-9 : tie.Need-slice-aggregate-put-9
 slice-aggregate-put-9 c = search needs
 
--- src/lib.rt:99:29
 put-requires-9 : tie.Need-put-requires-9
 put-requires-9 c κs = search needs
 
--- src/lib.rt:100:36
 enum-told-10 : tie.Need-enum-told-10
 enum-told-10 c = search needs
 
--- src/lib.rt:100:36
 slice-aggregate-put-10 : tie.Need-slice-aggregate-put-10
 slice-aggregate-put-10 c = search needs
 
--- src/lib.rt:100:26
 put-requires-10 : tie.Need-put-requires-10
 put-requires-10 c κs = search needs
 
--- src/lib.rt:101:40
 enum-told-11 : tie.Need-enum-told-11
 enum-told-11 c = search needs
 
--- src/lib.rt:101:40
 slice-aggregate-put-11 : tie.Need-slice-aggregate-put-11
 slice-aggregate-put-11 c = search needs
 
--- src/lib.rt:101:30
 put-requires-11 : tie.Need-put-requires-11
 put-requires-11 c κs = search needs
 
--- src/lib.rt:86:1
 same-length : tie.Need-same-length
 same-length c = search needs
 
--- src/lib.rt:86:1
 returns : tie.Need-returns
 returns c = put-as (ap wordOf (sym (c .before .before .before .before .before .enum-told .given .1))) (c .before .before .put .ensures)
 
--- src/lib.rt:86:1
 same-length-2 : tie.Need-same-length-2
 same-length-2 c = search needs
 
--- src/lib.rt:86:1
 returns-2 : tie.Need-returns-2
 returns-2 c = put-as (ap wordOf (sym (c .before .before .before .before .before .enum-told2 .given .1))) (c .before .before .put2 .ensures)
 
--- src/lib.rt:86:1
 same-length-3 : tie.Need-same-length-3
 same-length-3 c = search needs
 
--- src/lib.rt:86:1
 returns-3 : tie.Need-returns-3
 returns-3 c = put-as (ap wordOf (sym (c .before .before .before .before .before .enum-told3 .given .1))) (c .before .before .put3 .ensures)
 
--- src/lib.rt:86:1
 same-length-4 : tie.Need-same-length-4
 same-length-4 c = search needs
 
--- src/lib.rt:86:1
 returns-4 : tie.Need-returns-4
 returns-4 c = put-as (ap wordOf (sym (c .before .before .before .before .before .enum-told4 .given .1))) (c .before .before .put4 .ensures)
 
--- src/lib.rt:86:1
 same-length-5 : tie.Need-same-length-5
 same-length-5 c = search needs
 
--- src/lib.rt:86:1
 returns-5 : tie.Need-returns-5
 returns-5 c = put-as (ap wordOf (sym (c .before .before .before .before .before .enum-told5 .given .1))) (c .before .before .put5 .ensures)
 
--- src/lib.rt:86:1
 same-length-6 : tie.Need-same-length-6
 same-length-6 c = search needs
 
--- src/lib.rt:86:1
 returns-6 : tie.Need-returns-6
 returns-6 c = put-as (ap wordOf (sym (c .before .before .before .before .before .enum-told6 .given .1))) (c .before .before .put6 .ensures)
 
--- src/lib.rt:86:1
 same-length-7 : tie.Need-same-length-7
 same-length-7 c = search needs
 
--- src/lib.rt:86:1
 returns-7 : tie.Need-returns-7
 returns-7 c = put-as (ap wordOf (sym (c .before .before .before .before .before .enum-told7 .given .1))) (c .before .before .put7 .ensures)
 
--- src/lib.rt:86:1
 same-length-8 : tie.Need-same-length-8
 same-length-8 c = search needs
 
--- src/lib.rt:86:1
 returns-8 : tie.Need-returns-8
 returns-8 c = put-as (ap wordOf (sym (c .before .before .before .before .before .enum-told8 .given .1))) (c .before .before .put8 .ensures)
 
--- src/lib.rt:86:1
 same-length-9 : tie.Need-same-length-9
 same-length-9 c = search needs
 
--- src/lib.rt:86:1
 returns-9 : tie.Need-returns-9
 returns-9 c = put-as (ap wordOf (sym (c .before .before .before .before .before .enum-told9 .given .1))) (c .before .before .put9 .ensures)
 
--- src/lib.rt:86:1
 same-length-10 : tie.Need-same-length-10
 same-length-10 c = search needs
 
--- src/lib.rt:86:1
 returns-10 : tie.Need-returns-10
 returns-10 c = put-as (ap wordOf (sym (c .before .before .before .before .before .enum-told10 .given .1))) (c .before .before .put10 .ensures)
 
--- src/lib.rt:86:1
 same-length-11 : tie.Need-same-length-11
 same-length-11 c = search needs
 
--- src/lib.rt:86:1
 returns-11 : tie.Need-returns-11
 returns-11 c = put-as (ap wordOf (sym (c .before .before .before .before .before .enum-told11 .given .1))) (c .before .before .put11 .ensures)
 

@@ -1,7 +1,7 @@
 -- `report::list::put_fields` meets its contract: the arm knows the kind, and with it the length, so each number is where it is read.
 -- Assumes nothing.
 use mathlib.Core.Path.{_≡_, sym, ap, ap₂, _∙_}
-use mathlib.Core.List.{List, [], _∷_, _++_}
+use mathlib.Core.List.{[], _∷_, _++_}
 use mathlib.Core.Logic.{_⊎_, inl, inr, ⊎-elim}
 use Prim.Native.Nat.{ℕ, _+_, _-_, _≤_, _<_}
 use native.Mathlib.Omega.{arith}
@@ -17,12 +17,6 @@ use Rattle.report.proofs.Fields.{option-within, fixed-shape, four-of, f
 use borrow.Author.Needs.{needs}
 use Rattle.report.proofs.list.put_fields.Statement.{statement}
 use Rattle.report.proofs.list.put_fields.Tie as tie
-use Rattle.report.proofs.list.put_fields.Reads as reads
-use Rattle.report.proofs.list.put_fields.Lts as lts
-use Rattle.octets.proofs.get_u16.Reads as get-u16-reads
-use Rattle.octets.proofs.get_u32.Reads as get-u32-reads
-use Rattle.report.proofs.list.put_body.Reads as put-body-reads
-use Rattle.report.proofs.list.put_number.Reads as put-number-reads
 
 -- an option of a fixed length
 shaped : (s : tie.Start) (n : ℕ) → classOf (s .args .kind) ≡ Fixed n n → n < 255
@@ -66,107 +60,88 @@ at-6 c = shaped (c .before .before .before) 6 (wide c .0) (omega arith)
 inside : (c : tie.Joined1) → let a = c .before .before .before .before .args in (2 ≤ a .size) × (a .header ≤ a .size) × (a .size ≤ length (a .rest .now))
 inside c = let s = c .before .before .before .before in option-within (s .args .rest .now) _ _ _ (s .pre .1)
 
--- src/list.rt:71:25
 get-u16-requires : tie.Need-get-u16-requires
 get-u16-requires c κs = let f = at-4 c in omega arith
 
--- src/list.rt:71:25
 cast-put-number : tie.Need-cast-put-number
 cast-put-number c = search needs
 
--- src/list.rt:71:14
 put-number-requires : tie.Need-put-number-requires
 put-number-requires c κs = search needs
 
--- src/list.rt:73:36
 get-u16-requires-2 : tie.Need-get-u16-requires-2
 get-u16-requires-2 c κs = let f = at-5 c in omega arith
 
--- src/list.rt:73:36
 cast-put-number-2 : tie.Need-cast-put-number-2
 cast-put-number-2 c = search needs
 
--- src/list.rt:73:17
 put-number-requires-2 : tie.Need-put-number-requires-2
 put-number-requires-2 c κs = search needs
 
--- src/list.rt:74:29
 add-put-number : tie.Need-add-put-number
 add-put-number c = let f = at-5 (c .before .before .before .before .before) in omega arith
 
--- src/list.rt:74:24
 shared-slice-read-put-number : tie.Need-shared-slice-read-put-number
 shared-slice-read-put-number c = let f = at-5 (c .before .before .before .before .before .before) in omega arith
 
--- src/list.rt:74:24
 cast-put-number-3 : tie.Need-cast-put-number-3
-cast-put-number-3 c = omega (arith, c .shared-slice-known2 .given (c .before .before .before .before .before .before .before .before .before .args .header + 2))
+cast-put-number-3 c =
+    let arm = c .before .before .before .before .before .before in
+    let start = arm .before .before .before in
+    omega (arith, c .shared-slice-known2 .given (start .args .header + 2))
 
--- src/list.rt:74:13
 put-number-requires-3 : tie.Need-put-number-requires-3
-put-number-requires-3 c κs = put-room (c .before .before .before .before .before .before .before .before .before .before .pre .0) (c .before .before .before .before .put-number2 .ensures)
+put-number-requires-3 c κs =
+    let first = c .before .before .before .before in
+    put-room (first .before .before .before .before .before .before .pre .0) (first .put-number2 .ensures)
 
--- src/list.rt:77:36
 get-u32-requires : tie.Need-get-u32-requires
 get-u32-requires c κs = let f = at-8 c in omega arith
 
--- src/list.rt:77:36
 cast-put-number-4 : tie.Need-cast-put-number-4
 cast-put-number-4 c = search needs
 
--- src/list.rt:77:17
 put-number-requires-4 : tie.Need-put-number-requires-4
 put-number-requires-4 c κs = search needs
 
--- src/list.rt:78:46
 add-get-u32 : tie.Need-add-get-u32
 add-get-u32 c = let f = at-8 (c .before .before .before .before .before) in omega arith
 
--- src/list.rt:78:24
 get-u32-requires-2 : tie.Need-get-u32-requires-2
 get-u32-requires-2 c κs = let f = at-8 (c .before .before .before .before .before) in omega arith
 
--- src/list.rt:78:24
 cast-put-number-5 : tie.Need-cast-put-number-5
 cast-put-number-5 c = search needs
 
--- src/list.rt:78:13
 put-number-requires-5 : tie.Need-put-number-requires-5
-put-number-requires-5 c κs = put-room (c .before .before .before .before .before .before .before .before .before .before .pre .0) (c .before .before .before .before .put-number4 .ensures)
+put-number-requires-5 c κs =
+    let first = c .before .before .before .before in
+    put-room (first .before .before .before .before .before .before .pre .0) (first .put-number4 .ensures)
 
--- src/list.rt:81:23
 sub-put-body : tie.Need-sub-put-body
 sub-put-body c = inside c .1
 
--- src/list.rt:81:23
 part-put-body-start : tie.Need-part-put-body-start
 part-put-body-start c = let f = inside c in omega arith
 
--- src/list.rt:81:23
 part-put-body-end : tie.Need-part-put-body-end
 part-put-body-end c = let f = inside c in omega arith
 
--- src/list.rt:81:14
 put-body-requires : tie.Need-put-body-requires
 put-body-requires c κs = search needs
 
--- src/list.rt:80:33
 get-u32-requires-3 : tie.Need-get-u32-requires-3
 get-u32-requires-3 c κs = let f = at-6 c in omega arith
 
--- src/list.rt:80:33
 cast-put-number-6 : tie.Need-cast-put-number-6
 cast-put-number-6 c = search needs
 
--- src/list.rt:80:22
 put-number-requires-6 : tie.Need-put-number-requires-6
 put-number-requires-6 c κs = search needs
 
--- src/list.rt:66:1
 same-length : tie.Need-same-length
 same-length c = search needs
 
--- src/list.rt:66:1
 returns : tie.Need-returns
 returns c =
     let m = c .before .before .before .before .before in
@@ -177,42 +152,44 @@ returns c =
     ∙ one-number (a .rest .now) (a .kind) (a .header) (a .size) (omega arith) 2 (class-4 _ (m .match .keys1) .1) (omega arith))
     (c .before .before .put-number .ensures)
 
--- src/list.rt:66:1
 same-length-2 : tie.Need-same-length-2
 same-length-2 c = search needs
 
--- src/list.rt:66:1
 returns-2 : tie.Need-returns-2
 returns-2 c =
-    let m = c .before .before .before .before .before .before .before .before .before .before in
-    let a = m .before .before .before .args in
+    let first = c .before .before .before .before .before .before .before in
+    let value = first .before .before in
+    let m = value .before in
+    let start = m .before .before .before in
+    let a = start .args in
     let f = at-5 m in
-    let last : number (part (a .header + 2) 1 (a .rest .now)) ≡ getD (a .rest .now) (a .header + 2) 0 = number-one (a .header + 2) (a .rest .now) (omega arith) in
+    let last : number (part (a .header + 2) 1 (a .rest .now)) ≡ getD (a .rest .now) (a .header + 2) 0 =
+    number-one (a .header + 2) (a .rest .now) (omega arith) in
     put-as
-    (ap₂ (λ (n k : ℕ). ((blank ∷ []) ++ decimalOf n) ++ ((blank ∷ []) ++ decimalOf k)) (c .before .before .before .before .before .before .before .before .before .get-u162 .ensures) (sym last)
+    (ap₂ (λ (n k : ℕ). ((blank ∷ []) ++ decimalOf n) ++ ((blank ∷ []) ++ decimalOf k)) (value .get-u162 .ensures) (sym last)
     ∙ two-numbers (a .rest .now) (a .kind) (a .header) (a .size) (omega arith) 2 1 (class-5 _ (m .match .keys2) .1) (omega arith))
-    (put-append (m .before .before .before .pre .0) (c .before .before .before .before .before .before .before .put-number2 .ensures) (c .before .before .put-number3 .ensures))
+    (put-append (start .pre .0) (first .put-number2 .ensures) (c .before .before .put-number3 .ensures))
 
--- src/list.rt:66:1
 same-length-3 : tie.Need-same-length-3
 same-length-3 c = search needs
 
--- src/list.rt:66:1
 returns-3 : tie.Need-returns-3
 returns-3 c =
-    let m = c .before .before .before .before .before .before .before .before .before .before in
-    let a = m .before .before .before .args in
+    let second = c .before .before .before .before in
+    let first = second .before .before .before in
+    let value = first .before .before in
+    let m = value .before in
+    let start = m .before .before .before in
+    let a = start .args in
     let f = at-8 m in
     put-as
-    (ap₂ (λ (n k : ℕ). ((blank ∷ []) ++ decimalOf n) ++ ((blank ∷ []) ++ decimalOf k)) (c .before .before .before .before .before .before .before .before .before .get-u32 .ensures) (c .before .before .before .before .get-u322 .ensures)
+    (ap₂ (λ (n k : ℕ). ((blank ∷ []) ++ decimalOf n) ++ ((blank ∷ []) ++ decimalOf k)) (value .get-u32 .ensures) (second .get-u322 .ensures)
     ∙ two-numbers (a .rest .now) (a .kind) (a .header) (a .size) (omega arith) 4 4 (class-8 _ (m .match .keys3) .1) (omega arith))
-    (put-append (m .before .before .before .pre .0) (c .before .before .before .before .before .before .before .put-number4 .ensures) (c .before .before .put-number5 .ensures))
+    (put-append (start .pre .0) (first .put-number4 .ensures) (c .before .before .put-number5 .ensures))
 
--- src/list.rt:66:1
 same-length-4 : tie.Need-same-length-4
 same-length-4 c = search needs
 
--- src/list.rt:66:1
 returns-4 : tie.Need-returns-4
 returns-4 c =
     let j = c .before .before .before .before .before in
@@ -225,11 +202,9 @@ returns-4 c =
     (none .0 .1))
     (c .before .before .put-body .ensures)
 
--- src/list.rt:66:1
 same-length-5 : tie.Need-same-length-5
 same-length-5 c = search needs
 
--- src/list.rt:66:1
 returns-5 : tie.Need-returns-5
 returns-5 c =
     let m = c .before .before .before .before .before in

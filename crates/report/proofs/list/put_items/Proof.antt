@@ -16,10 +16,6 @@ use Rattle.report.proofs.Fields.{option-within}
 use Rattle.report.proofs.Items.{Saying, saying-first, saying-found, saying-nop, saying-end, saying-eol, saying-unsound, saying-outlawed, saying-done}
 use Rattle.report.proofs.list.put_items.Statement.{statement}
 use Rattle.report.proofs.list.put_items.Tie as tie
-use Rattle.report.proofs.list.put_items.Reads as reads
-use Rattle.report.proofs.list.put_items.Lts as lts
-use Rattle.options.proofs.step.next.Reads as next-reads
-use Rattle.report.proofs.list.put_item.Reads as put-item-reads
 
 abbrev Inv-loop : tie.InvT-loop
 Inv-loop list text₀ at end₀ from₀ text end from = Saying list text₀ at text end from
@@ -74,58 +70,45 @@ bound s =
     let n : length (drop (from p) (list p)) ≡ length (list p) - from p = length-drop (from p) (list p) in
     (f .0, omega (arith, more p))
 
--- src/list.rt:27:5
 loop-holds : tie.Need-loop-holds Inv-loop μ-loop
 loop-holds c = let s = c .before .before in saying-first (s .args .list .now) (s .args .text .now) (s .args .at) (s .pre .1)
 
--- src/list.rt:28:31
 sub-next : tie.Need-sub-next Inv-loop μ-loop
 sub-next c = omega arith
 
--- src/list.rt:28:31
 part-next-start : tie.Need-part-next-start Inv-loop μ-loop
 part-next-start c = omega arith
 
--- src/list.rt:28:31
 part-next-end : tie.Need-part-next-end Inv-loop μ-loop
 part-next-end c = omega arith
 
--- src/list.rt:28:13
 next-requires : tie.Need-next-requires Inv-loop μ-loop
 next-requires c κs = search needs
 
--- src/list.rt:30:27
 enum-known-step : tie.Need-enum-known-step Inv-loop μ-loop
 enum-known-step c = search needs
 
--- src/list.rt:31:32
 sub-put-item : tie.Need-sub-put-item Inv-loop μ-loop
 sub-put-item c = omega (arith, more (c .before .before .before))
 
--- src/list.rt:31:32
 part-put-item-start : tie.Need-part-put-item-start Inv-loop μ-loop
 part-put-item-start c = omega (arith, more (c .before .before .before))
 
--- src/list.rt:31:32
 part-put-item-end : tie.Need-part-put-item-end Inv-loop μ-loop
 part-put-item-end c = omega (arith, more (c .before .before .before))
 
--- src/list.rt:31:17
 put-item-requires : tie.Need-put-item-requires Inv-loop μ-loop
 put-item-requires c κs =
     let s = c .before .before .before in
     let p = s .before .before in
     (put-room (start p .pre .0) (inv p .put), ap stepOf (all p) ∙ found s)
 
--- src/list.rt:32:17
 add-from : tie.Need-add-from Inv-loop μ-loop
 add-from c = omega (arith, bound (c .before .before .before .before .before .before))
 
--- src/list.rt:27:5
 loop-less : tie.Need-loop-less Inv-loop μ-loop
 loop-less c = let b = bound (c .before .before .before .before .before .before) in omega arith
 
--- src/list.rt:27:5
 loop-again : tie.Need-loop-again Inv-loop μ-loop
 loop-again c =
     let s = c .before .before .before .before .before .before in
@@ -133,75 +116,57 @@ loop-again c =
     saying-found (inv p) (more p) (start p .pre .0) (found s)
     (put-as (ap (λ (l : List ℕ). itemLine (itemOf (kindOf s) (headerOf s) (sizeOf s) l)) (all p)) (c .before .before .put-item .ensures))
 
--- src/list.rt:35:17
 enum-told : tie.Need-enum-told Inv-loop μ-loop
 enum-told c = search needs
 
--- src/list.rt:35:17
 add-from-2 : tie.Need-add-from-2 Inv-loop μ-loop
 add-from-2 c = omega (arith, more (c .before .before))
 
--- src/list.rt:27:5
 loop-less-2 : tie.Need-loop-less-2 Inv-loop μ-loop
 loop-less-2 c = omega (arith, more (c .before .before))
 
--- src/list.rt:27:5
 loop-again-2 : tie.Need-loop-again-2 Inv-loop μ-loop
 loop-again-2 c = let p = c .before .before in saying-nop (inv p) (more p) (stepped p ∙ c .enum-told .given .1)
 
--- src/list.rt:38:17
 enum-told-2 : tie.Need-enum-told-2 Inv-loop μ-loop
 enum-told-2 c = search needs
 
--- src/list.rt:38:17
 same-length : tie.Need-same-length Inv-loop μ-loop
 same-length c = let p = c .before .before in put-length (start p .pre .0) (inv p .put)
 
--- src/list.rt:38:17
 returns : tie.Need-returns Inv-loop μ-loop
 returns c = let p = c .before .before in saying-end (inv p) (more p) (stepped p ∙ c .enum-told2 .given .1)
 
--- src/list.rt:41:17
 enum-told-3 : tie.Need-enum-told-3 Inv-loop μ-loop
 enum-told-3 c = search needs
 
--- src/list.rt:41:17
 same-length-2 : tie.Need-same-length-2 Inv-loop μ-loop
 same-length-2 c = let p = c .before .before in put-length (start p .pre .0) (inv p .put)
 
--- src/list.rt:41:17
 returns-2 : tie.Need-returns-2 Inv-loop μ-loop
 returns-2 c = let p = c .before .before in saying-eol (inv p) (more p) (stepped p ∙ c .enum-told3 .given .1)
 
--- src/list.rt:44:17
 enum-told-4 : tie.Need-enum-told-4 Inv-loop μ-loop
 enum-told-4 c = search needs
 
--- src/list.rt:44:17
 same-length-3 : tie.Need-same-length-3 Inv-loop μ-loop
 same-length-3 c = let p = c .before .before in put-length (start p .pre .0) (inv p .put)
 
--- src/list.rt:44:17
 returns-3 : tie.Need-returns-3 Inv-loop μ-loop
 returns-3 c = let p = c .before .before in saying-unsound (inv p) (more p) (stepped p ∙ c .enum-told4 .given .1)
 
--- src/list.rt:47:17
 enum-told-5 : tie.Need-enum-told-5 Inv-loop μ-loop
 enum-told-5 c = search needs
 
--- src/list.rt:47:17
 same-length-4 : tie.Need-same-length-4 Inv-loop μ-loop
 same-length-4 c = let p = c .before .before in put-length (start p .pre .0) (inv p .put)
 
--- src/list.rt:47:17
 returns-4 : tie.Need-returns-4 Inv-loop μ-loop
 returns-4 c = let p = c .before .before in saying-outlawed (inv p) (more p) (stepped p ∙ c .enum-told5 .given .1)
 
--- src/list.rt:21:1
 same-length-5 : tie.Need-same-length-5 Inv-loop μ-loop
 same-length-5 c = let l = c .before in put-length (l .before .before .before .pre .0) (l .loop .inv .put)
 
--- src/list.rt:21:1
 returns-5 : tie.Need-returns-5 Inv-loop μ-loop
 returns-5 c = saying-done (c .before .loop .inv) (c .loop-test .left)
 

@@ -5,23 +5,17 @@ use Rattle.report.specs.Digits.{hexDigit}
 use borrow.Author.Needs.{needs}
 use Rattle.report.proofs.text.hex_digit.Statement.{statement}
 use Rattle.report.proofs.text.hex_digit.Tie as tie
-use Rattle.report.proofs.text.hex_digit.Reads as reads
-use Rattle.report.proofs.text.hex_digit.Lts as lts
 
--- src/text.rt:69:16
 add-result : tie.Need-add-result
 add-result c = search needs
 
--- src/text.rt:69:9
 returns : tie.Need-returns
 unfolding hexDigit
 returns c = simp (lt-ltb _ _ (c .if1 .taken))
 
--- src/text.rt:71:5
 add-result-2 : tie.Need-add-result-2
 add-result-2 c = search needs
 
--- src/text.rt:64:1
 returns-2 : tie.Need-returns-2
 unfolding hexDigit
 returns-2 c = simp (le-ltb _ _ (c .if1 .left))

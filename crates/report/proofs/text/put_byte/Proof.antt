@@ -8,32 +8,22 @@ use Rattle.report.proofs.Puts.{put-as}
 use borrow.Author.Needs.{needs}
 use Rattle.report.proofs.text.put_byte.Statement.{statement}
 use Rattle.report.proofs.text.put_byte.Tie as tie
-use Rattle.report.proofs.text.put_byte.Reads as reads
-use Rattle.report.proofs.text.put_byte.Lts as lts
-use Rattle.report.proofs.text.hex_digit.Reads as hex-digit-reads
-use Rattle.report.proofs.text.put.Reads as put-reads
 
--- src/text.rt:60:19
 hex-digit-requires : tie.Need-hex-digit-requires
 hex-digit-requires c κs = search needs
 
--- src/text.rt:60:41
 hex-digit-requires-2 : tie.Need-hex-digit-requires-2
 hex-digit-requires-2 c κs = search needs
 
--- src/text.rt:61:9
 slice-aggregate-put : tie.Need-slice-aggregate-put
 slice-aggregate-put c = search needs
 
--- src/text.rt:61:5
 put-requires : tie.Need-put-requires
 put-requires c κs = search needs
 
--- src/text.rt:56:1
 same-length : tie.Need-same-length
 same-length c = search needs
 
--- src/text.rt:56:1
 returns : tie.Need-returns
 unfolding hexOf
 returns c =

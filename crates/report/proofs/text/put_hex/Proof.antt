@@ -1,8 +1,7 @@
 -- `report::text::put_hex` meets its contract. The loop's invariant: the digits of the first `i` bytes are put.
 -- Assumes nothing.
-use mathlib.Core.Path.{_≡_, sym, ap, _∙_}
-use mathlib.Core.List.{List}
-use Prim.Native.Nat.{ℕ, _-_, _≤_}
+use mathlib.Core.Path.{_≡_, sym, ap}
+use Prim.Native.Nat.{_-_, _≤_}
 use native.Mathlib.Omega.{arith}
 use borrow.Author.Needs.{needs}
 use lib.ListN.{length, take}
@@ -13,9 +12,6 @@ use Rattle.report.proofs.Puts.{put-as, put-none, put-append, put-length
 use Rattle.report.proofs.Hexes.{hex-more}
 use Rattle.report.proofs.text.put_hex.Statement.{statement}
 use Rattle.report.proofs.text.put_hex.Tie as tie
-use Rattle.report.proofs.text.put_hex.Reads as reads
-use Rattle.report.proofs.text.put_hex.Lts as lts
-use Rattle.report.proofs.text.put_byte.Reads as put-byte-reads
 
 abbrev Inv-loop : tie.InvT-loop
 Inv-loop bytes text₀ at end₀ i₀ text end i = (i ≤ length bytes) × Put text₀ at (hexOf (take i bytes)) end text
@@ -23,28 +19,22 @@ Inv-loop bytes text₀ at end₀ i₀ text end i = (i ≤ length bytes) × Put t
 abbrev μ-loop : tie.MeasureT-loop
 μ-loop bytes text₀ at end₀ i₀ text end i = length bytes - i
 
--- src/text.rt:48:5
 loop-holds : tie.Need-loop-holds Inv-loop μ-loop
 unfolding hexOf
 loop-holds c = (search needs, put-none (c .before .before .args .text .now) (c .before .before .args .at))
 
--- src/text.rt:49:24
 shared-slice-read-put-byte : tie.Need-shared-slice-read-put-byte Inv-loop μ-loop
 shared-slice-read-put-byte c = omega arith
 
--- src/text.rt:49:9
 put-byte-requires : tie.Need-put-byte-requires Inv-loop μ-loop
 put-byte-requires c κs = let l = c .before .before .before in put-room (l .before .before .before .pre) (l .loop .inv .1)
 
--- src/text.rt:50:9
 add-i : tie.Need-add-i Inv-loop μ-loop
 add-i c = omega arith
 
--- src/text.rt:48:5
 loop-less : tie.Need-loop-less Inv-loop μ-loop
 loop-less c = omega arith
 
--- src/text.rt:48:5
 loop-again : tie.Need-loop-again Inv-loop μ-loop
 loop-again c =
     let l = c .before .before .before .before .before .before in
@@ -54,11 +44,9 @@ loop-again c =
       put-as (sym (hex-more (a .args .bytes .now) (l .loop .i) (omega arith))) (put-append (a .pre) h (c .before .before .put-byte .ensures)),
     )
 
--- src/text.rt:42:1
 same-length : tie.Need-same-length Inv-loop μ-loop
 same-length c = let l = c .before in put-length (l .before .before .before .pre) (l .loop .inv .1)
 
--- src/text.rt:42:1
 returns : tie.Need-returns Inv-loop μ-loop
 returns c =
     let l = c .before in
