@@ -58,5 +58,15 @@ for sample in samples/*.bin; do
     report "$sample" $?
 done
 
+# What readers in Python, written from the papers apart from this code, say of the same bytes.
+if command -v python3 >/dev/null 2>&1; then
+    PYTHONDONTWRITEBYTECODE=1
+    export PYTHONDONTWRITEBYTECODE
+    python3 tools/vectors/make.py stdout | cmp -s - crates/vectors/stdout
+    report vectors-predicted $?
+    python3 tools/samples/compare_random.py 1000
+    report random-datagrams $?
+fi
+
 echo "$passed passed, $failed failed"
 [ "$failed" -eq 0 ] && [ "$passed" -gt 0 ]

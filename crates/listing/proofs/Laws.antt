@@ -14,7 +14,36 @@ use Rattle.octets.proofs.Laws.{number-lt, number-octets, octets-number, length-
 use Rattle.varint.specs.SevenBit.{encoded}
 use Rattle.options.specs.Walk.{Item, optionLimit}
 use Rattle.listing.specs.Shape.{Shape, fields, raw, barred, shapeOf}
-use Rattle.listing.specs.Encoding.{given, unreadable, longestBody, encodedFields, encodedBody, encodedOption, encodedOptions, encodedList, Read, got, failed, andThen, readAs, readNumber, readFields, readBytes, readBody, itemOf, readKind, readOption, readOptions, toTheEnd, decodedList, total, Shaped, ValidOption, Each, Valid}
+use Rattle.listing.specs.Encoding.{
+  given,
+  unreadable,
+  longestBody,
+  encodedFields,
+  encodedBody,
+  encodedOption,
+  encodedOptions,
+  encodedList,
+  Read,
+  got,
+  failed,
+  andThen,
+  readAs,
+  readNumber,
+  readFields,
+  readBytes,
+  readBody,
+  itemOf,
+  readKind,
+  readOption,
+  readOptions,
+  toTheEnd,
+  decodedList,
+  total,
+  Shaped,
+  ValidOption,
+  Each,
+  Valid,
+}
 use Rattle.listing.proofs.Shapes.{Narrow, NarrowShape, ByteKind, shape-narrow, shape-byte}
 use Rattle.listing.proofs.Numbers.{bytes-drop, number-back, NumberRead, number-read, number-bytes, number-whole}
 

@@ -5,7 +5,7 @@ use crate::entry::Field;
 ghost use mathlib.Core.Path.{_≡_};
 ghost use Prim.Native.Nat.{_≤_};
 ghost use lib.ListN.{drop};
-ghost use Rattle.listing.specs.Encoding.{toTheEnd, readOptions, decodedList};
+ghost use Rattle.listing.specs.Encoding.{longestBody, toTheEnd, readOptions, decodedList};
 ghost use Rattle.listing.specs.Wire.{wholeLength, fieldsOnWire, measured, checkedAnswer, sizedAt, measuredAnswer};
 
 pub enum Checked {
@@ -91,7 +91,7 @@ fn measure_at(list: &[u8], at: usize) -> Measured
 }
 
 fn whole(body: usize, next: usize) -> Measured
-    requires { ⌜ body ≤ 65531 ⌝ }
+    requires { ⌜ body ≤ longestBody ⌝ }
     ensures { λ r. ⌜ r ≡ Measured.Whole (wholeLength body) next ⌝ }
 {
     if body <= LONGEST_SHORT_BODY {

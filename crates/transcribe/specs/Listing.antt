@@ -11,7 +11,7 @@ use Rattle.varint.specs.SevenBit.{encoded}
 use Rattle.options.specs.Kinds.{apc}
 use Rattle.options.specs.Walk.{Item, Walked, listed, faulty}
 use Rattle.listing.specs.Shape.{shapeOf}
-use Rattle.listing.specs.Encoding.{Answer, given, refused, itemOf, encodedBody, encodedList}
+use Rattle.listing.specs.Encoding.{Answer, given, refused, itemOf, encodedBody, encodedList, longestBody}
 use Rattle.transcribe.specs.declared.Listed.{Listed}
 use Rattle.transcribe.specs.declared.Listed.the-variants.{Written, Full}
 use Rattle.transcribe.specs.declared.Content.{Content}
@@ -79,7 +79,7 @@ abbrev pub Within : List ℕ → Content → Type 0
 Within rest Bare = Unit {0}
 Within rest (One first) = Unit {0}
 Within rest (Two first second) = Unit {0}
-Within rest (Raw start size) = (start + size ≤ length rest) × (size ≤ 65531)
+Within rest (Raw start size) = (start + size ≤ length rest) × (size ≤ longestBody)
 
 -- what stands behind the kind of `item` in an encoded option list
 pub record ContentOf (rest : List ℕ) (item : Item) (content : Content) : Type 0 where

@@ -1,0 +1,76 @@
+#!/usr/bin/env python3
+"""Compares the program with make_samples.py's reading of document 01 on random datagrams that stay close to the rules."""
+import os, random, struct, subprocess, sys
+from collections import Counter
+from make_samples import SRC, DST, FIXED, area_of, expected, opt, udp
+
+HERE = os.path.dirname(os.path.abspath(__file__))
+PROGRAM = os.path.join(HERE, "..", "..", "target", "bin", "inspect")
+COUNT = int(sys.argv[1]) if len(sys.argv) > 1 else 2000
+rng = random.Random(9868)
+
+
+def some_bytes(n):
+    return bytes(rng.randrange(256) for _ in range(n))
+
+
+def frag(at):
+    whole = rng.choice([10, 12, 10, 12, 11])
+    start = at + whole + rng.choice([0, 0, 1, 4, 9, -1])
+    fields = struct.pack(">HIH", start, rng.getrandbits(32), rng.choice([8, 9, 500, 7, 0, 8]))
+    return opt(3, (fields + struct.pack(">H", rng.choice([8, 40, 7, 8])) + b"\0\0")[:whole - 2])
+
+
+def one_option(at):
+    k = rng.random()
+    if k < 0.12:
+        return b"\x01"
+    if k < 0.16:
+        return b"\0" + some_bytes(rng.randrange(4))
+    if k < 0.22:
+        return frag(at)
+    if k < 0.25:
+        return bytes([rng.randrange(192, 256)]) + some_bytes(rng.randrange(3))
+    if k < 0.62:
+        kind = rng.choice(list(FIXED))
+        extra = rng.choice([0] * 12 + [1, -1])
+        return opt(kind, some_bytes(FIXED[kind] - 2 + extra))
+    if k < 0.66:
+        return some_bytes(rng.randrange(1, 5))
+    if k < 0.70:
+        size = rng.choice([254, 255, 256, 300])
+        return bytes([rng.randrange(9, 192), 255]) + struct.pack(">H", size) + some_bytes(rng.choice([size - 4, size - 4, size - 5]))
+    return opt(rng.choice([9, 10, 127, 190, 191]), some_bytes(rng.choice([0, 0, 1, 2, 7, 252, 253])))
+
+
+def datagram():
+    user = some_bytes(rng.choice([0, 0, 0, 1, 2, 3, 32]))
+    size = 8 + len(user)
+    options = b""
+    base = size + size % 2 + 2
+    if rng.random() < 0.25:
+        options = b"\x01" * rng.randrange(3)
+        options += frag(base + len(options))
+    for _ in range(rng.choice([0, 1, 2, 3, 5, 8, 31, 32, 33, 34])):
+        options += one_option(base + len(options)) if rng.random() < 0.5 else opt(rng.choice([4, 9, 191]), b"\x05\xdc")
+    ocs = None if rng.random() < 0.9 else rng.choice([0, 1, 0xFFFF])
+    area = area_of(options, size=size, ocs=ocs)
+    if rng.random() < 0.05:
+        area = area[:rng.randrange(4)]
+    if size % 2 and area and rng.random() < 0.05:
+        area = b"\x01" + area[1:]
+    checksum = None if rng.random() < 0.85 else rng.choice([0, 0, 0x1234])
+    length = None if rng.random() < 0.97 else rng.choice([0, 7, size + len(area), size + len(area) + 1])
+    return SRC + DST + udp(area, user=user, checksum=checksum, length=length)
+
+
+seen = Counter()
+for i in range(COUNT):
+    data = datagram()
+    want = expected(data)
+    got = subprocess.run([PROGRAM], input=data, stdout=subprocess.PIPE).stdout.decode("latin-1")
+    seen[want.split("\n")[0] if want.startswith("refused") else want.split("\n")[1]] += 1
+    if got != want:
+        print("differs:", data.hex(), "\nwanted:", want, "\ngot:", got)
+        sys.exit(1)
+print(COUNT, "agree:", dict(seen))

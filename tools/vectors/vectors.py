@@ -1,0 +1,453 @@
+"""The vectors: groups of packets and originals, each with what document 01 says of it."""
+import reader
+from parts import *
+from reader import crc32c
+
+A = b"\x41"
+AB = b"\x41\x42"
+ZEROS = bytes(32)
+P, O = Packet, Original
+
+
+def without_pseudo_header(data):
+    """The checksum of a datagram summed without the pseudo-header."""
+    return reader.sent(reader.words(PORTS + n(8 + len(data), 2) + b"\0\0" + data))
+
+
+def over_everything(data, surplus):
+    """The checksum summed to the payload's end and not to L."""
+    size = 8 + len(data)
+    return reader.sent(reader.words(reader.pseudo(SOURCE, DESTINATION, size) + PORTS + n(size, 2) + b"\0\0" + data + surplus))
+
+
+def other_parity(options):
+    """The option checksum behind a pad whose sum is right if words are paired from the area's first byte."""
+    body = b"".join(o.data for o in options)
+    for ocs in range(1, 65536):
+        whole = b"\0" + n(ocs, 2) + body
+        if reader.fold(len(whole) + reader.words(whole)) == 0xFFFF:
+            return ocs
+
+
+def last_byte_low(options):
+    """The option checksum at an even offset whose sum is right if a single last byte is the low half of its word."""
+    body = b"".join(o.data for o in options)
+    return reader.sent(2 + len(body) + reader.words(body[:-1]) + body[-1])
+
+
+GROUPS = {}
+
+
+def group(module, function, comment, *vectors):
+    GROUPS.setdefault(module, []).append((function, comment, vectors))
+
+
+# ---------------------------------------------------------------- figures and refusals
+group("refusals", "figures", "Document 01's figures.",
+      P("figure-1", "read 1", [REQ(300)]),
+      P("figure-2", "read 1", [REQ(300)], A),
+      P("figure-3", "read 0", []),
+      P("figure-4", "read 1", [REQ(63985)]),
+      P("figure-5", "short", surplus=b"\x2a"),
+      P("figure-6", "pad", data=A, surplus=b"\x01\xff\xfd"),
+      P("figure-7", "malformed", [raw("kind 6 of 5 bytes", "0605000000")]))
+
+group("refusals", "sizes", "Refusals 1 and 3.",
+      P("no-bytes", "refused 1", whole=b"", note="No bytes."),
+      P("seven-bytes", "refused 1", whole=bytes.fromhex("04d2162e000800"), note="A header without its last byte."),
+      P("eight-bytes", "none", udp=0),
+      P("length-0", "refused 3", size=0, udp=0),
+      P("length-7", "refused 3", size=7, udp=0),
+      P("length-7-bad-checksum", "refused 3", size=7, udp=0xFFFF, note="3 comes before 4."),
+      P("length-one-past", "refused 3", data=A, size=10, udp=0),
+      P("length-65535", "refused 3", [REQ(300)], size=65535, udp=0))
+
+group("refusals", "checksums", "Refusal 4, and checksums that pass.",
+      P("checksum-even", "none", data=AB),
+      P("checksum-odd", "none", data=b"\x41\x42\x43"),
+      P("checksum-wrong-even", "refused 4", data=AB, udp=0x1234),
+      P("checksum-wrong-odd", "refused 4", data=b"\x41\x42\x43", udp=0x1234),
+      P("checksum-zero", "none", data=AB, udp=0),
+      P("checksum-ffff", "none", data=bytes.fromhex("f89d"), note="All else sums to ffff, so ffff is sent."),
+      P("checksum-no-pseudo-header", "refused 4", data=AB, udp=without_pseudo_header(AB), note="The sum of the datagram alone."),
+      P("checksum-whole-payload", "refused 4", data=AB, surplus=b"\x01", udp=over_everything(AB, b"\x01"),
+        note="The sum over the area too: it has to end at L."))
+
+group("refusals", "addresses", "Checksums under other addresses.",
+      P("other-source", "refused 4", data=AB, addresses=(bytes([192, 0, 2, 2]), DESTINATION), note="From 192.0.2.2."),
+      P("other-destination", "refused 4", data=AB, addresses=(SOURCE, bytes([198, 51, 100, 8])), note="To 198.51.100.8."),
+      P("other-source-unused", "none", data=AB, udp=0, addresses=(bytes([192, 0, 2, 2]), DESTINATION), note="From 192.0.2.2."),
+      P("exchanged", "none", data=AB, addresses=(DESTINATION, SOURCE), note="The two addresses exchanged: the same sum."))
+
+# ---------------------------------------------------------------- the start of the area
+group("verdicts", "starts", "No area, areas too short, and pads.",
+      P("none-odd", "none", data=A),
+      P("short-odd-1", "short", data=A, surplus=b"\x00"),
+      P("short-odd-2", "short", data=A, surplus=b"\x00\x00"),
+      P("short-odd-pad-1", "short", data=A, surplus=b"\x07"),
+      P("short-odd-pad-2", "short", data=A, surplus=b"\x07\x00"),
+      P("pad-unsummed", "pad", data=A, surplus=b"\x07\x00\x00", note="Pad comes before unsummed."),
+      P("pad-summed", "pad", [REQ(300)], A, pad=7),
+      P("pad-unused-sums", "pad", data=A, udp=0, surplus=b"\x80\x00\x00"))
+
+group("verdicts", "unsummed", "No option checksum.",
+      P("unsummed-even", "unsummed", [REQ(300)], AB, ocs=0),
+      P("unsummed-odd", "unsummed", [REQ(300)], A, ocs=0),
+      P("unsummed-malformed", "unsummed", [raw("REQ cut short", "0606")], ocs=0, note="Unsummed comes before malformed."),
+      P("unsummed-unsafe", "unsummed", [K(192)], AB, ocs=0),
+      P("both-zero-empty", "read 0", [], udp=0, ocs=0),
+      P("both-zero-even", "read 1", [REQ(300)], AB, udp=0, ocs=0),
+      P("both-zero-odd", "read 1", [REQ(300)], A, udp=0, ocs=0),
+      P("both-zero-malformed", "malformed", [raw("REQ cut short", "0606")], udp=0, ocs=0))
+
+group("verdicts", "sums", "Option checksums, right and wrong.",
+      P("badsum-even", "badsum", [REQ(300)], AB, ocs=0xF8C4),
+      P("badsum-odd", "badsum", [REQ(300)], A, ocs=0xF8C5),
+      P("badsum-malformed", "badsum", [raw("REQ cut short", "0606")], ocs=0xFFFF, note="Badsum comes before malformed."),
+      P("badsum-no-length", "badsum", [REQ(300)], ocs=0xF8CD, note="The area's length is not in this sum."),
+      P("badsum-other-parity", "badsum", [REQ(300)], A, ocs=other_parity([REQ(300)]), note="Paired from the area's first byte."),
+      P("unused-udp-right", "read 1", [REQ(300)], AB, udp=0),
+      P("unused-udp-wrong", "badsum", [REQ(300)], AB, udp=0, ocs=0x0001),
+      P("unused-udp-odd", "read 1", [REQ(300)], A, udp=0))
+
+group("verdicts", "missing_bytes", "Areas that end at an odd offset: the missing byte counts as 0.",
+      P("odd-end-even-start", "read 1", [MRDS(1500, 7)], AB),
+      P("odd-end-odd-start", "read 1", [MRDS(1500, 7)], A),
+      P("odd-end-swapped", "badsum", [MRDS(1500, 7)], AB, ocs=last_byte_low([MRDS(1500, 7)]), note="The last byte counted as the low half of its word."),
+      P("ocs-ffff-odd", "read 1", [REQ(63984)], A, note="All else sums to ffff."),
+      P("ocs-ffff-wrong", "badsum", [REQ(63986)], ocs=0xFFFF))
+
+# ---------------------------------------------------------------- kinds and lengths
+group("lengths", "kinds", "Each kind at its own length.",
+      P("every-fixed-kind", "read 6 wrong", [APC(1), MDS(1500), MRDS(9000, 4), REQ(1), RES(2), TIME(3, 4)], AB),
+      P("varying-kinds", "read 6", [K(9), K(10, "00"), K(126, "0203"), K(127), K(128, "c0"), K(191, "00000000")], AB),
+      P("repeated-kind", "read 3", [REQ(1), REQ(1), REQ(2)], AB),
+      P("nops-between", "read 2", [NOP, REQ(1), NOP, NOP, RES(1), NOP], AB),
+      P("nops-only", "read 0", [NOP] * 9, AB),
+      P("body-of-unsafe-bytes", "read 1", [K(9, "ffc003000101")], AB))
+
+group("lengths", "short_of", "A fixed kind one byte short of its own length.",
+      P("apc-5", "malformed", [raw("APC of 5 bytes", "0205000000"), REQ(1)]),
+      P("mds-3", "malformed", [raw("MDS of 3 bytes", "040305")]),
+      P("mrds-4", "malformed", [raw("MRDS of 4 bytes", "050405dc")]),
+      P("req-5", "malformed", [raw("REQ of 5 bytes", "0605000001"), NOP]),
+      P("res-5", "malformed", [raw("RES of 5 bytes", "0705000001"), NOP]),
+      P("time-9", "malformed", [raw("TIME of 9 bytes", "080900000001000000"), NOP]),
+      P("mds-2", "malformed", [raw("MDS of 2 bytes", "0402"), EOL]))
+
+group("lengths", "past", "A fixed kind one byte over its own length.",
+      P("apc-7", "malformed", [raw("APC of 7 bytes", "02070000000000")]),
+      P("mds-5", "malformed", [raw("MDS of 5 bytes", "040505dc00")]),
+      P("mrds-6", "malformed", [raw("MRDS of 6 bytes", "050605dc0100")]),
+      P("req-7", "malformed", [raw("REQ of 7 bytes", "06070000000100")]),
+      P("res-7", "malformed", [raw("RES of 7 bytes", "07070000000100")]),
+      P("time-11", "malformed", [raw("TIME of 11 bytes", "080b000000010000000200")]),
+      P("req-10", "malformed", [raw("REQ of 10 bytes", "060a0000000100000002")]))
+
+group("lengths", "unsafe_kinds", "Kinds 192 to 255.",
+      P("unsafe-192", "unsafe", [K(192, "00")]),
+      P("unsafe-255", "unsafe", [K(255)]),
+      P("unsafe-with-data", "unsafe", [K(193)], AB),
+      P("unsafe-length-0", "unsafe", [raw("kind 254, length byte 0", "fe00")], note="Its length is not looked at."),
+      P("unsafe-behind-option", "unsafe", [REQ(1), NOP, K(192)], A),
+      P("unsafe-behind-malformed", "malformed", [raw("kind 9, length byte 1", "0901"), K(192)]),
+      P("unsafe-before-malformed", "unsafe", [K(192), raw("kind 9, length byte 1", "0901")]),
+      P("safe-191", "read 1", [K(191)]))
+
+group("lengths", "length_bytes", "Length bytes 0, 1 and 2.",
+      P("kind-9-length-0", "malformed", [raw("kind 9, length byte 0", "0900"), NOP]),
+      P("kind-9-length-1", "malformed", [raw("kind 9, length byte 1", "0901"), NOP]),
+      P("kind-9-length-2", "read 1", [K(9), NOP]),
+      P("kind-127-length-2", "read 1", [K(127)]),
+      P("kind-191-length-1", "malformed", [raw("kind 191, length byte 1", "bf01"), NOP]),
+      P("req-length-0", "malformed", [raw("REQ, length byte 0", "060000000001")]),
+      P("req-length-1", "malformed", [raw("REQ, length byte 1", "060100000001")]))
+
+group("lengths", "ends", "Options at the end of the area.",
+      P("to-the-end", "read 1", [K(9, "aabb")]),
+      P("one-past-the-end", "malformed", [raw("kind 9, length byte 5, with 4 bytes", "0905aabb")]),
+      P("far-past-the-end", "malformed", [REQ(1), raw("kind 9, length byte 254, with 3 bytes", "09feaa")]),
+      P("req-one-past-the-end", "malformed", [raw("REQ without its last byte", "0606000001")]),
+      P("extended-without-length", "malformed", [raw("kind 9, length byte 255, nothing behind", "09ff")]),
+      P("extended-half-length", "malformed", [raw("kind 9, length byte 255, half a length", "09ff01")]),
+      P("extended-cut-short", "malformed", [raw("kind 9, extended length 255, no body", "09ff00ff")]))
+
+group("lengths", "last_bytes", "A kind byte as the last byte.",
+      P("last-byte-0", "read 1 fill 1", [K(9), EOL]),
+      P("last-byte-1", "read 1", [K(9), NOP]),
+      P("last-byte-2", "malformed", [K(9), raw("kind 2", "02")]),
+      P("last-byte-3", "malformed", [raw("kind 3", "03")]),
+      P("last-byte-6", "malformed", [K(9), raw("kind 6", "06")]),
+      P("last-byte-9", "malformed", [K(9), raw("kind 9", "09")]),
+      P("last-byte-191", "malformed", [K(9), raw("kind 191", "bf")]),
+      P("last-byte-192", "unsafe", [K(9), raw("kind 192", "c0")]))
+
+group("large", "sound", "The short form up to 254 bytes and the extended one from 255. A body is all c0: a byte of it taken for a kind is unsafe.",
+      P("short-254", "read 1", [raw("kind 9 of 254 bytes", "09fe")], fill=(0xC0, 8 + 2 + 254)),
+      P("extended-255", "read 1", [raw("kind 9 of 255 bytes", "09ff00ff")], fill=(0xC0, 8 + 2 + 255)),
+      P("extended-256", "read 1", [raw("kind 9 of 256 bytes", "09ff0100")], fill=(0xC0, 8 + 2 + 256)),
+      P("extended-256-kind-191", "read 1", [raw("kind 191 of 256 bytes", "bfff0100")], AB, fill=(0xC0, 10 + 2 + 256)),
+      P("extended-255-nops", "read 2", [REQ(1), raw("kind 9 of 255 bytes", "09ff00ff")], A, fill=(1, 10 + 2 + 6 + 255 + 3),
+        note="Three NOPs are left behind the body."))
+
+group("large", "malformed", "Extended lengths that are too small or run past the end.",
+      P("extended-254", "malformed", [raw("kind 9, extended length 254", "09ff00fe")], fill=(1, 8 + 2 + 254)),
+      P("extended-0", "malformed", [raw("kind 9, extended length 0", "09ff0000")], fill=(1, 8 + 2 + 256)),
+      P("extended-4", "malformed", [raw("kind 9, extended length 4", "09ff0004")], fill=(1, 8 + 2 + 256)),
+      P("extended-255-cut", "malformed", [raw("kind 9, extended length 255, one byte missing", "09ff00ff")], fill=(1, 8 + 2 + 254)),
+      P("extended-256-cut", "malformed", [raw("kind 9, extended length 256, one byte missing", "09ff0100")], fill=(1, 8 + 2 + 255)))
+
+group("large", "other_kinds", "The extended form on a fixed kind is malformed, on an unsafe one unsafe.",
+      P("extended-req-6", "malformed", [raw("REQ, extended length 6", "06ff0006")], fill=(1, 8 + 2 + 256)),
+      P("extended-req-255", "malformed", [raw("REQ, extended length 255", "06ff00ff")], fill=(1, 8 + 2 + 255)),
+      P("extended-apc-256", "malformed", [raw("APC, extended length 256", "02ff0100")], AB, fill=(1, 10 + 2 + 256)),
+      P("extended-frag-12", "malformed", [raw("FRAG, extended length 12", "03ff000c")], fill=(1, 8 + 2 + 256)),
+      P("extended-frag-256", "malformed", [raw("FRAG, extended length 256", "03ff0100")], fill=(1, 8 + 2 + 256)),
+      P("extended-unsafe", "unsafe", [raw("kind 192, extended length 4", "c0ff0004")], fill=(1, 8 + 2 + 256)))
+
+group("large", "largest", "The largest payload.",
+      P("largest-user-data", "none", size=65515, fill=(0xA5, 65515)),
+      P("largest-odd-length", "short", size=65513, fill=(0xA5, 65515)),
+      P("largest-option", "read 1", [raw("kind 9 of 65,505 bytes", "09ffffe1")], fill=(0xA5, 65515)),
+      P("largest-option-past", "malformed", [raw("kind 9, extended length 65,506", "09ffffe2")], fill=(0xA5, 65515)),
+      P("largest-extended-length", "malformed", [raw("kind 9, extended length 65,535", "09ffffff")], fill=(0xA5, 65515)),
+      P("largest-piece", "piece 65527 20-65515", [FRAG(20, 7, 65535)], fill=(0xC0, 65515)))
+
+group("large", "long_lists", "Long fills, NOPs without end, and unsafe bytes.",
+      P("fill-300", "read 1 fill 300", [REQ(1)], AB, fill=(0, 10 + 2 + 6 + 300)),
+      P("largest-fill", "read 0 fill 65505", [], fill=(0, 65515)),
+      P("largest-nops", "read 0", [], fill=(1, 65515)),
+      P("largest-unsafe", "unsafe", [], fill=(0xC0, 65515)))
+
+group("large", "refused", "One byte more than the largest payload: refusal 2 comes before 3 and 4.",
+      P("one-more", "refused 2", udp=0, fill=(0, 65516)),
+      P("one-more-length-0", "refused 2", size=0, udp=0, fill=(0, 65516)),
+      P("one-more-bad-checksum", "refused 2", udp=0x1234, fill=(0, 65516)),
+      P("largest-length-one-past", "refused 3", size=65516, udp=0, fill=(0, 65515)),
+      P("largest-bad-checksum", "refused 4", size=65515, udp=0x1234, fill=(0xA5, 65515)))
+
+# ---------------------------------------------------------------- EOL, counts, APC
+group("lists", "eol", "EOL at each position, and what stands behind it.",
+      P("eol-alone", "read 0 fill 1", [EOL]),
+      P("eol-and-zeros", "read 0 fill 4", [EOL, raw("zeros", "000000")], AB),
+      P("eol-and-bytes", "read 0 fill 4", [EOL, raw("bytes that are not looked at", "0906c0")], AB),
+      P("eol-between", "read 1 fill 7", [REQ(1), EOL, RES(2)], AB),
+      P("eol-last", "read 2 fill 1", [REQ(1), RES(2), EOL], A),
+      P("eol-behind-nop", "read 0 fill 3", [NOP, NOP, EOL, NOP, NOP]),
+      P("eol-before-malformed", "read 1 fill 3", [REQ(1), EOL, raw("kind 9, length byte 0", "0900")]),
+      P("eol-before-unsafe", "read 1 fill 3", [REQ(1), EOL, K(192)], AB))
+
+group("lists", "eol_order", "EOL and faults: the first met decides.",
+      P("eol-behind-malformed", "malformed", [raw("kind 9, length byte 0", "0900"), EOL]),
+      P("eol-behind-unsafe", "unsafe", [K(192), EOL, EOL]),
+      P("eol-in-a-body", "read 2", [K(9, "0000"), REQ(1)]),
+      P("eol-before-frag", "read 0 fill 15", [EOL, FRAG(21, 7, 8), fragment("aabbccdd")]),
+      P("eol-behind-nop-before-frag", "read 0 fill 15", [NOP, EOL, FRAG(22, 7, 8), fragment("aabbccdd")]),
+      P("eol-odd", "read 1 fill 2", [REQ(1), EOL, raw("a byte that is not looked at", "ff")], A))
+
+group("lists", "counts", "The 33rd option.",
+      P("32-options", "read 32", [many(32)]),
+      P("33-options", "crowded", [many(33)]),
+      P("33-options-with-data", "crowded", [many(33)], A),
+      P("33rd-malformed", "malformed", [many(32), raw("kind 9, length byte 1", "0901")]),
+      P("33rd-cut-short", "malformed", [many(32), raw("kind 9", "09")]))
+
+group("lists", "other_counts", "The 33rd option of other kinds, and what does not count.",
+      P("33rd-unsafe", "unsafe", [many(32), K(192)]),
+      P("33rd-frag", "malformed", [many(32), FRAG(86, 7, 8)]),
+      P("33rd-apc", "crowded", [many(32), APC(0)]),
+      P("34th-unsafe", "crowded", [many(33), K(192)]),
+      P("32-and-nops", "read 32 fill 3", [NOP, many(32), NOP, EOL, many(1)]),
+      P("31-and-req", "read 32", [many(31), REQ(1)], AB))
+
+group("lists", "apcs", "APC options.",
+      P("apc-right", "read 1 right", [APC(0xAA36918A)], ZEROS),
+      P("apc-wrong", "read 1 wrong", [APC(0x8A9136AA)], ZEROS, note="The other byte order."),
+      P("apc-of-nothing", "read 1 right", [APC(0)]),
+      P("apc-of-nothing-wrong", "read 1 wrong", [APC(1)]),
+      P("apc-odd", "read 1 right", [APC(crc32c(A))], A),
+      P("apc-digits", "read 2 right", [REQ(1), APC(0x839206E3)], b"123456789"),
+      P("apc-last-bit", "read 1 wrong", [APC(0x839206E2)], b"123456789"))
+
+group("lists", "several_apcs", "Several APC options: wrong if any differs.",
+      P("apc-two-right", "read 2 right", [APC(crc32c(AB)), APC(crc32c(AB))], AB),
+      P("apc-right-wrong", "read 2 wrong", [APC(crc32c(AB)), APC(1)], AB),
+      P("apc-wrong-right", "read 2 wrong", [APC(1), APC(crc32c(AB))], AB),
+      P("apc-two-that-differ", "read 2 wrong", [APC(1), APC(2)], AB),
+      P("apc-two-wrong", "read 2 wrong", [APC(1), APC(1)], AB),
+      P("apc-third-wrong", "read 3 wrong", [APC(crc32c(AB)), APC(crc32c(AB)), APC(1)], AB),
+      P("apc-right-behind-eol", "read 0 fill 7", [EOL, APC(crc32c(AB))], AB))
+
+group("lists", "silent_apcs", "APC options that are not reported.",
+      P("apc-before-malformed", "malformed", [APC(crc32c(AB)), raw("kind 9, length byte 1", "0901")], AB),
+      P("apc-before-unsafe", "unsafe", [APC(crc32c(AB)), K(192)], AB),
+      P("apc-on-badsum", "badsum", [APC(crc32c(AB))], AB, ocs=0x0001),
+      P("apc-on-a-piece", "piece 0 26-28", [FRAG(26, 7, 8), APC(0), fragment("aabb")]))
+
+# ---------------------------------------------------------------- FRAG
+group("fragments", "pieces", "FRAG in front.",
+      P("piece", "piece 0 20-24", [FRAG(20, 7, 8), fragment("aabbccdd")]),
+      P("last-piece", "piece 4 22-26 last 6", [FRAG(22, 7, 12, 14), fragment("aabbccdd")]),
+      P("piece-odd", "piece 100 20-23", [FRAG(20, 0xFFFFFFFF, 108), fragment("aabbcc")]),
+      P("piece-behind-nop", "piece 0 21-23", [NOP, FRAG(21, 7, 8), fragment("aabb")]),
+      P("piece-behind-nops", "piece 0 28-30", [NOP] * 8 + [FRAG(28, 7, 8), fragment("aabb")]),
+      P("piece-no-sums", "piece 0 20-22", [FRAG(20, 0, 8), fragment("aabb")], udp=0, ocs=0),
+      P("piece-unsummed", "unsummed", [FRAG(20, 7, 8), fragment("aabb")], ocs=0),
+      P("piece-badsum", "badsum", [FRAG(20, 7, 8), fragment("aabb")], ocs=0x1234))
+
+group("fragments", "positions", "FRAG elsewhere.",
+      P("frag-behind-option", "malformed", [MDS(1500), FRAG(24, 7, 8), fragment("aabb")]),
+      P("frag-behind-nop-and-option", "malformed", [NOP, K(9), FRAG(23, 7, 8), fragment("aabb")]),
+      P("frag-twice", "malformed", [FRAG(30, 7, 8), FRAG(30, 7, 8), fragment("aabb")]),
+      P("frag-behind-frag-cut", "malformed", [FRAG(21, 7, 8), raw("kind 3", "03"), fragment("aabb")]),
+      P("frag-in-the-fragment", "piece 0 20-30", [FRAG(20, 7, 8), FRAG(30, 7, 8)], note="The second FRAG is the fragment's bytes."),
+      P("frag-behind-eol-on-a-piece", "piece 0 31-33", [FRAG(31, 7, 8), EOL, FRAG(31, 7, 8), fragment("aabb")]),
+      P("frag-behind-apc-with-data", "malformed", [APC(crc32c(AB)), FRAG(28, 7, 8)], AB))
+
+group("fragments", "lengths", "FRAG's length byte.",
+      P("frag-9", "malformed", [FRAG(20, 7, 8, length=9), fragment("aabbcc")]),
+      P("frag-10", "piece 0 22-24", [FRAG(22, 7, 8), raw("two NOPs", "0101"), fragment("aabb")]),
+      P("frag-11", "malformed", [FRAG(22, 7, 8, length=11), raw("a byte", "01"), NOP, fragment("aabb")]),
+      P("frag-12", "piece 0 22-24 last 2", [FRAG(22, 7, 8, 10), fragment("aabb")]),
+      P("frag-13", "malformed", [FRAG(23, 7, 8, 10, length=13), raw("a byte", "01"), fragment("aabb")]),
+      P("frag-0", "malformed", [raw("FRAG, length byte 0", "03000014000000070008")]),
+      P("frag-one-past-the-end", "malformed", [raw("FRAG without its last byte", "030a00140000000700")]),
+      P("frag-12-one-past-the-end", "malformed", [raw("FRAG of 12 bytes without the last", "030c001600000007000800")]))
+
+group("fragments", "starts", "Frag. Start against FRAG's end and the payload's.",
+      P("start-at-frags-end", "piece 0 20-24", [FRAG(20, 9, 8), fragment("aabbccdd")]),
+      P("start-one-before", "malformed", [FRAG(19, 9, 8), fragment("aabbccdd")]),
+      P("start-one-before-12", "malformed", [FRAG(21, 9, 8, 8), fragment("aabbccdd")]),
+      P("start-at-frag", "malformed", [FRAG(10, 9, 8), fragment("aabbccdd")]),
+      P("start-0", "malformed", [FRAG(0, 9, 8), fragment("aabbccdd")]),
+      P("start-at-the-end", "piece 0 24-24", [FRAG(24, 9, 8), raw("four NOPs", "01010101")]),
+      P("start-one-past", "malformed", [FRAG(25, 9, 8), raw("four NOPs", "01010101")]),
+      P("start-65535", "malformed", [FRAG(65535, 9, 8), fragment("aabbccdd")]))
+
+group("fragments", "more_starts", "Frag. Start of pieces with no bytes, and behind NOPs.",
+      P("empty-piece", "piece 0 20-20", [FRAG(20, 9, 8)]),
+      P("empty-last-piece", "piece 92 22-22 last 92", [FRAG(22, 9, 100, 100)]),
+      P("start-behind-nops", "piece 0 23-24", [NOP, NOP, NOP, FRAG(23, 9, 8), fragment("aa")]),
+      P("start-one-before-behind-nops", "malformed", [NOP, NOP, NOP, FRAG(22, 9, 8), fragment("aa")]))
+
+group("fragments", "origins", "Frag. Offset and option start: 8 is the first user byte.",
+      P("offset-8", "piece 0 20-22", [FRAG(20, 9, 8), fragment("aabb")]),
+      P("offset-7", "malformed", [FRAG(20, 9, 7), fragment("aabb")]),
+      P("offset-0-last", "malformed", [FRAG(22, 9, 0, 10), fragment("aabb")], note="No exception for a single fragment."),
+      P("offset-65535", "piece 65527 20-22", [FRAG(20, 9, 65535), fragment("aabb")]),
+      P("option-start-8", "piece 0 22-24 last 0", [FRAG(22, 9, 8, 8), fragment("aabb")]),
+      P("option-start-7", "malformed", [FRAG(22, 9, 8, 7), fragment("aabb")]),
+      P("option-start-0", "malformed", [FRAG(22, 9, 8, 0), fragment("aabb")]),
+      P("option-start-65535", "piece 2 22-24 last 65527", [FRAG(22, 9, 10, 65535), fragment("aabb")]))
+
+group("fragments", "others", "Other options on a piece.",
+      P("piece-with-options", "piece 0 30-32", [FRAG(30, 9, 8), MDS(1500), REQ(1), fragment("aabb")]),
+      P("piece-option-to-the-start", "piece 0 24-26", [FRAG(24, 9, 8), K(9, "aabb"), fragment("0102")]),
+      P("piece-option-straddles", "malformed", [FRAG(24, 9, 8), raw("kind 9 of 5 bytes across Frag. Start", "0905aabb01"), fragment("02")]),
+      P("piece-kind-byte-before-the-start", "malformed", [FRAG(21, 9, 8), raw("kind 6", "06"), fragment("0600000001")]),
+      P("piece-malformed", "malformed", [FRAG(24, 9, 8), raw("kind 9, length byte 1", "0901"), K(9), fragment("aabb")]),
+      P("piece-unsafe", "unsafe", [FRAG(22, 9, 8), K(192), fragment("aabb")]),
+      P("piece-unsafe-last-byte", "unsafe", [FRAG(21, 9, 8), raw("kind 192", "c0"), fragment("aabb")]),
+      P("piece-unsafe-in-the-fragment", "piece 0 20-22", [FRAG(20, 9, 8), fragment("c002")]))
+
+group("fragments", "piece_ends", "EOL and counts on a piece.",
+      P("piece-eol", "piece 0 24-26", [FRAG(24, 9, 8), EOL, raw("zeros", "000000"), fragment("aabb")]),
+      P("piece-eol-and-bytes", "piece 0 24-26", [FRAG(24, 9, 8), EOL, raw("bytes that are not looked at", "c00600"), fragment("aabb")]),
+      P("piece-eol-behind-malformed", "malformed", [FRAG(23, 9, 8), raw("kind 9, length byte 0", "0900"), EOL, fragment("aabb")]),
+      P("frag-and-31", "piece 0 82-84", [FRAG(82, 9, 8), many(31), fragment("aabb")]),
+      P("frag-and-32", "crowded", [FRAG(84, 9, 8), many(32), fragment("aabb")]),
+      P("frag-and-31-eol", "piece 0 85-87", [FRAG(85, 9, 8), many(31), EOL, many(1), fragment("aabb")]))
+
+group("fragments", "piece_counts", "More counts on a piece.",
+      P("frag-31-and-options-behind", "piece 0 82-86", [FRAG(82, 9, 8), many(31), many(2)], note="The last four bytes are the fragment."),
+      P("frag-32nd-unsafe", "unsafe", [FRAG(84, 9, 8), many(31), K(192), fragment("aabb")]),
+      P("frag-32nd-malformed", "malformed", [FRAG(84, 9, 8), many(31), raw("kind 9, length byte 1", "0901"), fragment("aabb")]),
+      P("frag-31-and-nops", "piece 0 84-86", [FRAG(84, 9, 8), many(31), NOP, NOP, fragment("aabb")]))
+
+group("fragments", "with_data", "FRAG in a datagram with user data.",
+      P("fragdata-odd", "fragdata", [FRAG(22, 9, 8), fragment("aabb")], A),
+      P("fragdata-even", "fragdata", [FRAG(22, 9, 8), fragment("aabb")], AB),
+      P("fragdata-last", "fragdata", [FRAG(24, 9, 8, 8), fragment("aabb")], AB),
+      P("fragdata-behind-nop", "fragdata", [NOP, FRAG(23, 9, 8), fragment("aabb")], AB),
+      P("fragdata-before-malformed", "fragdata", [FRAG(24, 9, 8), raw("kind 9, length byte 1", "0901"), fragment("aabb")], AB),
+      P("fragdata-before-unsafe", "fragdata", [FRAG(24, 9, 8), K(192), fragment("aabb")], AB),
+      P("fragdata-twice", "fragdata", [FRAG(32, 9, 8), FRAG(32, 9, 8)], AB),
+      P("fragdata-no-sums", "fragdata", [FRAG(22, 9, 8)], AB, udp=0, ocs=0))
+
+group("fragments", "malformed_with_data", "A FRAG that fails its tests is malformed, with user data too.",
+      P("data-frag-11", "malformed", [FRAG(24, 9, 8, length=11), raw("two bytes", "0101"), fragment("aabb")], AB),
+      P("data-frag-cut", "malformed", [raw("FRAG without its last byte", "030a00160000000900")], AB),
+      P("data-start-before", "malformed", [FRAG(21, 9, 8), fragment("aabb")], AB),
+      P("data-start-past", "malformed", [FRAG(25, 9, 8), fragment("aabb")], AB),
+      P("data-start-at-the-end", "fragdata", [FRAG(24, 9, 8), fragment("aabb")], AB),
+      P("data-offset-7", "malformed", [FRAG(22, 9, 7), fragment("aabb")], AB),
+      P("data-option-start-7", "malformed", [FRAG(24, 9, 8, 7), fragment("aabb")], A),
+      P("data-frag-behind-option", "malformed", [K(9), FRAG(24, 9, 8), fragment("aabb")], AB))
+
+# ---------------------------------------------------------------- rereads
+group("rereads", "refusals", "Refusals 6 and 5, and originals with no area.",
+      O("nothing", "none", note="T 0."),
+      O("nothing-r-1", "refused 6", r=1, note="T 0."),
+      O("no-area-even", "none", data=AB),
+      O("no-area-odd", "none", data=A),
+      O("r-one-past", "refused 6", data=AB, r=3),
+      O("r-past-an-area", "refused 6", [K(192)], AB, r=7),
+      O("r-65535", "refused 6", data=AB, r=65535),
+      O("reread-unsafe", "refused 5", [K(192)], AB, ocs=0))
+
+group("rereads", "unsafe_kinds", "Refusal 5 is for the verdict unsafe alone.",
+      O("reread-unsafe-summed", "refused 5", [K(192)], A),
+      O("reread-unsafe-behind-option", "refused 5", [REQ(1), raw("kind 255", "ff")], AB, ocs=0),
+      O("reread-unsafe-behind-malformed", "malformed", [raw("kind 9, length byte 1", "0901"), K(192)], AB, ocs=0),
+      O("reread-unsafe-behind-eol", "read 0 fill 3", [EOL, K(192)], AB, ocs=0),
+      O("reread-unsafe-badsum", "badsum", [K(192)], AB, ocs=0x1234),
+      O("reread-unsafe-bad-pad", "pad", [K(192)], A, ocs=0, pad=1),
+      O("reread-33rd-unsafe", "refused 5", [many(32), K(192)], AB, ocs=0))
+
+group("rereads", "starts", "The start of the area: the pad follows the parity of r.",
+      O("reread-short-even", "short", data=AB, surplus=b"\x00"),
+      O("reread-short-odd", "short", data=A, surplus=b"\x00\x00"),
+      O("reread-short-bad-pad", "short", data=A, surplus=b"\x01\x00"),
+      O("reread-pad", "pad", data=A, surplus=b"\x01\x00\x00"),
+      O("reread-empty-list-even", "read 0", data=AB, surplus=b"\x00\x00"),
+      O("reread-empty-list-odd", "read 0", data=A, surplus=b"\x00\x00\x00"),
+      O("reread-r-0", "read 1", [REQ(300)]),
+      O("reread-r-0-unsummed", "read 1", [REQ(300)], ocs=0))
+
+group("rereads", "sums", "Option checksums in an original: 0 is unused, any other is tested.",
+      O("reread-unused-even", "read 1", [REQ(300)], AB, ocs=0),
+      O("reread-unused-odd", "read 1", [REQ(300)], A, ocs=0),
+      O("reread-right-even", "read 1", [REQ(300)], AB),
+      O("reread-right-odd", "read 1", [REQ(300)], A),
+      O("reread-wrong-even", "badsum", [REQ(300)], AB, ocs=0xF8C4),
+      O("reread-wrong-odd", "badsum", [REQ(300)], A, ocs=0xF8C5),
+      O("reread-other-parity", "badsum", [REQ(300)], A, ocs=other_parity([REQ(300)]), note="Paired from the area's first byte."),
+      O("reread-odd-end", "read 1", [MRDS(1500, 7)], A))
+
+group("rereads", "frags", "FRAG in an original is malformed.",
+      O("reread-frag", "malformed", [FRAG(14, 7, 8), fragment("aabb")], AB, ocs=0),
+      O("reread-frag-r-0", "malformed", [FRAG(20, 7, 8), fragment("aabb")], ocs=0),
+      O("reread-frag-behind-option", "malformed", [REQ(1), FRAG(20, 7, 8)], AB, ocs=0),
+      O("reread-frag-kind-byte", "malformed", [raw("kind 3", "03")], AB, ocs=0),
+      O("reread-frag-behind-nop", "malformed", [NOP, FRAG(15, 7, 8)], AB, ocs=0),
+      O("reread-frag-behind-eol", "read 0 fill 11", [EOL, FRAG(15, 7, 8)], AB, ocs=0))
+
+group("rereads", "lists", "Lists in an original.",
+      O("reread-malformed", "malformed", [raw("kind 6 of 5 bytes", "0605000000")], AB),
+      O("reread-fill", "read 1 fill 3", [REQ(1), EOL, raw("zeros", "0000")], AB),
+      O("reread-apc-right", "read 1 right", [APC(0x839206E3)], b"123456789"),
+      O("reread-apc-wrong", "read 1 wrong", [APC(0x839206E2)], b"123456789"),
+      O("reread-apc-two", "read 2 wrong", [APC(crc32c(AB)), APC(1)], AB),
+      O("reread-32", "read 32", [many(32)], AB, ocs=0),
+      O("reread-33", "crowded", [many(33)], AB, ocs=0))
+
+group("rereads", "largest", "The largest original.",
+      O("largest-original", "none", r=65507, fill=(0xA5, 65507)),
+      O("largest-original-odd", "short", r=65505, fill=(0xA5, 65507)),
+      O("largest-original-list", "read 1", [raw("kind 9 of 65,505 bytes", "09ffffe1")], fill=(0xA5, 65507)),
+      O("largest-original-r-past", "refused 6", r=65508, fill=(0, 65507)))
+
+group("rereads", "too_long", "One byte more: 2 comes before 6 and 5.",
+      O("original-one-more", "refused 2", r=0, fill=(0, 65508)),
+      O("original-one-more-r-past", "refused 2", r=65509, fill=(0, 65508)),
+      O("original-one-more-unsafe", "refused 2", [raw("kind 192", "c0")], ocs=0, r=0, fill=(0, 65508)))
