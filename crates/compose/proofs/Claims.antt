@@ -26,10 +26,11 @@ use Rattle.datagram.specs.declared.reading.Apc.the-variants.{Absent, Right, Wro
 use Rattle.datagram.specs.declared.reading.Verdict.the-variants.{Read}
 use Rattle.datagram.specs.declared.reading.Reading.{Reading}
 use Rattle.listing.specs.Shape.{Shape, fields, raw, barred, shapeOf}
-use Rattle.listing.specs.Encoding.{given, decodedList, encodedList, longestBody, Shaped, ValidOption, Each as EachValid, Valid, total}
+use Rattle.listing.specs.Encoding.{Answer, given, refused, decodedList, encodedList, longestBody, Shaped, ValidOption, Each as EachValid, Valid, total}
 use Rattle.listing.specs.Wire.{longestShort}
 use Rattle.transcribe.specs.Listing.{unworked, unworkedAll, listing}
 use Rattle.listing.proofs.Laws.{encode-decode}
+use Rattle.compose.specs.Answer.{tooLarge, fits, put, untouched, putWhole, outcomeBy, written, datagramFor}
 use Rattle.compose.specs.Payload.{worked, workedAll, listOf, Datagram, sizeOf, payloadOf}
 use Rattle.compose.proofs.Wires.{Wired, Each, walk-wires}
 use Rattle.compose.proofs.ReadBack.{Takes, backOf, listStart, same-count, list-there, walk-list, user-there, user-size, reading-back}
@@ -183,3 +184,48 @@ read-back d list oct decoded s t fits =
           (apc-back (d .user) (d .items));
       same-list = ap listing walk ∙ ap encodedList (all-unworked (d .user) (d .items) (valid .each)) ∙ both .0;
     }
+
+-- ---- the same, said of a call
+
+-- what a call that was taken leaves: the payload with the bytes behind it as they were, and it is read back
+pub record WroteBack (datagram : List Item → Datagram) (list buffer : List ℕ) (n : ℕ) : Type 0 where
+  pub items : List Item
+  pub decoded : decodedList list ≡ given items
+  pub size : n ≡ length (payloadOf (datagram items))
+  pub left : written datagram list buffer .buffer ≡ payloadOf (datagram items) ++ drop n buffer
+  pub back : ReadBack (datagram items) list (backOf (datagram items))
+
+both-true : (a b : Bool) → (a && b) ≡ true → a ≡ true
+both-true true b e = refl
+both-true false b e = absurd (let z : _≡_ {A = ℕ} 0 1 = cc in omega arith)
+
+pub write-reads-back : (source destination : List ℕ) (sourcePort destinationPort : ℕ) (user : List ℕ) (fill : ℕ) (list buffer : List ℕ) (n : ℕ)
+    → length source ≡ 4 → length destination ≡ 4 → Octets list
+    → written (datagramFor source destination sourcePort destinationPort user fill) list buffer .answer ≡ given n
+    → WroteBack (datagramFor source destination sourcePort destinationPort user fill) list buffer n
+unfolding written putWhole fits
+write-reads-back source destination sourcePort destinationPort user fill list buffer n s t oct = first (decodedList list) refl
+  where
+    datagram : List Item → Datagram
+    datagram = datagramFor source destination sourcePort destinationPort user fill
+
+    second : (items : List Item) → decodedList list ≡ given items → (f : Bool) → fits (length (payloadOf (datagram items))) (length buffer) ≡ f
+        → cond f (put (payloadOf (datagram items)) buffer) (untouched tooLarge buffer) .answer ≡ given n → WroteBack datagram list buffer n
+    second items e false q r = absurd (let z : _≡_ {A = ℕ} 0 1 = cc in omega arith)
+    second items e true q r =
+        let p : List ℕ = payloadOf (datagram items) in
+        let same : length p ≡ n = cc in
+        let small : length p ≤ payloadLimit = leb-true (length p) payloadLimit (both-true (leb (length p) payloadLimit) (leb (length p) (length buffer)) q) in
+        record {
+          items = items;
+          decoded = e;
+          size = sym same;
+          left =
+              ap (λ (a : Answer (List Item)). outcomeBy datagram buffer a .buffer) e
+              ∙ ap (λ (f : Bool). cond f (put p buffer) (untouched tooLarge buffer) .buffer) q ∙ ap (λ (k : ℕ). p ++ drop k buffer) same;
+          back = read-back (datagram items) list oct e s t small;
+        }
+
+    first : (a : Answer (List Item)) → decodedList list ≡ a → outcomeBy datagram buffer a .answer ≡ given n → WroteBack datagram list buffer n
+    first (refused k) e r = absurd (let z : _≡_ {A = ℕ} 0 1 = cc in omega arith)
+    first (given items) e r = second items e (fits (length (payloadOf (datagram items))) (length buffer)) refl r
