@@ -6,15 +6,16 @@ use mathlib.Core.Bool.{Bool, true, false, _&&_}
 use mathlib.Core.List.{List, _++_}
 use Prim.Native.Nat.{ℕ, _+_, _-_, _*_, _<_, _≤_}
 use native.Mathlib.Omega.{arith}
-use lib.Dec.{ltb}
-use lib.ListN.{length, take, drop, length-take, length-drop, take-append-drop}
-use lib.Seq.{take-append-le, drop-append-le, drop-drop}
-use borrow.Author.Tests.{ltb-true, ltb-false}
+use lib.Dec.{leb, ltb}
+use lib.ListN.{length, take, drop, getD, length-take, length-drop, take-append-drop}
+use lib.Seq.{take-append-le, drop-append-le, drop-drop, getD-take, getD-drop}
+use borrow.Author.Tests.{leb-true, ltb-true, ltb-false}
 use Rattle.octets.specs.Octets.{part, overlay}
 use Rattle.octets.proofs.Laws.{part-overlay, drop-overlay}
 use Rattle.record.specs.declared.Fragment.{Fragment}
 use Rattle.record.specs.Limits.{datagramLimit, assemblyLimit, shareSize}
-use Rattle.record.specs.Record.{end, overlaps}
+use Rattle.record.specs.Record.{end, covers, overlaps}
+use Rattle.record.proofs.Tests.{both-true}
 use Rattle.reassembly.specs.Offer.{base, startOf}
 
 -- ---- a part beside what was laid over
@@ -89,3 +90,16 @@ module _ (share : List ℕ) (p : ℕ) (f : Fragment) (bytes : List ℕ) (h : p <
           let s : p ≤ q = ltb-false q p t in
           let r : p < q = omega (arith, ne) in
           part-behind share (p * datagramLimit + f .offset) bytes room-for (q * datagramLimit + g .offset) (g .length) (omega arith)
+
+-- a byte of the original is the byte of the fragment that covers its place
+pub byte-of : (share : List ℕ) (p : ℕ) (g : Fragment) (size i : ℕ) → covers i g ≡ true → i < size
+    → getD (part (base p) size share) i 0 ≡ getD (part (startOf p g) (g .length) share) (i - g .offset) 0
+unfolding covers end startOf
+byte-of share p g size i e h =
+    let t = both-true (leb (g .offset) i) (ltb i (g .offset + g .length)) e in
+    let from : g .offset ≤ i = leb-true (g .offset) i (t .0) in
+    let to : i < g .offset + g .length = ltb-true i (g .offset + g .length) (t .1) in
+    let same : base p + i ≡ base p + g .offset + (i - g .offset) = omega arith in
+    getD-take size (drop (base p) share) i 0 h ∙ getD-drop (base p) share i 0 ∙ ap (λ (k : ℕ). getD share k 0) same
+    ∙ sym (getD-drop (base p + g .offset) share (i - g .offset) 0)
+    ∙ sym (getD-take (g .length) (drop (base p + g .offset) share) (i - g .offset) 0 (omega arith))

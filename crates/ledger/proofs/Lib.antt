@@ -1,0 +1,15 @@
+pub mod Sum
+pub mod Keys
+pub mod Agreement
+pub mod Clock
+pub mod Home
+pub mod Tests
+pub mod Changes
+pub mod Delivery
+pub mod Fates
+pub mod Taken
+pub mod OneClient
+pub mod Examples
+pub mod History
+pub mod Whole
+pub mod Theorem

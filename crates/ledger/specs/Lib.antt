@@ -1,0 +1,4 @@
+pub mod Book
+pub mod Stands
+pub mod OneClient
+pub mod History
