@@ -1,4 +1,4 @@
-# make run: shows the program on sample datagrams, or on a file: make run IN=path
+# make run: writes a datagram and reads it back, then shows the program on sample datagrams, or on a file: make run IN=path
 # make test: layout, the toolchain's identity, then the whole proof with must-fail edits and programs, and the samples.
 .PHONY: run test check fmt
 

@@ -1,19 +1,27 @@
 #!/bin/sh
-# Shows what `inspect` says of sample datagrams, or of the file named as IN: 8 address bytes (source, destination), then a UDP payload.
+# Writes a datagram and reads it back with `roundtrip`, then shows what `inspect` says of sample datagrams; with IN, what it says of
+# that file alone: 8 address bytes (source, destination), then a UDP payload.
 set -u
 cd "$(dirname "$0")/.." || exit 2
 program=target/bin/inspect
 
-if ! rt check inspect >target-run.log 2>&1; then
-    tail -n 20 target-run.log
-    echo "inspect could not be built: see target-run.log"
-    exit 1
-fi
-rm -f target-run.log
+# build NAME: proves and builds a program.
+build() {
+    if ! rt check "$1" >target-run.log 2>&1; then
+        tail -n 20 target-run.log
+        echo "$1 could not be built: see target-run.log"
+        exit 1
+    fi
+    rm -f target-run.log
+}
 
+build inspect
 if [ -n "${IN:-}" ]; then
     exec "$program" <"$IN"
 fi
+build roundtrip
+echo "-- written and read back"
+target/bin/roundtrip
 for sample in samples/*.bin; do
     echo "-- $sample"
     "$program" <"$sample"

@@ -64,6 +64,8 @@ if command -v python3 >/dev/null 2>&1; then
     export PYTHONDONTWRITEBYTECODE
     python3 tools/vectors/make.py stdout | cmp -s - crates/vectors/stdout
     report vectors-predicted $?
+    python3 tools/vectors/writer.py example | cmp -s - crates/roundtrip/stdout
+    report roundtrip-predicted $?
     python3 tools/samples/compare_random.py 1000
     report random-datagrams $?
 fi
