@@ -66,6 +66,8 @@ if command -v python3 >/dev/null 2>&1; then
     report vectors-predicted $?
     python3 tools/vectors/writer.py example | cmp -s - crates/roundtrip/stdout
     report roundtrip-predicted $?
+    python3 tools/vectors/writer.py cases | cmp -s - crates/writings/stdout
+    report writings-predicted $?
     python3 tools/samples/compare_random.py 1000
     report random-datagrams $?
 fi
