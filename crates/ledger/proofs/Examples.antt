@@ -8,7 +8,10 @@ use Rattle.record.specs.Limits.{datagramLimit, fragmentLimit, assemblyLimit, li
 use Rattle.record.specs.Lists.{sameBytes, any, sum}
 use Rattle.record.specs.Record.{sameFlow}
 use Rattle.reassembly.specs.Answer.{refused, stored, conflict, delivered, firstOf}
-use Rattle.ledger.specs.Book.{Book, empty, size, endOf, total, heldBytes, held, sameKey, of, mine, keep, others, openedAt, keys, due, outdated, advance, repeats, overlap, contradicts, within, complete, lastOne, byteAt, bytesTo, rejecting, repeating, conflicting, storing, delivering, taking, noRoom, isRepeat, isConflict, isFull, fate, Offer, entry, clockTests, clock, call}
+use Rattle.ledger.specs.Book.{Book, empty, size, endOf, total, heldBytes, held, sameKey, of, mine, keep, others, openedAt, keys, due}
+use Rattle.ledger.specs.Book.{outdated, advance, repeats, overlap, contradicts, within, complete, lastOne, byteAt, bytesTo, rejecting}
+use Rattle.ledger.specs.Book.{repeating, conflicting, storing, delivering, taking, noRoom, isRepeat, isConflict, isFull, fate, Offer}
+use Rattle.ledger.specs.Book.{entry, clockTests, clock, call}
 
 -- a fragment of the datagram with this identification
 abbrev offer : ℕ → ℕ → ℕ → List ℕ → Bool → Offer

@@ -13,7 +13,8 @@ use lib.Seq.{getD-at}
 use borrow.Author.Tests.{ltb-true, ltb-false}
 use Rattle.record.specs.Lists.{if}
 use Rattle.reassembly.specs.Answer.{stored, delivered}
-use Rattle.ledger.specs.Book.{Content, Entry, Book, size, endOf, complete, lastOne, byteAt, bytesTo, Result, storing, delivering, leaving, with, finished, taking, noRoom, isRepeat, isConflict, isFull, fate}
+use Rattle.ledger.specs.Book.{Content, Entry, Book, size, endOf, complete, lastOne, byteAt, bytesTo, Result, storing, delivering}
+use Rattle.ledger.specs.Book.{leaving, with, finished, taking, noRoom, isRepeat, isConflict, isFull, fate}
 use Rattle.reassembly.proofs.Laws.{if-yes}
 use Rattle.ledger.proofs.Sum.{if-either}
 use Rattle.ledger.proofs.Taken.{book-taken}
