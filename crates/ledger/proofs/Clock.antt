@@ -133,7 +133,7 @@ stands-fresh share h = record {
 -- ---- the account
 
 module _ (c : Client) (share : List ℕ) (b : Book) (st : Stands c share b) where
-  same-figures : Advance.figures c ≡ figures b
+  pub same-figures : Advance.figures c ≡ figures b
   unfolding Advance.figures figures
   same-figures =
       λ i.

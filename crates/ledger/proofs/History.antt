@@ -23,7 +23,8 @@ clock-out t b = go (firstOf (clockTests t b))
     go (some n) = refl
 
 module _ (theorem : OneClient) where
-  ask-fulfils : (c : Client) (share : List ℕ) (b : Book) (a : Ask) → Stands c share b → Fulfils (on c share a) (call (callOf a) b)
+  -- each call on the record does what the book does
+  pub ask-fulfils : (c : Client) (share : List ℕ) (b : Book) (a : Ask) → Stands c share b → Fulfils (on c share a) (call (callOf a) b)
   ask-fulfils c share b (offering o bytes out) st = theorem .fragment-call c share b out o bytes st
   ask-fulfils c share b (advancing t) st = let f = theorem .clock-call c share b t st in record { reply = f .reply; out = clock-out t b; stands = f .stands }
   ask-fulfils c share b accounting st = let f = theorem .account-call c share b st in record { reply = f .reply; out = refl; stands = f .stands }

@@ -13,3 +13,5 @@ pub mod Examples
 pub mod History
 pub mod Whole
 pub mod Theorem
+pub mod Own
+pub mod Delivered

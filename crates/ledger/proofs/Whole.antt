@@ -15,18 +15,10 @@ use Rattle.record.specs.Lists.{if}
 use Rattle.reassembly.specs.Answer.{stored, delivered}
 use Rattle.ledger.specs.Book.{Content, Entry, Book, size, endOf, complete, lastOne, byteAt, bytesTo, Result, storing, delivering}
 use Rattle.ledger.specs.Book.{leaving, with, finished, taking, noRoom, isRepeat, isConflict, isFull, fate}
+use Rattle.ledger.specs.Whole.{Whole}
 use Rattle.reassembly.proofs.Laws.{if-yes}
 use Rattle.ledger.proofs.Sum.{if-either}
 use Rattle.ledger.proofs.Taken.{book-taken}
-
--- fs has a last one, with r, that ends at n, and every byte before n; out′ is out with those bytes in front
-pub record Whole (fs : List Content) (out : List ℕ) (n r : ℕ) (out′ : List ℕ) : Type 0 where
-  pub last : Content
-  pub found : lastOne fs ≡ some last
-  pub length-is : endOf last ≡ n
-  pub start-is : last .start ≡ r
-  pub all-there : complete n fs ≡ true
-  pub out-is : out′ ≡ bytesTo n fs ++ drop n out
 
 taken-reply : (e : Entry) (out : List ℕ) (b : Book) (l : Content) → lastOne (with e b) ≡ some l → complete (endOf l) (with e b) ≡ true
     → taking e out b .reply ≡ delivered (endOf l) (l .start)

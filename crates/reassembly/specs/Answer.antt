@@ -6,6 +6,8 @@ use mathlib.Core.Option.{Option, none, some}
 use Rattle.record.specs.Lists.{if}
 use Rattle.reassembly.specs.declared.Refusal.{Refusal}
 use Rattle.reassembly.specs.declared.Refusal.the-variants.{
+  TableMisfit,
+  NoSuchClient,
   UnsoundRecord,
   OutTooShort,
   EmptyFragment,
@@ -18,11 +20,12 @@ use Rattle.reassembly.specs.declared.Refusal.the-variants.{
 }
 use Rattle.reassembly.specs.declared.Figures.{Figures}
 use Rattle.reassembly.specs.declared.Answer.{Answer}
-use Rattle.reassembly.specs.declared.Answer.the-variants.{Refused, Stored, Repeated, Conflict, Delivered, Advanced, Account}
+use Rattle.reassembly.specs.declared.Answer.the-variants.{Refused, Reset, Stored, Repeated, Conflict, Delivered, Advanced, Account}
 
--- `delivered` has T and r; `account` has offered, held, delivered, expired, conflicted, repeated and rejected
+-- `ready` is the answer of a set-up; `delivered` has T and r; `account` has offered, held, delivered, expired, conflicted, repeated and rejected
 pub data Reply : Type 0 where
   refused : ℕ → Reply
+  ready : Reply
   stored : Reply
   repeated : Reply
   conflict : Reply
@@ -32,6 +35,8 @@ pub data Reply : Type 0 where
 
 -- the number of a refusal
 abbrev pub numberOf : Refusal → ℕ
+numberOf TableMisfit = 20
+numberOf NoSuchClient = 21
 numberOf UnsoundRecord = 22
 numberOf OutTooShort = 23
 numberOf EmptyFragment = 24
@@ -47,6 +52,7 @@ figuresOf f = f .offered ∷ f .held ∷ f .delivered ∷ f .expired ∷ f .conf
 
 abbrev pub replyOf : Answer → Reply
 replyOf (Refused r) = refused (numberOf r)
+replyOf Reset = ready
 replyOf Stored = stored
 replyOf Repeated = repeated
 replyOf Conflict = conflict

@@ -19,8 +19,10 @@ ghost use Rattle.reassembly.specs.Offer.{offerTests, fragmentOf, matches
 ghost use Rattle.reassembly.specs.Offer.{rejecting, repeating, conflicting, storing, delivering, joined, placed, taken, fragmentOn};
 ghost use Rattle.reassembly.specs.Post.{Turned, checkedNumber, Sized, Room, PlaceFor, Ending, Storing, Joining, Placing, Taking, Left};
 
-// Why a call changes nothing (document 01's 22 to 28), or a fragment is turned away (29, 30).
+// Why a call changes nothing (document 01's 20 to 28; 20 and 21 are the table's), or a fragment is turned away (29, 30).
 pub enum Refusal {
+    TableMisfit,
+    NoSuchClient,
     UnsoundRecord,
     OutTooShort,
     EmptyFragment,
@@ -43,8 +45,10 @@ pub struct Figures {
     pub rejected: u64,
 }
 
+// What the table's calls answer; `Reset` is that of a set-up.
 pub enum Answer {
     Refused(Refusal),
+    Reset,
     Stored,
     Repeated,
     Conflict,

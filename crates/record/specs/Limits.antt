@@ -29,3 +29,7 @@ offeredLimit = 1000000000000000
 unfoldable pub shareSize : ℕ
 unfolding assemblyLimit datagramLimit
 shareSize = assemblyLimit * datagramLimit
+
+-- the clients of a table
+unfoldable pub clientLimit : ℕ
+clientLimit = 12

@@ -24,6 +24,12 @@ pub const ASSEMBLY_LIMIT: usize = 4;
 // The bytes of an IPv4 address.
 pub const ADDRESS: usize = 4;
 
+// A client's share of the store: one place for each assembly.
+pub const SHARE: usize = 16384;
+
+// The clients of a table.
+pub const CLIENT_LIMIT: usize = 12;
+
 // How long an assembly lives, in milliseconds.
 pub const LIFETIME: u64 = 120000;
 

@@ -1,0 +1,47 @@
+-- What the table adds to a client's book: refusals 20 and 21 come before all others. Of the table a history has the record count and the
+-- store's length, and nothing else.
+use Prim.Native.Nat.{ℕ, _*_}
+use mathlib.Core.Bool.{Bool, not, _&&_}
+use mathlib.Core.List.{List, [], _∷_}
+use lib.Dec.{leb, eqb}
+use Rattle.record.specs.Limits.{shareSize, clientLimit}
+use Rattle.reassembly.specs.Answer.{firstOf}
+use Rattle.ledger.specs.Book.{Book, empty, Result, Call, fragment, clock, bill, refuseOr, call}
+
+-- the table that a call was lent: how many records, how many bytes of store
+pub record Lent : Type 0 where
+  pub count : ℕ
+  pub bytes : ℕ
+
+-- "record count not 1 to 12, or store not 16,384 bytes for each" does not apply
+unfoldable pub sized : Lent → Bool
+sized l = leb 1 (l .count) && (leb (l .count) clientLimit && eqb (l .bytes) (l .count * shareSize))
+
+-- 20 and 21 in order
+unfoldable pub lentTests : Lent → ℕ → List (Bool × ℕ)
+lentTests l k = (not (sized l), 20) ∷ (leb (l .count) k, 21) ∷ []
+
+-- a client's own call: its arguments, with the sizes of the table that it was lent
+pub record Own : Type 0 where
+  pub lent : Lent
+  pub client : ℕ
+  pub call : Call
+
+-- the out buffer that a call lends
+abbrev pub outOf : Call → List ℕ
+outOf (fragment o out) = out
+outOf (clock t) = []
+outOf bill = []
+
+-- what the book answers to an own call
+unfoldable pub answered : Own → Book → Result
+answered o b = refuseOr (outOf (o .call)) b (firstOf (lentTests (o .lent) (o .client))) (call (o .call) b)
+
+-- the book after own calls, the earliest first
+unfoldable pub keeping : List Own → Book → Book
+keeping [] b = b
+keeping (o ∷ os) b = keeping os (answered o b .book)
+
+-- the plain book of a history
+unfoldable pub bookOf : List Own → Book
+bookOf os = keeping os empty

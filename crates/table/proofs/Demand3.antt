@@ -1,0 +1,181 @@
+-- Demand 3, with no premise: a set-up that is taken makes every record stand for the empty book; each call keeps that (`Steps`), over every
+-- list (`Lists`); the book's own laws give the sum and the deliveries, and what is kept of a client depends on its own calls (`Isolation`).
+-- Assumes nothing.
+use Prim.Native.Nat.{ℕ, _+_, _<_}
+use mathlib.Core.Path.{_≡_, refl, sym, ap, ap₂, subst, _∙_}
+use mathlib.Core.Bool.{Bool, true, false}
+use mathlib.Core.List.{List, [], _∷_}
+use mathlib.Core.Logic.{_↔_}
+use native.Mathlib.Omega.{arith}
+use lib.Dec.{ltb}
+use lib.ListN.{length}
+use borrow.Author.Tests.{ltb-true, ltb-false}
+use Rattle.record.specs.Lists.{if}
+use Rattle.reassembly.specs.declared.Arrival.{Arrival}
+use Rattle.reassembly.specs.Answer.{refused, delivered}
+use Rattle.reassembly.specs.Advance.{figures}
+use Rattle.ledger.specs.Book as Book
+use Rattle.ledger.specs.Book.{Book, Balanced, fragment}
+use Rattle.ledger.specs.Lent.{Lent, sized, Own, answered, bookOf}
+use Rattle.ledger.specs.Stands.{Stands, offerOf}
+use Rattle.ledger.specs.History.{Ask, offering, advancing, accounting, Given, on}
+use Rattle.ledger.specs.Whole.{Whole, Taken, assembled}
+use Rattle.ledger.proofs.Theorem.{one-client-theorem}
+use Rattle.ledger.proofs.Clock.{same-figures}
+use Rattle.ledger.proofs.Own.{book-balanced}
+use Rattle.ledger.proofs.Delivered.{own-delivery, own-untouched}
+use Rattle.table.specs.Table.{Table, lentOf, shareOf, recordOf, After, cleared, askOn}
+use Rattle.table.specs.Events.{Event, current, resetting, next, final, givenBy, givenIn, gives, history, owes, sizesAfter, pastAfter, ownOnly}
+use Rattle.table.specs.Demand3.{Terms, opening, tableAfter, bookAfter, Sums, Demand3}
+use Rattle.table.proofs.Facts.{unknown-is, granted-is, reset-taken}
+use Rattle.table.proofs.Steps.{Holds, call-answer, cleared-holds, cleared-sizes}
+use Rattle.table.proofs.Lists.{reset-answer, answers-all, final-holds}
+use Rattle.table.proofs.Isolation.{owes-own, same-kept}
+
+-- ---- the set-up that opens the list
+
+opens : (t : Table) → sized (lentOf t) ≡ true → next t (resetting current) ≡ cleared t
+opens t e = ap₂ (λ (x : Bool) (u : Table). if x u t) e (ap (λ (x : After). x .table) (reset-taken t e))
+
+-- the book's side starts with the sizes of that table and no call
+opens-sizes : (t : Table) → sized (lentOf t) ≡ true → sizesAfter (lentOf t) (resetting current) ≡ lentOf (cleared t)
+opens-sizes t e = ap (λ (x : Bool). if x (lentOf t) (lentOf t)) e ∙ sym (cleared-sizes t)
+
+opens-past : (k : ℕ) (t : Table) → sized (lentOf t) ≡ true → pastAfter k (lentOf t) [] (resetting current) ≡ []
+opens-past k t e = ap (λ (x : Bool). if {A = List Own} x [] []) e
+
+module _ (t : Table) (es : List Event) (terms : Terms t es) where
+  start : Holds (cleared t) (λ k. bookOf [])
+  start = cleared-holds t (terms .fits)
+
+  table-is : tableAfter t es ≡ final (cleared t) es
+  unfolding final
+  table-is = ap (λ (u : Table). final u es) (opens t (terms .fits))
+
+  book-is : (k : ℕ) → bookAfter k t es ≡ bookOf (history k (lentOf (cleared t)) [] es)
+  unfolding history
+  book-is k = ap₂ (λ (l : Lent) (past : List Own). bookOf (history k l past es)) (opens-sizes t (terms .fits)) (opens-past k t (terms .fits))
+
+  -- after the list every record and share stands for its client's book
+  pub stands-all : Holds (tableAfter t es) (λ k. bookAfter k t es)
+  stands-all =
+      let h = final-holds es (cleared t) (λ k. []) start (terms .keeps) in
+      let each = h .each in
+      record {
+        fit = subst (λ (u : Table). sized (lentOf u) ≡ true) (sym table-is) (h .fit);
+        each = λ k in-it.
+            subst (λ (u : Table). Stands (recordOf k u) (shareOf k u) (bookAfter k t es)) (sym table-is)
+            (subst (Stands (recordOf k (final (cleared t) es)) (shareOf k (final (cleared t) es))) (sym (book-is k))
+            (each k (subst (λ (u : Table). k < length (u .records)) table-is in-it)));
+      }
+
+  answers-given : (k : ℕ) → gives k t (opening es) ≡ owes k (lentOf t) [] (opening es)
+  unfolding gives owes
+  answers-given k =
+      ap₂ _∷_ (reset-answer t)
+      (ap (λ (u : Table). gives k u es) (opens t (terms .fits)) ∙ answers-all k es (cleared t) (λ j. []) start (terms .keeps)
+      ∙ sym (ap₂ (λ (l : Lent) (past : List Own). owes k l past es) (opens-sizes t (terms .fits)) (opens-past k t (terms .fits))))
+
+  -- a fragment call after the list
+  module _ (k : ℕ) (o : Arrival) (bytes out : List ℕ) where
+    own : Own
+    own = record { lent = lentOf (tableAfter t es); client = k; call = fragment (offerOf o bytes) out }
+
+    same : givenBy (askOn k (offering o bytes out) (tableAfter t es)) ≡ givenIn (answered own (bookAfter k t es))
+    unfolding own
+    same = call-answer (tableAfter t es) (λ j. bookAfter j t es) stands-all current k (offering o bytes out) tt
+
+    same-reply : askOn k (offering o bytes out) (tableAfter t es) .reply ≡ answered own (bookAfter k t es) .reply
+    same-reply = ap (λ (g : Given). g .reply) same
+
+    same-out : askOn k (offering o bytes out) (tableAfter t es) .out ≡ answered own (bookAfter k t es) .out
+    same-out = ap (λ (g : Given). g .out) same
+
+    delivered-when : (n r : ℕ)
+        → (askOn k (offering o bytes out) (tableAfter t es) .reply ≡ delivered n r)
+        ↔ (Taken (lentOf (tableAfter t es)) k (offerOf o bytes) out (bookAfter k t es)
+        × Whole (assembled (offerOf o bytes) (bookAfter k t es)) out n r (askOn k (offering o bytes out) (tableAfter t es) .out))
+    unfolding own
+    delivered-when n r =
+        let both = own-delivery (lentOf (tableAfter t es)) k (offerOf o bytes) out (bookAfter k t es) n r in
+        let there = both .0 in
+        let back = both .1 in (
+          λ d.
+              let w = there (sym same-reply ∙ d) in
+              (w .0, subst (Whole (assembled (offerOf o bytes) (bookAfter k t es)) out n r) (sym same-out) (w .1)),
+          λ w. same-reply ∙ back (w .0, subst (Whole (assembled (offerOf o bytes) (bookAfter k t es)) out n r) same-out (w .1)),
+        )
+
+    left-alone : ((n r : ℕ) → askOn k (offering o bytes out) (tableAfter t es) .reply ≡ delivered n r → ⊥)
+        → askOn k (offering o bytes out) (tableAfter t es) .out ≡ out
+    unfolding own
+    left-alone never =
+        same-out
+        ∙ own-untouched (lentOf (tableAfter t es)) k (offerOf o bytes) out (bookAfter k t es) (λ n r d. never n r (same-reply ∙ d))
+
+  -- the figures
+  module _ (k : ℕ) (in-it : k < length (tableAfter t es .records)) where
+    st : Stands (recordOf k (tableAfter t es)) (shareOf k (tableAfter t es)) (bookAfter k t es)
+    st = stands-all .each k in-it
+
+    figures-same : figures (recordOf k (tableAfter t es)) ≡ Book.figures (bookAfter k t es)
+    figures-same = same-figures (recordOf k (tableAfter t es)) (shareOf k (tableAfter t es)) (bookAfter k t es) st
+
+    sums : Sums (recordOf k (tableAfter t es))
+    unfolding Balanced
+    sums = let s = st in let balance = book-balanced (history k (lentOf t) [] (opening es)) in omega (arith, balance)
+
+  -- refusal 22
+  never-22 : (k : ℕ) (a : Ask) → askOn k a (tableAfter t es) .reply ≡ refused 22 → ⊥
+  never-22 k a = go (ltb k (length (tableAfter t es .records))) refl a
+    where
+      fit : sized (lentOf (tableAfter t es)) ≡ true
+      fit = stands-all .fit
+
+      own-22 : k < length (tableAfter t es .records) → (a : Ask)
+          → on (recordOf k (tableAfter t es)) (shareOf k (tableAfter t es)) a .reply ≡ refused 22 → ⊥
+      own-22 in-it (offering o bytes out) =
+          one-client-theorem .fragment-22 (recordOf k (tableAfter t es)) (shareOf k (tableAfter t es)) (bookAfter k t es) out o bytes
+          (stands-all .each k in-it)
+      own-22 in-it (advancing time) =
+          one-client-theorem .clock-22 (recordOf k (tableAfter t es)) (shareOf k (tableAfter t es)) (bookAfter k t es) time (stands-all .each k in-it)
+      own-22 in-it accounting =
+          one-client-theorem .account-22 (recordOf k (tableAfter t es)) (shareOf k (tableAfter t es)) (bookAfter k t es) (stands-all .each k in-it)
+
+      go : (x : Bool) → ltb k (length (tableAfter t es .records)) ≡ x → (a : Ask) → askOn k a (tableAfter t es) .reply ≡ refused 22 → ⊥
+      go true e a q =
+          let in-it = ltb-true k (length (tableAfter t es .records)) e in
+          own-22 in-it a (sym (ap (λ (x : After). x .reply) (granted-is k a (tableAfter t es) fit in-it)) ∙ q)
+      go false e a q =
+          let none = ltb-false k (length (tableAfter t es .records)) e in
+          let p : refused 21 ≡ refused 22 = sym (ap (λ (x : After). x .reply) (unknown-is k a (tableAfter t es) fit none)) ∙ q in
+          let z : _≡_ {A = ℕ} 21 22 = cc in
+          omega arith
+
+-- ---- isolation
+
+isolated : (t : Table) (es es′ : List Event) → Terms t es → Terms t es′ → (k : ℕ) → ownOnly k es ≡ ownOnly k es′
+    → (gives k t (opening es) ≡ gives k t (opening es′))
+    × (recordOf k (tableAfter t es) ≡ recordOf k (tableAfter t es′))
+    × (shareOf k (tableAfter t es) ≡ shareOf k (tableAfter t es′))
+unfolding ownOnly
+isolated t es es′ terms terms′ k same =
+    let kept = same-kept k es es′ (cleared t) (λ j. []) (start t es terms) (terms .keeps) (terms′ .keeps) same in (
+      answers-given t es terms k ∙ owes-own k (opening es) (lentOf t) [] ∙ ap (λ (l : List Event). owes k (lentOf t) [] (opening l)) same
+          ∙ sym (owes-own k (opening es′) (lentOf t) []) ∙ sym (answers-given t es′ terms′ k),
+      ap (recordOf k) (table-is t es terms) ∙ kept .0 ∙ sym (ap (recordOf k) (table-is t es′ terms′)),
+      ap (shareOf k) (table-is t es terms) ∙ kept .1 ∙ sym (ap (shareOf k) (table-is t es′ terms′)),
+    )
+
+-- ---- the claim
+
+pub demand-3 : Demand3
+demand-3 = record {
+  answers = answers-given;
+  accounts = figures-same;
+  sum = sums;
+  delivery = delivered-when;
+  untouched = left-alone;
+  isolation = isolated;
+  sound = never-22;
+}

@@ -1,0 +1,4 @@
+pub mod account
+pub mod advance
+pub mod offer
+pub mod reset

@@ -1,0 +1,3 @@
+pub mod Table
+pub mod Events
+pub mod Demand3
