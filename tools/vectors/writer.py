@@ -2,7 +2,7 @@
 import os
 import sys
 
-from reader import crc32c, decode, encode, pseudo, sent, words
+from reader import crc32c, decode, encode, header, pseudo, read, sent, words
 
 sys.path.insert(0, os.path.join(os.path.dirname(os.path.abspath(__file__)), "..", "samples"))
 from make_samples import expected  # the second reader, for the text of a report
@@ -71,9 +71,31 @@ def write(data, docket, fill, room):
     return head + checksum.to_bytes(2, "big") + data + bytes(odd) + ocs.to_bytes(2, "big") + tail
 
 
+def docket(payload, at, end):
+    """The options of a sound list as a docket; an APC has no field, a body its length."""
+    count, out = 0, b""
+    while at < end and payload[at] != 0:
+        if payload[at] == 1:
+            at += 1
+            continue
+        whole, size = header(payload, at, end)
+        kind, body = payload[at], payload[at + size:at + whole]
+        out += encode(kind)
+        if kind in WIDTHS:
+            for width in WIDTHS[kind]:
+                out += encode(int.from_bytes(body[:width], "big"))
+                body = body[width:]
+        else:
+            out += encode(len(body)) + body
+        count, at = count + 1, at + whole
+    return encode(count) + out
+
+
 def example():
     payload = write(b"level 412 cm", bytes([3, 2, 6, 0xAC, 2, 9, 2, 0xCA, 0xFE]), 1, 128)
-    return "written " + payload.hex() + "\n" + expected(SOURCE + DESTINATION + payload)
+    _, _, rest = read(payload, SOURCE, DESTINATION)
+    again = f"listed {docket(payload, *rest['list']).hex()}\nfill {rest['fill']}\n"
+    return "written " + payload.hex() + "\n" + expected(SOURCE + DESTINATION + payload) + again
 
 
 # ---- the cases of `writings`: name, data, docket, fill, room. Long ones are data of one byte a5, and a docket's front and then c0.

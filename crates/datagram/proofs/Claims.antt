@@ -61,7 +61,7 @@ unfolding accepted
 accepted-user p = started-user p (udpLength p) (startOf (isOdd (udpLength p)) (eqb (udpChecksum p) 0) (drop (udpLength p) p))
 
 -- a payload that is read met no refusal, and its reading is the accepted one
-met-none : (p s d : List ℕ) (r : Reading) → reading p s d ≡ reads r → (firstOf (refusalTests p s d) ≡ none) × (accepted p ≡ r)
+pub met-none : (p s d : List ℕ) (r : Reading) → reading p s d ≡ reads r → (firstOf (refusalTests p s d) ≡ none) × (accepted p ≡ r)
 unfolding reading
 met-none p s d r = go (firstOf (refusalTests p s d)) refl
   where
@@ -112,7 +112,7 @@ testsOf s d n size sum front =
     ∷ (not (eqb sum 0) && not (sumHolds (pseudoHeader s d size) front), 4)
     ∷ []
 
-first-none : (x : Bool × ℕ) (xs : List (Bool × ℕ)) → firstOf (x ∷ xs) ≡ none → (x .0 ≡ false) × (firstOf xs ≡ none)
+pub first-none : (x : Bool × ℕ) (xs : List (Bool × ℕ)) → firstOf (x ∷ xs) ≡ none → (x .0 ≡ false) × (firstOf xs ≡ none)
 unfolding firstOf
 first-none x xs = go (x .0) refl
   where
@@ -125,7 +125,7 @@ both-false true b e = absurd (let z : _≡_ {A = ℕ} 0 1 = cc in omega arith)
 both-false false b e = (refl, e)
 
 -- L is at least a header and within the payload
-in-range : (p s d : List ℕ) → firstOf (refusalTests p s d) ≡ none → (udpHeader ≤ udpLength p) × (udpLength p ≤ length p)
+pub in-range : (p s d : List ℕ) → firstOf (refusalTests p s d) ≡ none → (udpHeader ≤ udpLength p) × (udpLength p ≤ length p)
 in-range p s d e =
     let size = udpLength p in
     let rest = first-none _ _ (first-none _ _ e .1) .1 in

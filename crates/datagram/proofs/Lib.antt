@@ -1,5 +1,6 @@
 pub mod Apcs
 pub mod Claims
+pub mod Lists
 pub mod Readings
 pub mod Refusals
 pub mod Starts

@@ -159,3 +159,17 @@ refusalNumber ChecksumWrong = 4
 abbrev pub answerOf : Outcome → Answer
 answerOf (Refused refusal) = refused (refusalNumber refusal)
 answerOf (Accepted r) = reads r
+
+-- options are reported only with "read"
+abbrev pub isRead : Verdict → Bool
+isRead Bare = false
+isRead Short = false
+isRead Pad = false
+isRead Unsummed = false
+isRead BadSum = false
+isRead Malformed = false
+isRead Unsafe = false
+isRead FragData = false
+isRead Crowded = false
+isRead Read = true
+isRead (Piece fragment) = false

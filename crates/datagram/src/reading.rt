@@ -18,7 +18,7 @@ ghost use Rattle.offsets.specs.Offsets.{udpHeader};
 ghost use Rattle.options.specs.Area.{areaOf};
 ghost use Rattle.checksum.specs.Checksum.{folded, wordSum};
 ghost use Rattle.datagram.specs.Surplus.{startOf};
-ghost use Rattle.datagram.specs.Reading.{payloadLimit, pseudoHeader, isOdd, extent, quiet, verdictOf, walked, started, reading, answerOf};
+ghost use Rattle.datagram.specs.Reading.{payloadLimit, pseudoHeader, isOdd, extent, quiet, verdictOf, walked, started, reading, answerOf, isRead};
 ghost use Rattle.datagram.specs.Private.{apcBy};
 
 // An IPv4 packet of 65,535 bytes less its header.
@@ -174,6 +174,25 @@ fn verdict_of(fault: Fault) -> Verdict
         Fault::Unsafe => Verdict::Unsafe,
         Fault::FragData => Verdict::FragData,
         Fault::Crowded => Verdict::Crowded,
+    }
+}
+
+// Only a reading with this verdict reports options.
+pub fn is_read(verdict: Verdict) -> bool
+    ensures { λ r. ⌜ r ≡ isRead verdict ⌝ }
+{
+    match verdict {
+        Verdict::Bare => false,
+        Verdict::Short => false,
+        Verdict::Pad => false,
+        Verdict::Unsummed => false,
+        Verdict::BadSum => false,
+        Verdict::Malformed => false,
+        Verdict::Unsafe => false,
+        Verdict::FragData => false,
+        Verdict::Crowded => false,
+        Verdict::Read => true,
+        Verdict::Piece(_) => false,
     }
 }
 

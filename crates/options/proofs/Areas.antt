@@ -1,8 +1,8 @@
--- Laws of the walk of an area: leading NOPs, and what a fragment that was found keeps to.
+-- Laws of the walk of an area: leading NOPs, what a fragment that was found keeps to, and that options come from the walk of a plain list.
 -- Assumes nothing.
 use mathlib.Core.Path.{_≡_, refl, sym, ap, _∙_}
 use mathlib.Core.Bool.{Bool, true, false, cond, _&&_}
-use mathlib.Core.List.{List, [], _∷_}
+use mathlib.Core.List.{List}
 use mathlib.Core.Logic.{⊎-elim}
 use Prim.Native.Nat.{ℕ, _+_, _-_, _≤_, _<_}
 use native.Mathlib.Numerals.{add-one}
@@ -14,10 +14,13 @@ use lib.Seq.{drop-cons}
 use Rattle.offsets.specs.Offsets.{placeOf}
 use Rattle.offsets.specs.declared.Origin.{Origin}
 use Rattle.offsets.specs.declared.Origin.the-variants.{At, BeforeData}
-use Rattle.options.specs.Kinds.{classOf, nop, frag}
+use Rattle.octets.specs.Octets.{part}
+use Rattle.options.specs.Kinds.{classOf, eol, nop, frag}
 use Rattle.options.specs.Step.{stepOf}
-use Rattle.options.specs.Area.{nopsOf, placedAt, fragmentOf}
-use Rattle.options.specs.declared.step.Step.the-variants.{Found}
+use Rattle.options.specs.Walk.{Item, Walked, listed, faulty, walkFrom, optionLimit}
+use Rattle.options.specs.Area.{plain, nopsOf, fieldsOf, placedAt, fragmentOf, plainly, pieceWith, behindFrag, ledBy, areaOf}
+use Rattle.options.specs.declared.step.Step.{Step}
+use Rattle.options.specs.declared.step.Step.the-variants.{End, Eol, Nop, Found, Malformed as Unsound, Outlawed}
 use Rattle.options.specs.declared.area.Fields.{Fields}
 use Rattle.options.specs.declared.area.Fragment.{Fragment}
 use Rattle.options.specs.declared.area.Placed.{Placed}
@@ -70,3 +73,39 @@ fragment-within fields base behind size f =
     go true true (At o) (At r) p q e =
         let same : fields .start ≡ f .start .0 = ap startOf e in
         (omega (arith, leb-true (base + behind) (fields .start) p), omega (arith, leb-true (fields .start) (base + size) q))
+
+-- ---- a list whose walk gives options
+
+piece-not : (f : Fragment) (w : Walked) (items : List Item) (fill : ℕ) → pieceWith f w ≡ plain items fill → ⊥
+piece-not f (listed others n) items fill e = let z : _≡_ {A = ℕ} 0 1 = cc in omega arith
+piece-not f (faulty x) items fill e = let z : _≡_ {A = ℕ} 0 1 = cc in omega arith
+
+behind-not : (empty : Bool) (l : List ℕ) (base n : ℕ) (p : Placed) (items : List Item) (fill : ℕ) → behindFrag empty l base n p ≡ plain items fill → ⊥
+behind-not empty l base n Refused items fill e = let z : _≡_ {A = ℕ} 0 1 = cc in omega arith
+behind-not false l base n (Sound f) items fill e = let z : _≡_ {A = ℕ} 0 1 = cc in omega arith
+behind-not true l base n (Sound f) items fill e = piece-not f (walkFrom (optionLimit - 1) 0 (part n (f .start .0 - (base + n)) l)) items fill e
+
+-- a list that FRAG leads gives none
+led-not : (empty : Bool) (l : List ℕ) (base nops : ℕ) (step : Step) (items : List Item) (fill : ℕ) → ledBy empty l base nops step ≡ plain items fill → ⊥
+led-not empty l base nops (Found kind header size) items fill e =
+    behind-not empty l base (nops + size) (fragmentOf (fieldsOf size (drop nops l)) base (nops + size) (length l)) items fill e
+led-not empty l base nops End items fill e = let z : _≡_ {A = ℕ} 0 1 = cc in omega arith
+led-not empty l base nops Eol items fill e = let z : _≡_ {A = ℕ} 0 1 = cc in omega arith
+led-not empty l base nops Nop items fill e = let z : _≡_ {A = ℕ} 0 1 = cc in omega arith
+led-not empty l base nops Unsound items fill e = let z : _≡_ {A = ℕ} 0 1 = cc in omega arith
+led-not empty l base nops Outlawed items fill e = let z : _≡_ {A = ℕ} 0 1 = cc in omega arith
+
+plain-listed : (w : Walked) (items : List Item) (fill : ℕ) → plainly w ≡ plain items fill → w ≡ listed items fill
+plain-listed (listed others n) items fill e = cc
+plain-listed (faulty x) items fill e = absurd (let z : _≡_ {A = ℕ} 0 1 = cc in omega arith)
+
+-- options and fill are those of the walk in which FRAG has no place
+pub area-plain : (empty : Bool) (base : ℕ) (l : List ℕ) (items : List Item) (fill : ℕ) → areaOf empty base l ≡ plain items fill
+    → walkFrom optionLimit 0 l ≡ listed items fill
+unfolding areaOf
+area-plain empty base l items fill = go (eqb (getD l (nopsOf l) eol) frag)
+  where
+    go : (t : Bool) → cond t (ledBy empty l base (nopsOf l) (stepOf (drop (nopsOf l) l))) (plainly (walkFrom optionLimit 0 l)) ≡ plain items fill
+        → walkFrom optionLimit 0 l ≡ listed items fill
+    go true e = absurd (led-not empty l base (nopsOf l) (stepOf (drop (nopsOf l) l)) items fill e)
+    go false e = plain-listed (walkFrom optionLimit 0 l) items fill e

@@ -1,16 +1,15 @@
 -- The report on a payload (document 01, "The program").
-use mathlib.Core.Bool.{Bool, true, false, cond}
+use mathlib.Core.Bool.{cond}
 use mathlib.Core.List.{List, [], _∷_, _++_}
 use Prim.Native.Nat.{ℕ, _-_}
 use lib.Dec.{eqb}
 use lib.ListN.{take, drop}
 use Rattle.octets.specs.Octets.{number, part}
 use Rattle.options.specs.Walk.{Item, Walked, listed, faulty, walkFrom, optionLimit}
-use Rattle.datagram.specs.Reading.{Answer, refused, reads, reading}
+use Rattle.datagram.specs.Reading.{Answer, refused, reads, reading, isRead}
 use Rattle.datagram.specs.declared.reading.Extent.{Extent}
 use Rattle.datagram.specs.declared.reading.Reading.{Reading}
 use Rattle.datagram.specs.declared.reading.Verdict.{Verdict}
-use Rattle.datagram.specs.declared.reading.Verdict.the-variants.{Bare, Short, Pad, Unsummed, BadSum, Malformed, Unsafe, FragData, Crowded, Read, Piece}
 use Rattle.report.specs.Digits.{decimalOf, hexOf}
 use Rattle.report.specs.Words.{blank, newline, userWord, verdictWord, kindWord, fillWord, refusedWord, wordOf}
 
@@ -73,19 +72,6 @@ bytesIn extent payload = part (extent .from .0) (sizeOf extent) payload
 abbrev pub itemsOf : Walked → List Item
 itemsOf (listed items fill) = items
 itemsOf (faulty fault) = []
-
-abbrev pub isRead : Verdict → Bool
-isRead Bare = false
-isRead Short = false
-isRead Pad = false
-isRead Unsummed = false
-isRead BadSum = false
-isRead Malformed = false
-isRead Unsafe = false
-isRead FragData = false
-isRead Crowded = false
-isRead Read = true
-isRead (Piece fragment) = false
 
 -- the options that an extent of the payload lists, and the fill
 unfoldable pub listingOf : List ℕ → Extent → ℕ → List ℕ

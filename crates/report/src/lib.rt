@@ -14,7 +14,7 @@ ghost use lib.ListN.{length};
 ghost use Rattle.datagram.specs.Reading.{refusalNumber};
 ghost use Rattle.report.specs.Words.{wordOf};
 ghost use Rattle.report.specs.Put.{Put};
-ghost use Rattle.report.specs.Report.{isRead, listingOf, readingText, reportOf, verdictLine};
+ghost use Rattle.report.specs.Report.{listingOf, readingText, reportOf, verdictLine};
 ghost use Rattle.report.specs.Sound.{Listable, Sound};
 
 // Writes what fits of the report to the front of `text`, and answers where it ends.
@@ -49,28 +49,10 @@ fn put_reading(payload: &[u8], reading: Reading, text: &mut [u8]) -> usize
     let options = reading.options;
     let counted = text::put_line(b"user ", user.to.0 - user.from.0, text, 0);
     let judged = put_verdict(verdict, text, counted);
-    if is_read(verdict) {
+    if reading::is_read(verdict) {
         return put_listing(payload, options, reading.fill, text, judged);
     }
     judged
-}
-
-fn is_read(verdict: Verdict) -> bool
-    ensures { λ r. ⌜ r ≡ isRead verdict ⌝ }
-{
-    match verdict {
-        Verdict::Bare => false,
-        Verdict::Short => false,
-        Verdict::Pad => false,
-        Verdict::Unsummed => false,
-        Verdict::BadSum => false,
-        Verdict::Malformed => false,
-        Verdict::Unsafe => false,
-        Verdict::FragData => false,
-        Verdict::Crowded => false,
-        Verdict::Read => true,
-        Verdict::Piece(_) => false,
-    }
 }
 
 fn put_verdict(verdict: Verdict, text: &mut [u8], at: usize) -> usize

@@ -1,6 +1,10 @@
-// Writes a datagram with options, shows its bytes, reads it back, and shows what the reader says.
+// Writes a datagram with options, shows its bytes, reads it back, shows what the reader says, and lists the options back.
 use compose::Written;
+use datagram::reading;
+use datagram::reading::Outcome;
+use datagram::reading::Reading;
 use libc::STDOUT_FILENO;
+use transcribe::Listed;
 
 const ROOM: usize = 128;
 
@@ -22,7 +26,7 @@ fn main() {
     }
 }
 
-// The payload in hexadecimal, and the reader's report on it.
+// The payload in hexadecimal, the reader's report on it, and its options as an encoded list.
 fn show(buffer: &[u8], length: usize, source: [u8; 4], destination: [u8; 4]) {
     if buffer.len() < length {
         return;
@@ -33,6 +37,37 @@ fn show(buffer: &[u8], length: usize, source: [u8; 4], destination: [u8; 4]) {
     let mut text = [0u8; TEXT];
     let end = report::report(payload, source, destination, &mut text);
     io::write_all(STDOUT_FILENO, &text[..end]);
+    list(payload, source, destination);
+}
+
+fn list(payload: &[u8], source: [u8; 4], destination: [u8; 4]) {
+    let outcome = reading::read(payload, source, destination);
+    match outcome {
+        Outcome::Accepted(reading) => list_back(payload, reading),
+        Outcome::Refused(_) => say(b"nothing to list\n"),
+    }
+}
+
+// The reading as an encoded option list.
+fn list_back(payload: &[u8], reading: Reading) {
+    let mut buffer = [0u8; ROOM];
+    let listed = catalogue::list_reading(payload, reading, &mut buffer);
+    match listed {
+        Listed::Written { size, fill } => show_list(&buffer, size, fill),
+        Listed::Full => say(b"refused 8\n"),
+    }
+}
+
+// The list in hexadecimal, and the fill beside it.
+fn show_list(buffer: &[u8], size: usize, fill: usize) {
+    if buffer.len() < size {
+        return;
+    }
+    say(b"listed ");
+    hex(&buffer[..size]);
+    say(b"fill ");
+    io::print_decimal(STDOUT_FILENO, fill as u64);
+    say(b"\n");
 }
 
 fn hex(bytes: &[u8]) {

@@ -38,6 +38,9 @@ slice-aggregate-write-all c = sym (length-take-le _ _ (put-room (omega arith) (c
 write-all-requires : tie.Need-write-all-requires
 write-all-requires c κs = search needs
 
+list-requires : tie.Need-list-requires
+list-requires c κs = search needs
+
 returns-2 : tie.Need-returns-2
 returns-2 c = search needs
 
@@ -55,4 +58,5 @@ show-spec =
     array-share-prefix-text
     slice-aggregate-write-all
     write-all-requires
+    list-requires
     returns-2)

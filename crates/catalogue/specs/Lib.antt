@@ -1,0 +1,2 @@
+-- `Catalogue` says what the listing of a reading is.
+pub mod Catalogue
