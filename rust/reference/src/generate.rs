@@ -1,0 +1,1507 @@
+//! Seeded inputs for every call: sound, mutated and adversarial ones, and a
+//! count of which verdicts, refusals and answers they reach.
+
+use crate::book::{Book, OpenPiece};
+use crate::checksum;
+use crate::crc::crc32c;
+use crate::docket::{encode, list_options, list_reread};
+use crate::reader::{read, reread, Apc, Fields, ReadOption, Verdict};
+use crate::table::{
+    bill, clock, fresh, piece, record_test, set_up, Answer, Assembly, Flow, PieceCall, Record,
+    Slot, ASSEMBLIES, LIFE, OFFERED_MOST, PIECES, PLACE, SHARE,
+};
+use crate::writer::write;
+use std::collections::BTreeMap;
+
+/// A small generator of numbers (splitmix64).
+#[derive(Clone, Debug)]
+pub struct Random(u64);
+
+impl Random {
+    pub fn new(seed: u64) -> Random {
+        Random(seed)
+    }
+
+    pub fn draw(&mut self) -> u64 {
+        self.0 = self.0.wrapping_add(0x9E37_79B9_7F4A_7C15);
+        let mut z = self.0;
+        z = (z ^ z >> 30).wrapping_mul(0xBF58_476D_1CE4_E5B9);
+        z = (z ^ z >> 27).wrapping_mul(0x94D0_49BB_1331_11EB);
+        z ^ z >> 31
+    }
+
+    /// 0 to `count` - 1; 0 for a count of 0.
+    pub fn below(&mut self, count: usize) -> usize {
+        (self.draw() % count.max(1) as u64) as usize
+    }
+
+    /// True once in `count` times.
+    pub fn one_in(&mut self, count: usize) -> bool {
+        self.below(count) == 0
+    }
+
+    pub fn byte(&mut self) -> u8 {
+        self.draw() as u8
+    }
+
+    pub fn bytes(&mut self, count: usize) -> Vec<u8> {
+        (0..count).map(|_| self.byte()).collect()
+    }
+
+    pub fn four(&mut self) -> [u8; 4] {
+        (self.draw() as u32).to_be_bytes()
+    }
+
+    /// One of a list that is not empty.
+    pub fn pick<T: Copy>(&mut self, from: &[T]) -> T {
+        from[self.below(from.len())]
+    }
+}
+
+// ---------------------------------------------------------------- datagrams
+
+/// Input of `read`.
+#[derive(Clone, Debug)]
+pub struct Datagram {
+    pub source: [u8; 4],
+    pub destination: [u8; 4],
+    pub payload: Vec<u8>,
+}
+
+/// How a checksum field is filled.
+#[derive(Clone, Copy, PartialEq, Eq)]
+enum Sum {
+    Right,
+    Zero,
+    Wrong,
+}
+
+/// A payload of user data and area, with both checksums filled as asked.
+/// An area too short for an option checksum gets none.
+fn build(random: &mut Random, user: &[u8], area: &[u8], udp: Sum, option: Sum) -> Datagram {
+    let length = 8 + user.len();
+    let mut payload = random.bytes(4);
+    payload.extend((length as u16).to_be_bytes());
+    payload.extend([0, 0]);
+    payload.extend(user);
+    payload.extend(area);
+    let source = random.four();
+    let destination = random.four();
+    let pad = length % 2;
+    if area.len() >= pad + 2 {
+        let field = filled(
+            random,
+            option,
+            checksum::area_sum(&payload[length..], pad == 1),
+        );
+        payload[length + pad..length + pad + 2].copy_from_slice(&field);
+    }
+    let sum = checksum::udp_sum(source, destination, &payload[..length]);
+    let field = filled(random, udp, sum);
+    payload[6..8].copy_from_slice(&field);
+    Datagram {
+        source,
+        destination,
+        payload,
+    }
+}
+
+fn filled(random: &mut Random, how: Sum, sum: u16) -> [u8; 2] {
+    let right = checksum::sent(sum);
+    match how {
+        Sum::Right => right,
+        Sum::Zero => 0,
+        Sum::Wrong => {
+            // Neither 0 nor another spelling of the right one.
+            let mut wrong = right;
+            while wrong == right || wrong == 0 || (wrong == 0xFFFF && sum == 0) {
+                wrong = random.draw() as u16;
+            }
+            wrong
+        }
+    }
+    .to_be_bytes()
+}
+
+/// Works both checksums out again, where the payload has room for them.
+fn repair(datagram: &mut Datagram) {
+    let payload = &mut datagram.payload;
+    if payload.len() < 8 {
+        return;
+    }
+    let length = usize::from(u16::from_be_bytes([payload[4], payload[5]]));
+    if length < 8 || length > payload.len() {
+        return;
+    }
+    let at = length + length % 2;
+    if payload.len() >= at + 2 {
+        payload[at..at + 2].fill(0);
+        let sum = checksum::sent(checksum::area_sum(&payload[length..], length % 2 == 1));
+        payload[at..at + 2].copy_from_slice(&sum.to_be_bytes());
+    }
+    payload[6..8].fill(0);
+    let sum = checksum::udp_sum(datagram.source, datagram.destination, &payload[..length]);
+    payload[6..8].copy_from_slice(&checksum::sent(sum).to_be_bytes());
+}
+
+/// The pad, if the length is odd, and room for the option checksum.
+fn area_head(user_length: usize) -> Vec<u8> {
+    vec![0; user_length % 2 + 2]
+}
+
+/// Appends an option with a body, extended where that is needed or asked.
+fn put_option(list: &mut Vec<u8>, kind: u8, body: &[u8], extended: bool) {
+    list.push(kind);
+    if body.len() + 2 > 254 || (extended && body.len() + 4 >= 255) {
+        list.push(255);
+        list.extend(((body.len() + 4) as u16).to_be_bytes());
+    } else {
+        list.push((body.len() + 2) as u8);
+    }
+    list.extend(body);
+}
+
+/// Appends one sound option, and before it now and then NOPs.
+fn sound_option(random: &mut Random, list: &mut Vec<u8>, user: &[u8]) {
+    if random.one_in(4) {
+        let count = 1 + random.below(3);
+        list.extend(vec![1; count]);
+    }
+    match random.below(12) {
+        0 | 1 => {
+            let mut crc = crc32c(user).to_be_bytes();
+            if random.one_in(3) {
+                crc[random.below(4)] ^= 1 << random.below(8);
+            }
+            put_option(list, 2, &crc, false);
+        }
+        2 => put_option(list, 4, &random.bytes(2), false),
+        3 => put_option(list, 5, &random.bytes(3), false),
+        4 => put_option(list, 6, &random.bytes(4), false),
+        5 => put_option(list, 7, &random.bytes(4), false),
+        6 => put_option(list, 8, &random.bytes(8), false),
+        other => {
+            let kind = random.pick(&[9, 10, 126, 127, 128, 190, 191]);
+            let length = if other == 11 && random.one_in(4) {
+                random.pick(&[250, 251, 252, 253, 254, 600])
+            } else {
+                random.below(6)
+            };
+            let body = random.bytes(length);
+            let extended = random.one_in(2);
+            put_option(list, kind, &body, extended);
+        }
+    }
+}
+
+/// Appends something that ends the walk with a fault.
+fn fault(random: &mut Random, list: &mut Vec<u8>) {
+    let safe = random.pick(&[2, 3, 4, 5, 6, 7, 8, 9, 127, 191]);
+    match random.below(10) {
+        0 => list.extend([safe, 0]),
+        1 => list.extend([safe, 1]),
+        2 => list.push(safe),
+        3 => list.extend([random.pick(&[9, 127, 191]), 255, 0]),
+        4 => {
+            list.extend([random.pick(&[9, 127, 191]), 255, 0, 254]);
+            list.extend(random.bytes(250));
+        }
+        5 => list.extend([random.pick(&[9, 127, 191]), 5, 0, 0]),
+        6 => {
+            // A fixed kind with a length near its own.
+            let (kind, own) = random.pick(&[(2, 6), (4, 4), (5, 5), (6, 6), (7, 6), (8, 10)]);
+            let wrong: u8 = if random.one_in(2) { own - 1 } else { own + 1 };
+            list.extend([kind, wrong]);
+            list.extend(random.bytes(20));
+        }
+        7 => {
+            // FRAG in the wrong place, or of a wrong length.
+            list.extend([6, 6, 0, 0, 0, 0]);
+            list.extend([3, random.pick(&[9, 10, 11, 12, 13])]);
+            list.extend(random.bytes(14));
+        }
+        _ => {
+            let kind = random.pick(&[192, 193, 200, 254, 255]);
+            list.push(kind);
+            if random.one_in(2) {
+                let length = random.below(4);
+                list.extend(random.bytes(length));
+            }
+        }
+    }
+}
+
+/// Appends EOL and bytes behind it, zero or not.
+fn end_list(random: &mut Random, list: &mut Vec<u8>) {
+    list.push(0);
+    let count = random.pick(&[0, 1, 2, 5, 255, 300]);
+    if random.one_in(2) {
+        list.extend(vec![0; count]);
+    } else {
+        list.extend(random.bytes(count));
+    }
+}
+
+fn user_data(random: &mut Random) -> Vec<u8> {
+    let count = random.pick(&[0, 1, 2, 3, 7, 8, 31, 32, 33, 200]);
+    random.bytes(count)
+}
+
+/// An option list of up to 32 sound options and perhaps a fill.
+fn sound_list(random: &mut Random, user: &[u8]) -> Vec<u8> {
+    let mut list = Vec::new();
+    let count = random.pick(&[0, 1, 1, 2, 3, 5, 31, 32]);
+    for _ in 0..count {
+        sound_option(random, &mut list, user);
+    }
+    if random.one_in(3) {
+        end_list(random, &mut list);
+    }
+    list
+}
+
+/// A list with more than the options allowed, or with a fault as the 33rd.
+fn crowded_list(random: &mut Random, user: &[u8]) -> Vec<u8> {
+    let mut list = Vec::new();
+    let count = random.pick(&[32, 33, 33, 34, 60]);
+    for _ in 0..count {
+        sound_option(random, &mut list, user);
+    }
+    if random.one_in(2) {
+        fault(random, &mut list);
+    }
+    list
+}
+
+/// A fragment's list and bytes; `from` is the list's packet offset. The
+/// values stand at and around their bounds.
+fn fragment_list(random: &mut Random, from: usize) -> Vec<u8> {
+    let mut list = vec![1; random.pick(&[0, 0, 0, 1, 3])];
+    let at = list.len();
+    let last = random.one_in(2);
+    list.extend([3, if last { 12 } else { 10 }, 0, 0]);
+    list.extend(random.four());
+    let offset = random.pick(&[8u16, 8, 9, 20, 4_103, 65_535]);
+    let offset = if random.one_in(12) {
+        random.pick(&[0, 7])
+    } else {
+        offset
+    };
+    list.extend(offset.to_be_bytes());
+    if last {
+        let start: u16 = if random.one_in(12) {
+            random.pick(&[0, 7])
+        } else {
+            random.pick(&[8, 9, 300, 65_535])
+        };
+        list.extend(start.to_be_bytes());
+    }
+    let frag_end = list.len();
+    let options = random.pick(&[0, 0, 0, 1, 2, 31, 32]);
+    for _ in 0..options {
+        sound_option(random, &mut list, &[]);
+    }
+    if random.one_in(8) {
+        fault(random, &mut list);
+    }
+    if random.one_in(8) {
+        end_list(random, &mut list);
+    }
+    let options_end = list.len();
+    let count = random.pick(&[0, 1, 8, 40]);
+    list.extend(random.bytes(count));
+    let start = match random.below(12) {
+        0 => frag_end,
+        1 => frag_end.saturating_sub(1),
+        2 => list.len(),
+        3 => list.len() + 1,
+        4 => options_end.saturating_sub(1),
+        _ => options_end,
+    };
+    let field = ((from + start) as u16).to_be_bytes();
+    list[at + 2..at + 4].copy_from_slice(&field);
+    list
+}
+
+/// One datagram of any sort.
+pub fn datagram(random: &mut Random) -> Datagram {
+    let user = user_data(random);
+    let mut area = area_head(user.len());
+    let (udp, option) = random.pick(&[
+        (Sum::Right, Sum::Right),
+        (Sum::Right, Sum::Right),
+        (Sum::Right, Sum::Right),
+        (Sum::Zero, Sum::Zero),
+        (Sum::Zero, Sum::Right),
+    ]);
+    match random.below(18) {
+        0 => build(random, &user, &[], udp, option),
+        1 => {
+            let count = random.below(user.len() % 2 + 2);
+            let area = random.bytes(count);
+            build(random, &user, &area, udp, option)
+        }
+        2 => {
+            let user = random.pick(&[&[7u8][..], &[1, 2, 3]]);
+            let mut area = area_head(user.len());
+            area[0] = 1 << random.below(8);
+            area.extend(sound_list(random, user));
+            build(random, user, &area, udp, option)
+        }
+        3 => {
+            area.extend(sound_list(random, &user));
+            build(random, &user, &area, Sum::Right, Sum::Zero)
+        }
+        4 => {
+            area.extend(sound_list(random, &user));
+            build(random, &user, &area, udp, Sum::Wrong)
+        }
+        5..=8 => {
+            area.extend(sound_list(random, &user));
+            build(random, &user, &area, udp, option)
+        }
+        9 => {
+            area.extend(crowded_list(random, &user));
+            build(random, &user, &area, udp, option)
+        }
+        10 => {
+            let count = random.below(4);
+            for _ in 0..count {
+                sound_option(random, &mut area, &user);
+            }
+            fault(random, &mut area);
+            build(random, &user, &area, udp, option)
+        }
+        11..=13 => {
+            let mut area = area_head(0);
+            area.extend(fragment_list(random, 10));
+            build(random, &[], &area, udp, option)
+        }
+        14 => {
+            let from = 8 + user.len() + area.len();
+            area.extend(fragment_list(random, from));
+            build(random, &user, &area, udp, option)
+        }
+        15 | 16 => mutated(random),
+        _ => odd_datagram(random),
+    }
+}
+
+/// A datagram with a few bytes changed, cut or added; the checksums are
+/// mostly worked out again, so that the change is looked at.
+fn mutated(random: &mut Random) -> Datagram {
+    let mut datagram = datagram(random);
+    for _ in 0..1 + random.below(3) {
+        let length = datagram.payload.len();
+        let at = random.below(length);
+        match random.below(6) {
+            0 => datagram.payload.truncate(at),
+            1 => {
+                let byte = random.byte();
+                datagram.payload.insert(at.min(length), byte);
+            }
+            2 if length > 0 => {
+                datagram.payload.remove(at);
+            }
+            3 if length > 5 => datagram.payload[5] = datagram.payload[5].wrapping_add(1),
+            _ if length > 0 => {
+                datagram.payload[at] = random.pick(&[0, 1, 3, 6, 8, 10, 12, 192, 254, 255]);
+            }
+            _ => {}
+        }
+    }
+    if !random.one_in(4) {
+        repair(&mut datagram);
+    }
+    datagram
+}
+
+/// Too short, too long, a wrong length field or a wrong UDP checksum.
+fn odd_datagram(random: &mut Random) -> Datagram {
+    let user = user_data(random);
+    let mut datagram = build(random, &user, &[], Sum::Right, Sum::Right);
+    match random.below(5) {
+        0 => datagram.payload.truncate(random.below(8)),
+        1 => {
+            let length = random.pick(&[65_514usize, 65_515, 65_515, 65_516, 66_000]);
+            datagram.payload.resize(length, 0);
+            repair(&mut datagram);
+        }
+        2 => {
+            let length = random.pick(&[0, 7, datagram.payload.len() as u16 + 1, 65_535]);
+            datagram.payload[4..6].copy_from_slice(&length.to_be_bytes());
+        }
+        3 => {
+            let count = random.below(40);
+            datagram.payload = random.bytes(count);
+        }
+        _ => datagram = build(random, &user, &[], Sum::Wrong, Sum::Right),
+    }
+    datagram
+}
+
+/// An original and its option start, as `reread` takes them.
+pub fn original(random: &mut Random) -> (Vec<u8>, usize) {
+    if random.one_in(40) {
+        let length = random.pick(&[65_506, 65_507, 65_508, 70_000]);
+        let r = random.pick(&[0, 1, length - 2, length, length + 1]);
+        return (vec![0; length], r);
+    }
+    let user = user_data(random);
+    let mut area = area_head(user.len());
+    match random.below(8) {
+        0 => area.clear(),
+        1 => area.truncate(1),
+        2 => {
+            area[0] = 1;
+            area.extend(sound_list(random, &user));
+        }
+        3 => area.extend(crowded_list(random, &user)),
+        4 => {
+            let from = user.len() + area.len();
+            area.extend(fragment_list(random, from));
+        }
+        5 => fault(random, &mut area),
+        _ => area.extend(sound_list(random, &user)),
+    }
+    let pad = user.len() % 2;
+    if area.len() >= pad + 2 {
+        let how = random.pick(&[Sum::Right, Sum::Right, Sum::Zero, Sum::Zero, Sum::Wrong]);
+        area[pad..pad + 2].fill(0);
+        let field = filled(random, how, checksum::area_sum(&area, pad == 1));
+        area[pad..pad + 2].copy_from_slice(&field);
+    }
+    let mut whole = user.clone();
+    whole.extend(&area);
+    let r = match random.below(24) {
+        0 => whole.len() + 1,
+        1 => usize::MAX,
+        2 => random.below(whole.len() + 1),
+        _ => user.len(),
+    };
+    (whole, r)
+}
+
+// ------------------------------------------------------------------ writing
+
+/// Input of `write`; the buffer is lent with this length.
+#[derive(Clone, Debug)]
+pub struct Writing {
+    pub source: [u8; 4],
+    pub destination: [u8; 4],
+    pub source_port: u16,
+    pub destination_port: u16,
+    pub user: Vec<u8>,
+    pub docket: Vec<u8>,
+    pub fill: u8,
+    pub buffer: usize,
+}
+
+/// A docket that the writer takes.
+pub fn docket(random: &mut Random) -> Vec<u8> {
+    let count = random.pick(&[0, 1, 1, 2, 3, 8, 32]);
+    let long = random.pick(&[0, 1, 5, 20, 126, 127, 128, 251, 252, 253, 254, 1_000]);
+    let bodies: Vec<Vec<u8>> = (0..count)
+        .map(|_| {
+            let length = if random.one_in(6) {
+                long
+            } else {
+                random.below(8)
+            };
+            random.bytes(length)
+        })
+        .collect();
+    let options: Vec<ReadOption> = bodies.iter().map(|body| entry(random, body)).collect();
+    encode(&options)
+}
+
+fn entry<'a>(random: &mut Random, body: &'a [u8]) -> ReadOption<'a> {
+    let wide = [0, 1, 127, 128, 300, 16_383, 16_384, 63_985, u32::MAX];
+    let number = |random: &mut Random, most: u32| {
+        if random.one_in(2) {
+            random.pick(&wide).min(most)
+        } else {
+            (random.draw() % (u64::from(most) + 1)) as u32
+        }
+    };
+    let kind = random.pick(&[2, 4, 5, 6, 7, 8, 9, 10, 127, 128, 191]);
+    let fields = match kind {
+        2 => Fields::None,
+        4 => Fields::One(number(random, 0xFFFF)),
+        5 => Fields::Two(number(random, 0xFFFF), number(random, 0xFF)),
+        6 | 7 => Fields::One(number(random, u32::MAX)),
+        8 => Fields::Two(number(random, u32::MAX), number(random, u32::MAX)),
+        _ => Fields::Body(body),
+    };
+    ReadOption { kind, fields }
+}
+
+/// A docket that is mostly refused.
+pub fn bad_docket(random: &mut Random) -> Vec<u8> {
+    let fixed: [&[u8]; 24] = [
+        &[],
+        &[0x80],
+        &[33],
+        &[0x80, 0],
+        &[1],
+        &[1, 0],
+        &[1, 1],
+        &[1, 3],
+        &[1, 0xC0, 1],
+        &[1, 0xFF, 1],
+        &[1, 0x80, 2],
+        &[1, 0x83, 0],
+        &[1, 6, 0x80, 0],
+        &[1, 6, 0xFF, 0xFF, 0xFF, 0xFF, 0x10],
+        &[1, 6, 0xFF, 0xFF, 0xFF, 0xFF, 0x0F],
+        &[1, 4, 0x80, 0x80, 4],
+        &[1, 5, 0, 0x80, 2],
+        &[1, 9, 0xFC, 0xFF, 3],
+        &[1, 9, 3, 1, 2],
+        &[2, 6, 0, 3],
+        &[2, 6, 0x80, 0, 3],
+        &[1, 3, 0xFF, 0xFF],
+        &[0x80, 0x80, 0x80, 0x80, 0x80, 0x80, 0x80, 0x80, 0x80, 2],
+        &[1, 0x86, 0x80, 0x80, 0x80, 0x10, 0],
+    ];
+    if random.one_in(2) {
+        return random.pick(&fixed).to_vec();
+    }
+    let mut docket = docket(random);
+    for _ in 0..1 + random.below(2) {
+        let length = docket.len();
+        let at = random.below(length);
+        match random.below(4) {
+            0 => docket.truncate(at),
+            1 => docket.push(random.byte()),
+            _ if length > 0 => docket[at] = random.byte(),
+            _ => {}
+        }
+    }
+    docket
+}
+
+/// One call of the writer.
+pub fn writing(random: &mut Random) -> Writing {
+    let user = if random.one_in(60) {
+        let count = random.pick(&[65_000, 65_504, 65_505, 65_506, 65_507, 65_508, 70_000]);
+        random.bytes(count)
+    } else {
+        user_data(random)
+    };
+    let docket = if random.one_in(4) {
+        bad_docket(random)
+    } else {
+        docket(random)
+    };
+    let mut writing = Writing {
+        source: random.four(),
+        destination: random.four(),
+        source_port: random.draw() as u16,
+        destination_port: random.draw() as u16,
+        user,
+        docket,
+        fill: random.pick(&[0, 0, 1, 2, 7, 255]),
+        buffer: 70_000,
+    };
+    // The buffer's length stands around the payload's.
+    let needed = writing.run(&mut vec![0; 70_000]).unwrap_or(12);
+    writing.buffer = match random.below(6) {
+        0 => needed - 1,
+        1 => 0,
+        2 => needed + 3,
+        3 => 70_000,
+        _ => needed,
+    };
+    writing
+}
+
+impl Writing {
+    pub fn run(&self, buffer: &mut [u8]) -> Result<usize, u32> {
+        write(
+            self.source,
+            self.destination,
+            self.source_port,
+            self.destination_port,
+            &self.user,
+            &self.docket,
+            self.fill,
+            buffer,
+        )
+    }
+}
+
+// -------------------------------------------------------------- table calls
+
+/// The lengths of the table lent to a call.
+#[derive(Clone, Copy, Debug, PartialEq, Eq)]
+pub struct Lent {
+    pub records: usize,
+    pub store: usize,
+}
+
+impl Lent {
+    /// The table of this many clients.
+    pub fn of(clients: usize) -> Lent {
+        Lent {
+            records: clients,
+            store: clients * SHARE,
+        }
+    }
+
+    /// Whether 20 lets it pass.
+    pub fn passes(&self) -> bool {
+        (1..=12).contains(&self.records) && self.store == self.records * SHARE
+    }
+}
+
+/// What a call asks of the table.
+#[derive(Clone, Debug)]
+pub enum Ask {
+    SetUp,
+    Piece {
+        client: usize,
+        time: u64,
+        flow: Flow,
+        identification: u32,
+        place: usize,
+        bytes: Vec<u8>,
+        last: bool,
+        r: usize,
+        /// The out buffer's length.
+        out: usize,
+    },
+    Clock {
+        client: usize,
+        time: u64,
+    },
+    Bill {
+        client: usize,
+    },
+}
+
+/// One call of a list.
+#[derive(Clone, Debug)]
+pub struct Call {
+    pub lent: Lent,
+    pub ask: Ask,
+}
+
+impl Call {
+    /// The client asked for; none for a set-up.
+    pub fn client(&self) -> Option<usize> {
+        match self.ask {
+            Ask::SetUp => None,
+            Ask::Piece { client, .. } | Ask::Clock { client, .. } | Ask::Bill { client } => {
+                Some(client)
+            }
+        }
+    }
+
+    /// The call's word, for counts.
+    pub fn word(&self) -> &'static str {
+        match self.ask {
+            Ask::SetUp => "set up",
+            Ask::Piece { .. } => "piece",
+            Ask::Clock { .. } => "clock",
+            Ask::Bill { .. } => "bill",
+        }
+    }
+
+    /// The out buffer's length; 0 where the call has none.
+    pub fn out_length(&self) -> usize {
+        match self.ask {
+            Ask::Piece { out, .. } => out,
+            _ => 0,
+        }
+    }
+
+    /// Runs the call on a lent table.
+    pub fn on_table(&self, records: &mut [Record], store: &mut [u8], out: &mut [u8]) -> Answer {
+        match &self.ask {
+            Ask::SetUp => set_up(records, store),
+            Ask::Clock { client, time } => clock(records, store, *client, *time),
+            Ask::Bill { client } => bill(records, store, *client),
+            Ask::Piece { .. } => match self.piece_call() {
+                Some(call) => piece(records, store, &call, out),
+                None => Answer::Refused(0),
+            },
+        }
+    }
+
+    /// Runs the call on the book of its client.
+    pub fn on_book(&self, book: &mut Book, out: &mut [u8]) -> Answer {
+        let Lent { records, store } = self.lent;
+        match &self.ask {
+            Ask::SetUp => book.set_up(records, store),
+            Ask::Clock { time, .. } => book.clock(records, store, *time),
+            Ask::Bill { .. } => book.bill(records, store),
+            Ask::Piece { .. } => match self.piece_call() {
+                Some(call) => book.piece(records, store, &call, out),
+                None => Answer::Refused(0),
+            },
+        }
+    }
+
+    fn piece_call(&self) -> Option<PieceCall<'_>> {
+        match &self.ask {
+            Ask::Piece {
+                client,
+                time,
+                flow,
+                identification,
+                place,
+                bytes,
+                last,
+                r,
+                ..
+            } => Some(PieceCall {
+                client: *client,
+                time: *time,
+                flow: *flow,
+                identification: *identification,
+                place: *place,
+                bytes,
+                last: *last,
+                r: *r,
+            }),
+            _ => None,
+        }
+    }
+}
+
+/// A table that lists are run on.
+#[derive(Clone, Debug)]
+pub struct World {
+    pub records: Vec<Record>,
+    pub store: Vec<u8>,
+}
+
+impl World {
+    /// A table of any lengths; the store starts with bytes that are not 0.
+    pub fn new(lent: Lent) -> World {
+        World {
+            records: vec![fresh(); lent.records],
+            store: vec![0xA5; lent.store],
+        }
+    }
+
+    pub fn lent(&self) -> Lent {
+        Lent {
+            records: self.records.len(),
+            store: self.store.len(),
+        }
+    }
+
+    /// Runs a call on this table if it is the one lent; else a set-up that 20
+    /// lets pass brings another table, and other calls get a table of their
+    /// own that is dropped again.
+    pub fn run(&mut self, call: &Call, out: &mut [u8]) -> Answer {
+        if call.lent == self.lent() {
+            return call.on_table(&mut self.records, &mut self.store, out);
+        }
+        let mut other = World::new(call.lent);
+        let answer = call.on_table(&mut other.records, &mut other.store, out);
+        if answer == Answer::SetUp {
+            *self = other;
+        }
+        answer
+    }
+}
+
+/// The original that a key's pieces are cut from.
+#[derive(Clone, Debug)]
+struct Plan {
+    cuts: Vec<usize>,
+    r: usize,
+}
+
+fn plan(random: &mut Random) -> Plan {
+    let t = random.pick(&[1, 2, 12, 24, 40, 40, 300, 4_096]);
+    let inner = random.pick(&[0, 1, 2, 4, 15, 22, 30]).min(t - 1);
+    let mut cuts = vec![0, t];
+    while cuts.len() < inner + 2 {
+        let cut = 1 + random.below(t - 1);
+        if !cuts.contains(&cut) {
+            cuts.push(cut);
+        }
+    }
+    cuts.sort_unstable();
+    let r = random.pick(&[0, t / 2, t]);
+    Plan { cuts, r }
+}
+
+/// Six keys that differ in one component each.
+fn key(number: usize) -> (Flow, u32) {
+    let mut flow = Flow {
+        source: [10, 0, 0, 1],
+        destination: [10, 0, 0, 2],
+        source_port: 4_000,
+        destination_port: 5_000,
+    };
+    let mut identification = 7;
+    match number {
+        1 => flow.source[3] = 9,
+        2 => flow.destination[0] = 11,
+        3 => flow.source_port = 4_001,
+        4 => flow.destination_port = 4_000,
+        5 => identification = u32::MAX,
+        _ => {}
+    }
+    (flow, identification)
+}
+
+/// The byte of a key's original at a place.
+fn content(number: usize, place: usize) -> u8 {
+    Random::new((number * 65_536 + place) as u64).byte()
+}
+
+/// A table of lengths that 20 refuses.
+fn wrong_lent(random: &mut Random, right: Lent) -> Lent {
+    let wrong = match random.below(7) {
+        0 => Lent::of(0),
+        1 => Lent::of(13),
+        2 => Lent {
+            records: right.records + 1,
+            ..right
+        },
+        3 => Lent {
+            records: right.records - 1,
+            ..right
+        },
+        4 => Lent {
+            store: right.store - 1,
+            ..right
+        },
+        5 => Lent {
+            store: right.store + SHARE,
+            ..right
+        },
+        _ => Lent { store: 0, ..right },
+    };
+    debug_assert!(!wrong.passes());
+    wrong
+}
+
+/// The next time of a client: mostly at once or soon, now and then at an
+/// expiry's edge, earlier than before, or near 2^64. A greater pace means
+/// fewer steps.
+fn next_time(random: &mut Random, now: &mut u64, pace: usize) -> u64 {
+    let step = match random.below(pace) {
+        0 => LIFE - 1,
+        1 => LIFE,
+        2 => LIFE + 1,
+        3..=5 => random.below(20_000) as u64,
+        6 => return now.saturating_sub(1 + random.below(3) as u64),
+        7 => {
+            if random.one_in(6) {
+                *now = (*now).max(u64::MAX - random.below(300_000) as u64);
+            }
+            0
+        }
+        8..=15 => random.below(50) as u64,
+        _ => 0,
+    };
+    *now = now.saturating_add(step);
+    *now
+}
+
+/// A list of calls on a table of at most `clients` clients. Every call that
+/// 20 lets pass gets the table of the last set-up taken.
+pub fn calls(random: &mut Random, clients: usize, count: usize) -> Vec<Call> {
+    let mut table = Lent::of(1 + random.below(clients));
+    let mut now = [0u64; 13];
+    let pace = random.pick(&[50, 400]);
+    // A calm list changes little and favours one client and one key, so that
+    // assemblies grow to 16 pieces.
+    let calm = random.one_in(2);
+    let mut plans: Vec<Plan> = (0..6).map(|_| plan(random)).collect();
+    let mut list = vec![Call {
+        lent: table,
+        ask: Ask::SetUp,
+    }];
+    while list.len() < count {
+        let mut lent = table;
+        if random.one_in(50) {
+            lent = wrong_lent(random, table);
+        }
+        let client = if random.one_in(50) {
+            random.pick(&[table.records, 12, 13, usize::MAX])
+        } else if calm && random.one_in(2) {
+            0
+        } else {
+            random.below(table.records)
+        };
+        let ask = match random.below(100) {
+            0 if random.one_in(2) => {
+                match random.below(3) {
+                    0 => lent = wrong_lent(random, table),
+                    1 if lent == table => {
+                        table = Lent::of(1 + random.below(clients));
+                        lent = table;
+                    }
+                    _ => {}
+                }
+                if lent == table {
+                    now = [0; 13];
+                }
+                Ask::SetUp
+            }
+            1..=4 => Ask::Clock {
+                client,
+                time: next_time(random, &mut now[client.min(12)], pace),
+            },
+            5..=8 => Ask::Bill { client },
+            _ => {
+                let favoured = calm && random.one_in(2);
+                let number = if favoured { 0 } else { random.below(6) };
+                if random.one_in(if calm { 150 } else { 20 }) {
+                    plans[number] = plan(random);
+                }
+                let changed = random.one_in(if calm { 100 } else { 7 });
+                let time = next_time(random, &mut now[client.min(12)], pace);
+                planned_piece(random, &plans[number], number, client, time, changed)
+            }
+        };
+        list.push(Call { lent, ask });
+    }
+    list
+}
+
+/// A piece of a plan, as it should be or with one thing changed.
+fn planned_piece(
+    random: &mut Random,
+    plan: &Plan,
+    number: usize,
+    client: usize,
+    time: u64,
+    changed: bool,
+) -> Ask {
+    let (flow, identification) = key(number);
+    let index = random.below(plan.cuts.len() - 1);
+    let mut place = plan.cuts[index];
+    let mut end = plan.cuts[index + 1];
+    let mut last = index + 2 == plan.cuts.len();
+    let mut r = if last { plan.r } else { random.below(5_000) };
+    let mut out = PLACE;
+    let mut altered = false;
+    match random.below(9) {
+        _ if !changed => {}
+        0 => altered = true,
+        1 => last = !last,
+        2 => r = random.pick(&[0, end, end + 1, usize::MAX]),
+        3 => place = place.saturating_sub(1),
+        4 => end += 1,
+        5 => {
+            place = random.below(end + 2);
+            end = place + 1 + random.below(4);
+            last = random.one_in(3);
+        }
+        6 => end = place,
+        7 => end = random.pick(&[PLACE, PLACE + 1]),
+        _ => out = random.pick(&[0, PLACE - 1, PLACE + 5]),
+    }
+    let mut bytes: Vec<u8> = (place..end).map(|at| content(number, at)).collect();
+    if altered {
+        let at = random.below(bytes.len());
+        bytes[at] ^= 1;
+    }
+    if random.one_in(400) {
+        place = random.pick(&[usize::MAX, usize::MAX - bytes.len(), 65_536, 65_535]);
+    }
+    Ask::Piece {
+        client,
+        time,
+        flow,
+        identification,
+        place,
+        bytes,
+        last,
+        r,
+        out,
+    }
+}
+
+// ----------------------------------------------------------- forged records
+
+/// A record that passes the record test, without a history.
+pub fn sound_record(random: &mut Random) -> Record {
+    let mut record = fresh();
+    record.time = match random.below(4) {
+        0 => random.below(200_000) as u64,
+        1 => u64::MAX - random.below(200_000) as u64,
+        2 => u64::MAX,
+        _ => random.draw(),
+    };
+    let skip = random.below(6);
+    for (number, assembly) in record.assemblies.iter_mut().enumerate() {
+        if random.one_in(3) {
+            continue;
+        }
+        let (flow, identification) = key((number + skip) % 6);
+        let age = random.pick(&[0, 1, 60_000, LIFE - 1]);
+        *assembly = Assembly {
+            flow,
+            identification,
+            opened: record.time.saturating_sub(age),
+            ..Assembly::default()
+        };
+        sound_pieces(random, assembly);
+        record.held += assembly
+            .pieces
+            .iter()
+            .map(|s| u64::from(s.length))
+            .sum::<u64>();
+    }
+    for figure in [
+        &mut record.delivered,
+        &mut record.expired,
+        &mut record.clashed,
+        &mut record.repeated,
+        &mut record.turned_away,
+    ] {
+        *figure = random.pick(&[0, 0, 7, 4_096, 1 << 32]);
+    }
+    if random.one_in(3) {
+        // Offered stands at or near its limit.
+        record.delivered = 0;
+        let others = figures(&record);
+        record.delivered = OFFERED_MOST - others - random.pick(&[0, 0, 1, 5, 100]);
+    }
+    record.offered = figures(&record);
+    record
+}
+
+fn figures(record: &Record) -> u64 {
+    record.held
+        + record.delivered
+        + record.expired
+        + record.clashed
+        + record.repeated
+        + record.turned_away
+}
+
+/// Gives an assembly 1 to 16 pieces that don't overlap and are not whole.
+fn sound_pieces(random: &mut Random, assembly: &mut Assembly) {
+    let step = random.pick(&[1usize, 2, 16, 256]);
+    let count = random.pick(&[1, 2, 5, 15, 16, 16]).min(PIECES);
+    // Every second cell, so that a gap is always left.
+    let mut cells: Vec<usize> = (0..PLACE / step).filter(|cell| cell % 2 == 1).collect();
+    cells.truncate(40);
+    for index in 0..count {
+        let Some(cell) = (!cells.is_empty()).then(|| cells.remove(random.below(cells.len())))
+        else {
+            break;
+        };
+        assembly.pieces[index] = Slot {
+            offset: (cell * step) as u16,
+            length: (1 + random.below(step)) as u16,
+            // Ignored in a piece that is not last.
+            option_start: random.pick(&[0, 0, 0, 9_999]),
+            last: false,
+        };
+        assembly.count += 1;
+    }
+    if random.one_in(2) {
+        let furthest = assembly
+            .pieces
+            .iter_mut()
+            .max_by_key(|slot| slot.offset + slot.length);
+        if let Some(slot) = furthest {
+            slot.last = true;
+            let end = slot.offset + slot.length;
+            slot.option_start = random.pick(&[0, end, end / 2]);
+        }
+    }
+}
+
+/// The count of ways in which `damage` breaks a record.
+pub const DAMAGES: usize = 31;
+
+/// Breaks one field of a sound record, so that it fails the record test.
+/// False where the record has nothing to break in this way.
+pub fn damage(random: &mut Random, record: &mut Record, way: usize) -> bool {
+    let live: Vec<usize> = (0..ASSEMBLIES)
+        .filter(|&index| record.assemblies[index].count != 0)
+        .collect();
+    let unused = (0..ASSEMBLIES).find(|&index| record.assemblies[index].count == 0);
+    // Figures that must fit each other.
+    match way {
+        0 => record.offered = record.offered.wrapping_add(1),
+        1 => record.offered = u64::MAX,
+        2 => record.held = record.held.wrapping_sub(1),
+        3 => record.delivered = u64::MAX,
+        4 => record.expired += 1,
+        5 => record.clashed += 1,
+        6 => record.repeated += 1,
+        7 => record.turned_away += 1,
+        8 => {
+            // Fits modulo 2^64 only.
+            record.delivered = u64::MAX;
+            record.expired = 1 + record.expired.max(1);
+            record.offered = record
+                .held
+                .wrapping_add(record.delivered)
+                .wrapping_add(record.expired)
+                .wrapping_add(record.clashed)
+                .wrapping_add(record.repeated)
+                .wrapping_add(record.turned_away);
+        }
+        9 => {
+            record.delivered += OFFERED_MOST + 1;
+            record.offered += OFFERED_MOST + 1;
+        }
+        10 => {
+            record.held += 1;
+            record.offered += 1;
+        }
+        // An unused assembly that is not fresh.
+        11..=16 => {
+            let Some(index) = unused else { return false };
+            let assembly = &mut record.assemblies[index];
+            match way {
+                11 => assembly.opened = record.time.max(1),
+                12 => assembly.identification = 7,
+                13 => assembly.flow.destination_port = 1,
+                14 => assembly.flow.source[0] = 1,
+                15 => assembly.pieces[PIECES - 1].offset = 1,
+                _ => assembly.pieces[0].last = true,
+            }
+        }
+        _ => {
+            if live.is_empty() {
+                return false;
+            }
+            let index = random.pick(&live);
+            let count = usize::from(record.assemblies[index].count);
+            if way == 17 {
+                let Some(&other) = live.iter().find(|&&other| other != index) else {
+                    return false;
+                };
+                record.assemblies[index].flow = record.assemblies[other].flow;
+                record.assemblies[index].identification = record.assemblies[other].identification;
+                return true;
+            }
+            let time = record.time;
+            let assembly = &mut record.assemblies[index];
+            let slot = random.below(count);
+            match way {
+                18 if time < u64::MAX => assembly.opened = time + 1,
+                19 if time >= LIFE => assembly.opened = time - LIFE,
+                20 => assembly.count = random.pick(&[17, 18, 255]),
+                // One more piece that is empty, one less that is left behind.
+                21 if count < PIECES => assembly.count += 1,
+                22 => assembly.count -= 1,
+                23 => assembly.pieces[slot].length = 0,
+                24 => assembly.pieces[slot].offset = 4_097 - assembly.pieces[slot].length,
+                25 => assembly.pieces[slot].offset = u16::MAX,
+                26 if count > 1 => {
+                    let other = if slot == 0 { 1 } else { 0 };
+                    assembly.pieces[slot].offset = assembly.pieces[other].offset;
+                }
+                27 => {
+                    let last = assembly.pieces[..count].iter().find(|slot| slot.last);
+                    if last.is_none() || count == 1 {
+                        return false;
+                    }
+                    let other = assembly.pieces[..count].iter_mut().find(|slot| !slot.last);
+                    if let Some(other) = other {
+                        other.last = true;
+                        other.option_start = 0;
+                    }
+                }
+                28 => {
+                    let last = assembly.pieces[..count].iter_mut().find(|slot| slot.last);
+                    let Some(last) = last else { return false };
+                    last.option_start = last.offset + last.length + 1;
+                }
+                29 if count < PIECES => {
+                    let slot = &mut assembly.pieces[PIECES - 1];
+                    match random.below(4) {
+                        0 => slot.offset = 1,
+                        1 => slot.length = 1,
+                        2 => slot.option_start = 1,
+                        _ => slot.last = true,
+                    }
+                }
+                30 => {
+                    // The whole original in one last piece.
+                    let before: u64 = assembly.pieces.iter().map(|s| u64::from(s.length)).sum();
+                    assembly.count = 1;
+                    assembly.pieces = [Slot::default(); PIECES];
+                    assembly.pieces[0] = Slot {
+                        offset: 0,
+                        length: 1,
+                        option_start: 0,
+                        last: true,
+                    };
+                    record.held = record.held - before + 1;
+                    record.turned_away += before - 1;
+                }
+                _ => return false,
+            }
+        }
+    }
+    true
+}
+
+/// A forged table: mostly sound records, a few with one damaged field, and
+/// a store of any bytes.
+pub fn forged_world(random: &mut Random, clients: usize) -> World {
+    let records = (0..clients)
+        .map(|_| {
+            let mut record = sound_record(random);
+            if random.one_in(4) {
+                let way = random.below(DAMAGES);
+                damage(random, &mut record, way);
+            }
+            record
+        })
+        .collect();
+    World {
+        records,
+        store: random.bytes(clients * SHARE),
+    }
+}
+
+/// A call on a forged table that looks at what its client's record holds.
+pub fn call_on(random: &mut Random, world: &World) -> Call {
+    let lent = world.lent();
+    let client = random.below(world.records.len());
+    let record = &world.records[client];
+    let mut now = record.time;
+    let time = next_time(random, &mut now, 40);
+    let ask = match random.below(10) {
+        0 => Ask::Clock { client, time },
+        1 => Ask::Bill { client },
+        2 | 3 => {
+            let plan = plan(random);
+            let number = random.below(6);
+            planned_piece(random, &plan, number, client, time, true)
+        }
+        _ => near_piece(random, world, client, time),
+    };
+    Call { lent, ask }
+}
+
+/// A piece at or beside one that is held.
+fn near_piece(random: &mut Random, world: &World, client: usize, time: u64) -> Ask {
+    let index = random.below(ASSEMBLIES);
+    let assembly = &world.records[client].assemblies[index];
+    let count = usize::from(assembly.count).min(PIECES);
+    let slot = assembly.pieces[random.below(count)];
+    let mut place = usize::from(slot.offset).min(PLACE - 1);
+    let mut end = (place + usize::from(slot.length).max(1)).min(PLACE);
+    let mut last = slot.last;
+    let mut r = usize::from(slot.option_start);
+    match random.below(8) {
+        0 => {
+            // The gap before it.
+            end = place.max(1);
+            place = end - 1;
+            last = false;
+        }
+        1 => {
+            place = end.min(PLACE - 1);
+            end = place + 1;
+            last = random.one_in(2);
+            r = 0;
+        }
+        2 => last = !last,
+        3 => r ^= 1,
+        4 => end = (end + 1).min(PLACE),
+        _ => {}
+    }
+    let start = client * SHARE + index * PLACE;
+    let mut bytes = world.store[start + place..start + end].to_vec();
+    if random.one_in(8) {
+        bytes[0] ^= 0x10;
+    }
+    Ask::Piece {
+        client,
+        time,
+        flow: assembly.flow,
+        identification: assembly.identification,
+        place,
+        bytes,
+        last,
+        r,
+        out: PLACE,
+    }
+}
+
+/// The book that stands where a sound record and its store stand.
+pub fn book_of(world: &World, client: usize) -> Book {
+    let record = &world.records[client];
+    let mut book = Book::new(client);
+    book.time = record.time;
+    book.offered = record.offered;
+    book.delivered = record.delivered;
+    book.expired = record.expired;
+    book.clashed = record.clashed;
+    book.repeated = record.repeated;
+    book.turned_away = record.turned_away;
+    for (index, assembly) in record.assemblies.iter().enumerate() {
+        let start = client * SHARE + index * PLACE;
+        for slot in &assembly.pieces[..usize::from(assembly.count).min(PIECES)] {
+            let from = start + usize::from(slot.offset);
+            book.open.push(OpenPiece {
+                key: (assembly.flow, assembly.identification),
+                time: assembly.opened,
+                place: usize::from(slot.offset),
+                bytes: world.store[from..from + usize::from(slot.length)].to_vec(),
+                last: slot.last,
+                r: usize::from(slot.option_start),
+            });
+        }
+    }
+    book
+}
+
+// ----------------------------------------------------------------- coverage
+
+/// How often each verdict, refusal and answer came, by name.
+pub type Coverage = BTreeMap<String, u64>;
+
+fn count(coverage: &mut Coverage, name: String) {
+    *coverage.entry(name).or_insert(0) += 1;
+}
+
+fn count_result(coverage: &mut Coverage, call: &str, verdict: &Verdict, apc: Apc) {
+    count(coverage, format!("{call}: verdict {}", verdict.word()));
+    let apc = match apc {
+        Apc::None => "none",
+        Apc::Right => "right",
+        Apc::Wrong => "wrong",
+    };
+    count(coverage, format!("{call}: apc {apc}"));
+}
+
+fn count_answer(coverage: &mut Coverage, call: &Call, answer: &Answer) {
+    let name = match answer {
+        Answer::Refused(number) => format!("refused {number}"),
+        Answer::Stored => "stored".into(),
+        Answer::Repeated => "repeated".into(),
+        Answer::Clash => "clash".into(),
+        Answer::Delivered { .. } => "delivered".into(),
+        Answer::SetUp | Answer::Clocked | Answer::Billed(_) => "taken".into(),
+    };
+    count(coverage, format!("{}: {name}", call.word()));
+}
+
+/// Runs `rounds` inputs of each sort and counts what came of them.
+pub fn coverage(seed: u64, rounds: usize) -> Coverage {
+    let mut random = Random::new(seed);
+    let mut seen = Coverage::new();
+    for _ in 0..rounds {
+        let Datagram {
+            source,
+            destination,
+            payload,
+        } = datagram(&mut random);
+        match read(&payload, source, destination) {
+            Err(number) => count(&mut seen, format!("read: refused {number}")),
+            Ok(reading) => {
+                count_result(&mut seen, "read", &reading.verdict, reading.apc);
+                let mut buffer = vec![0; random.below(200)];
+                match list_options(&payload, &reading, &mut buffer) {
+                    Ok(_) => count(&mut seen, "list: taken".into()),
+                    Err(number) => count(&mut seen, format!("list: refused {number}")),
+                }
+            }
+        }
+        let (whole, r) = original(&mut random);
+        match reread(&whole, r) {
+            Err(number) => count(&mut seen, format!("reread: refused {number}")),
+            Ok(reading) => {
+                count_result(&mut seen, "reread", &reading.verdict, reading.apc);
+                let mut buffer = vec![0; random.below(200)];
+                match list_reread(&whole, &reading, &mut buffer) {
+                    Ok(_) => count(&mut seen, "list reread: taken".into()),
+                    Err(number) => count(&mut seen, format!("list reread: refused {number}")),
+                }
+            }
+        }
+        let writing = writing(&mut random);
+        match writing.run(&mut vec![0; writing.buffer]) {
+            Ok(_) => count(&mut seen, "write: taken".into()),
+            Err(number) => count(&mut seen, format!("write: refused {number}")),
+        }
+    }
+    for round in 0..rounds.div_ceil(100) {
+        let clients = if round % 2 == 0 { 1 } else { 12 };
+        let mut world = World::new(Lent::of(1));
+        for call in calls(&mut random, clients, 200) {
+            let mut out = vec![0; call.out_length()];
+            let answer = world.run(&call, &mut out);
+            count_answer(&mut seen, &call, &answer);
+        }
+        let mut world = forged_world(&mut random, 1 + round % 3);
+        for record in &world.records {
+            let word = if record_test(record) {
+                "sound"
+            } else {
+                "damaged"
+            };
+            count(&mut seen, format!("forged record: {word}"));
+        }
+        for _ in 0..20 {
+            let call = call_on(&mut random, &world);
+            let mut out = vec![0; call.out_length()];
+            let answer = world.run(&call, &mut out);
+            count_answer(&mut seen, &call, &answer);
+        }
+    }
+    seen
+}
+
+/// Every name that `coverage` should reach.
+pub fn wanted() -> Vec<String> {
+    let mut names = Vec::new();
+    let mut add = |call: &str, results: &[&str]| {
+        names.extend(results.iter().map(|result| format!("{call}: {result}")));
+    };
+    add(
+        "read",
+        &["refused 1", "refused 2", "refused 3", "refused 4"],
+    );
+    add("read", &["apc none", "apc right", "apc wrong"]);
+    add("reread", &["apc none", "apc right", "apc wrong"]);
+    add("reread", &["refused 2", "refused 6", "refused 5"]);
+    for word in [
+        "none",
+        "short",
+        "pad",
+        "badsum",
+        "malformed",
+        "crowded",
+        "read",
+    ] {
+        add("read", &[&format!("verdict {word}")]);
+        add("reread", &[&format!("verdict {word}")]);
+    }
+    for word in ["unsummed", "unsafe", "fragdata", "piece"] {
+        add("read", &[&format!("verdict {word}")]);
+    }
+    add("list", &["taken", "refused 8"]);
+    add("list reread", &["taken", "refused 8"]);
+    add("write", &["taken", "refused 7", "refused 8", "refused 9"]);
+    add("set up", &["taken", "refused 20"]);
+    add("bill", &["taken", "refused 20", "refused 21", "refused 22"]);
+    add(
+        "clock",
+        &[
+            "taken",
+            "refused 20",
+            "refused 21",
+            "refused 22",
+            "refused 27",
+        ],
+    );
+    add("piece", &["stored", "repeated", "clash", "delivered"]);
+    for number in 20..=30 {
+        add("piece", &[&format!("refused {number}")]);
+    }
+    add("forged record", &["sound", "damaged"]);
+    names
+}

@@ -1,0 +1,27 @@
+//! A plain reference for document 01: the reader of IPv4 UDP payloads with
+//! RFC 9868 options, the writer, the reassembly table, a client's plain book
+//! and the program's text. Section names in comments are document 01's;
+//! "RFC" is RFC 9868.
+#![forbid(unsafe_code)]
+
+pub mod book;
+pub mod checksum;
+pub mod crc;
+pub mod docket;
+pub mod generate;
+pub mod program;
+pub mod reader;
+pub mod table;
+pub mod writer;
+
+pub use book::Book;
+pub use docket::{decode, encode, list_options, list_reread, Listing};
+pub use program::report;
+pub use reader::{
+    read, reread, Apc, Fields, Fragment, Options, Range, ReadOption, Reading, Rereading, Verdict,
+};
+pub use table::{
+    bill, clock, fresh, piece, record_test, set_up, Account, Answer, Assembly, Flow, PieceCall,
+    Record, Slot,
+};
+pub use writer::write;

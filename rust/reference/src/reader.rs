@@ -1,0 +1,455 @@
+//! "Reading one IPv4 payload" and "Walking the list".
+
+use crate::checksum;
+use crate::crc::crc32c;
+
+/// The longest payload that is read (refusal 2).
+pub const PAYLOAD_MOST: usize = 65_515;
+/// The longest original that is read again (refusal 2).
+pub const ORIGINAL_MOST: usize = 65_507;
+/// The most options besides NOP and EOL; one more is "crowded".
+pub const OPTIONS_MOST: usize = 32;
+
+/// From `from` up to, not including, `to`.
+#[derive(Clone, Copy, Debug, PartialEq, Eq)]
+pub struct Range {
+    pub from: usize,
+    pub to: usize,
+}
+
+/// What a piece carries besides its verdict.
+#[derive(Clone, Copy, Debug, PartialEq, Eq)]
+pub struct Fragment {
+    pub identification: u32,
+    /// Counted from the original's first user byte.
+    pub place: usize,
+    /// Packet offsets of the piece's bytes, from this UDP header.
+    pub from: usize,
+    pub to: usize,
+    pub last: bool,
+    /// r, a place in the original; 0 unless `last`.
+    pub option_start: usize,
+}
+
+/// The verdict on the area.
+#[derive(Clone, Copy, Debug, PartialEq, Eq)]
+pub enum Verdict {
+    None,
+    Short,
+    Pad,
+    Unsummed,
+    BadSum,
+    Malformed,
+    Unsafe,
+    FragData,
+    Crowded,
+    Read,
+    Piece(Fragment),
+}
+
+impl Verdict {
+    /// The verdict's word in the paper and in the program's text.
+    pub fn word(&self) -> &'static str {
+        match self {
+            Verdict::None => "none",
+            Verdict::Short => "short",
+            Verdict::Pad => "pad",
+            Verdict::Unsummed => "unsummed",
+            Verdict::BadSum => "badsum",
+            Verdict::Malformed => "malformed",
+            Verdict::Unsafe => "unsafe",
+            Verdict::FragData => "fragdata",
+            Verdict::Crowded => "crowded",
+            Verdict::Read => "read",
+            Verdict::Piece(_) => "piece",
+        }
+    }
+}
+
+/// Whether the APC options, if any, fit the user data.
+#[derive(Clone, Copy, Debug, PartialEq, Eq)]
+pub enum Apc {
+    None,
+    Right,
+    Wrong,
+}
+
+/// The fields of an option. In a reading APC has its CRC; in a docket none.
+#[derive(Clone, Copy, Debug, PartialEq, Eq)]
+pub enum Fields<'a> {
+    None,
+    One(u32),
+    Two(u32, u32),
+    Body(&'a [u8]),
+}
+
+/// One option of a reading or of a docket.
+#[derive(Clone, Copy, Debug, PartialEq, Eq)]
+pub struct ReadOption<'a> {
+    pub kind: u8,
+    pub fields: Fields<'a>,
+}
+
+/// A payload that was not refused. All numbers are packet offsets.
+#[derive(Clone, Copy, Debug, PartialEq, Eq)]
+pub struct Reading {
+    /// 8 to L.
+    pub user: Range,
+    pub verdict: Verdict,
+    /// Behind the option checksum to the payload's end, fill included;
+    /// 0 to 0 unless the verdict is "read".
+    pub options_from: usize,
+    pub options_to: usize,
+    /// Options to report.
+    pub count: usize,
+    /// From EOL to the end, 0 without EOL.
+    pub fill: usize,
+    pub apc: Apc,
+}
+
+/// A reassembled original that was not refused. All numbers are places.
+#[derive(Clone, Copy, Debug, PartialEq, Eq)]
+pub struct Rereading {
+    /// 0 to r.
+    pub user: Range,
+    /// Never `Unsafe` (refusal 5), `Unsummed`, `FragData` or `Piece`.
+    pub verdict: Verdict,
+    pub options_from: usize,
+    pub options_to: usize,
+    pub count: usize,
+    pub fill: usize,
+    pub apc: Apc,
+}
+
+impl Reading {
+    /// The options to report, in order. `payload` is the one that was read.
+    pub fn options<'a>(&self, payload: &'a [u8]) -> Options<'a> {
+        Options::over(payload, self.options_from, self.options_to)
+    }
+}
+
+impl Rereading {
+    /// The options to report, in order. `original` is the one that was read.
+    pub fn options<'a>(&self, original: &'a [u8]) -> Options<'a> {
+        Options::over(original, self.options_from, self.options_to)
+    }
+}
+
+/// Reads one IPv4 payload: the reading, or refusal 1 to 4.
+pub fn read(payload: &[u8], source: [u8; 4], destination: [u8; 4]) -> Result<Reading, u32> {
+    if payload.len() < 8 {
+        return Err(1);
+    }
+    if payload.len() > PAYLOAD_MOST {
+        return Err(2);
+    }
+    let length = number16(payload, 4);
+    if length < 8 || length > payload.len() {
+        return Err(3);
+    }
+    let summed = number16(payload, 6) != 0;
+    if summed && checksum::udp_sum(source, destination, &payload[..length]) != 0xFFFF {
+        return Err(4);
+    }
+    let user = Range {
+        from: 8,
+        to: length,
+    };
+    let examined = examine(payload, user, summed, Setting::Packet);
+    Ok(Reading {
+        user,
+        verdict: examined.verdict,
+        options_from: examined.from,
+        options_to: examined.to,
+        count: examined.count,
+        fill: examined.fill,
+        apc: examined.apc,
+    })
+}
+
+/// Reads a reassembled original with option start `r`: the reading, or
+/// refusal 2, 6 or 5 ("Walking the list", last paragraph).
+pub fn reread(original: &[u8], r: usize) -> Result<Rereading, u32> {
+    if original.len() > ORIGINAL_MOST {
+        return Err(2);
+    }
+    if r > original.len() {
+        return Err(6);
+    }
+    let user = Range { from: 0, to: r };
+    // The UDP checksum is taken as zero.
+    let examined = examine(original, user, false, Setting::Original);
+    if examined.verdict == Verdict::Unsafe {
+        return Err(5);
+    }
+    Ok(Rereading {
+        user,
+        verdict: examined.verdict,
+        options_from: examined.from,
+        options_to: examined.to,
+        count: examined.count,
+        fill: examined.fill,
+        apc: examined.apc,
+    })
+}
+
+/// Whether FRAG may stand in the list.
+#[derive(Clone, Copy, PartialEq, Eq)]
+enum Setting {
+    Packet,
+    Original,
+}
+
+/// What is found out about an area.
+struct Examined {
+    verdict: Verdict,
+    from: usize,
+    to: usize,
+    count: usize,
+    fill: usize,
+    apc: Apc,
+}
+
+impl Examined {
+    /// With any verdict but "read" no option is reported and APC is none.
+    fn only(verdict: Verdict) -> Self {
+        Examined {
+            verdict,
+            from: 0,
+            to: 0,
+            count: 0,
+            fill: 0,
+            apc: Apc::None,
+        }
+    }
+}
+
+/// The verdict on the area `user.to` to the end. The original's user data
+/// starts 8 bytes behind its header, so both settings have the same parity.
+fn examine(bytes: &[u8], user: Range, summed: bool, setting: Setting) -> Examined {
+    let area = &bytes[user.to..];
+    if area.is_empty() {
+        return Examined::only(Verdict::None);
+    }
+    let pad = user.to % 2;
+    if area.len() < pad + 2 {
+        return Examined::only(Verdict::Short);
+    }
+    if pad == 1 && area[0] != 0 {
+        return Examined::only(Verdict::Pad);
+    }
+    let option_sum = number16(area, pad);
+    if option_sum == 0 {
+        if summed {
+            return Examined::only(Verdict::Unsummed);
+        }
+    } else if checksum::area_sum(area, pad == 1) != 0xFFFF {
+        return Examined::only(Verdict::BadSum);
+    }
+    walk(bytes, user, user.to + pad + 2, setting)
+}
+
+/// The walk from `from`, behind the option checksum.
+fn walk(bytes: &[u8], user: Range, from: usize, setting: Setting) -> Examined {
+    let mut list = bytes;
+    let mut at = from;
+    let mut count = 0;
+    let mut fill = 0;
+    let mut fragment = None;
+    let mut crc = None;
+    let mut crcs_differ = false;
+    loop {
+        match step(list, at) {
+            Step::End => break,
+            Step::Eol => {
+                fill = list.len() - at;
+                break;
+            }
+            Step::Nop => at += 1,
+            Step::Unsafe => return Examined::only(Verdict::Unsafe),
+            Step::Malformed => return Examined::only(Verdict::Malformed),
+            Step::Sound { kind: 3, next, .. } => {
+                // FRAG must be first, and never stands in an original.
+                if count != 0 || setting == Setting::Original {
+                    return Examined::only(Verdict::Malformed);
+                }
+                let Some(found) = frag(bytes, at, next) else {
+                    return Examined::only(Verdict::Malformed);
+                };
+                if user.to > user.from {
+                    return Examined::only(Verdict::FragData);
+                }
+                // The list ends at Frag. Start.
+                list = &bytes[..found.from];
+                fragment = Some(found);
+                count = 1;
+                at = next;
+            }
+            Step::Sound { kind, body, next } => {
+                if count == OPTIONS_MOST {
+                    return Examined::only(Verdict::Crowded);
+                }
+                if kind == 2 {
+                    let field = number32(list, body);
+                    crcs_differ |= *crc.get_or_insert(field) != field;
+                }
+                count += 1;
+                at = next;
+            }
+        }
+    }
+    if let Some(fragment) = fragment {
+        return Examined::only(Verdict::Piece(fragment));
+    }
+    let apc = match crc {
+        None => Apc::None,
+        // Two different fields can't both be right.
+        Some(_) if crcs_differ => Apc::Wrong,
+        Some(field) if field == crc32c(&bytes[user.from..user.to]) => Apc::Right,
+        Some(_) => Apc::Wrong,
+    };
+    Examined {
+        verdict: Verdict::Read,
+        from,
+        to: bytes.len(),
+        count,
+        fill,
+        apc,
+    }
+}
+
+/// FRAG's fields (RFC section 11.4) at `at`, ending at `end`; none where one
+/// of them is malformed. Its length, 10 or 12, has been tested.
+fn frag(payload: &[u8], at: usize, end: usize) -> Option<Fragment> {
+    let start = number16(payload, at + 2);
+    if start < end || start > payload.len() {
+        return None;
+    }
+    // Both count from the original's UDP header; places from its user data.
+    let place = number16(payload, at + 8).checked_sub(8)?;
+    let last = end - at == 12;
+    let option_start = if last {
+        number16(payload, at + 10).checked_sub(8)?
+    } else {
+        0
+    };
+    Some(Fragment {
+        identification: number32(payload, at + 4),
+        place,
+        from: start,
+        to: payload.len(),
+        last,
+        option_start,
+    })
+}
+
+/// What stands at one place of a list.
+enum Step {
+    End,
+    Eol,
+    Nop,
+    Unsafe,
+    Malformed,
+    /// An option of sound length; `body` is behind the header.
+    Sound {
+        kind: u8,
+        body: usize,
+        next: usize,
+    },
+}
+
+/// Looks at the option at `at` of the list that ends where `list` ends.
+#[inline]
+fn step(list: &[u8], at: usize) -> Step {
+    let Some(&kind) = list.get(at) else {
+        return Step::End;
+    };
+    // The one whole length of a fixed kind; 0 where the length byte decides.
+    let own = match kind {
+        0 => return Step::Eol,
+        1 => return Step::Nop,
+        2 | 6 | 7 => 6,
+        3 => 0,
+        4 => 4,
+        5 => 5,
+        8 => 10,
+        9..=191 => 0,
+        192..=255 => return Step::Unsafe,
+    };
+    let (header, whole) = match list.get(at + 1) {
+        None | Some(0 | 1) => return Step::Malformed,
+        Some(255) => match list.get(at + 2..at + 4) {
+            Some(&[high, low]) => (4, usize::from(u16::from_be_bytes([high, low]))),
+            _ => return Step::Malformed,
+        },
+        Some(&short) => (2, usize::from(short)),
+    };
+    if (header == 4 && whole < 255)
+        || (own != 0 && whole != own)
+        || (kind == 3 && whole != 10 && whole != 12)
+        || whole > list.len() - at
+    {
+        return Step::Malformed;
+    }
+    Step::Sound {
+        kind,
+        body: at + header,
+        next: at + whole,
+    }
+}
+
+/// The options of a reading, NOPs left out.
+#[derive(Clone, Debug)]
+pub struct Options<'a> {
+    list: &'a [u8],
+    at: usize,
+}
+
+impl<'a> Options<'a> {
+    fn over(bytes: &'a [u8], from: usize, to: usize) -> Self {
+        Options {
+            list: bytes.get(from..to).unwrap_or(&[]),
+            at: 0,
+        }
+    }
+}
+
+impl<'a> Iterator for Options<'a> {
+    type Item = ReadOption<'a>;
+
+    fn next(&mut self) -> Option<ReadOption<'a>> {
+        loop {
+            match step(self.list, self.at) {
+                Step::Nop => self.at += 1,
+                Step::Sound { kind, body, next } => {
+                    self.at = next;
+                    let list = self.list;
+                    let fields = match kind {
+                        4 => Fields::One(number16(list, body) as u32),
+                        5 => Fields::Two(number16(list, body) as u32, u32::from(list[body + 2])),
+                        2 | 6 | 7 => Fields::One(number32(list, body)),
+                        8 => Fields::Two(number32(list, body), number32(list, body + 4)),
+                        _ => Fields::Body(&list[body..next]),
+                    };
+                    return Some(ReadOption { kind, fields });
+                }
+                // A list that was read has no fault.
+                Step::End | Step::Eol | Step::Unsafe | Step::Malformed => return None,
+            }
+        }
+    }
+}
+
+/// Two bytes, big-endian. The caller has tested that they are there.
+#[inline]
+fn number16(bytes: &[u8], at: usize) -> usize {
+    usize::from(bytes[at]) << 8 | usize::from(bytes[at + 1])
+}
+
+/// Four bytes, big-endian. The caller has tested that they are there.
+#[inline]
+fn number32(bytes: &[u8], at: usize) -> u32 {
+    let mut four = [0; 4];
+    four.copy_from_slice(&bytes[at..at + 4]);
+    u32::from_be_bytes(four)
+}

@@ -1,0 +1,216 @@
+//! Document 01, "Figures to check by hand", 1 to 13.
+
+use reference::*;
+
+const SOURCE: [u8; 4] = [192, 0, 2, 1];
+const DESTINATION: [u8; 4] = [192, 0, 2, 2];
+
+/// The area that the writer makes.
+fn area(user: &[u8], docket: &[u8], fill: u8) -> Vec<u8> {
+    let mut buffer = [0xEE; 400];
+    let length = write(SOURCE, DESTINATION, 1, 2, user, docket, fill, &mut buffer).unwrap();
+    assert!(buffer[length..].iter().all(|&byte| byte == 0xEE));
+    buffer[8 + user.len()..length].to_vec()
+}
+
+/// A payload with UDP checksum 0.
+fn payload(user: &[u8], area: &[u8]) -> Vec<u8> {
+    let length = (8 + user.len()) as u16;
+    let mut payload = vec![0, 1, 0, 2];
+    payload.extend(length.to_be_bytes());
+    payload.extend([0, 0]);
+    payload.extend(user);
+    payload.extend(area);
+    payload
+}
+
+fn verdict(user: &[u8], area: &[u8]) -> Verdict {
+    let payload = payload(user, area);
+    read(&payload, SOURCE, DESTINATION).unwrap().verdict
+}
+
+struct One {
+    records: Vec<Record>,
+    store: Vec<u8>,
+    out: Vec<u8>,
+}
+
+impl One {
+    fn new() -> One {
+        let mut one = One {
+            records: vec![fresh(); 1],
+            store: vec![0; 16_384],
+            out: vec![0xEE; 4_096],
+        };
+        assert_eq!(set_up(&mut one.records, &one.store), Answer::SetUp);
+        one
+    }
+
+    fn piece(&mut self, time: u64, id: u32, place: usize, bytes: &[u8], last: bool) -> Answer {
+        let call = PieceCall {
+            client: 0,
+            time,
+            flow: Flow::default(),
+            identification: id,
+            place,
+            bytes,
+            last,
+            r: 0,
+        };
+        piece(&mut self.records, &mut self.store, &call, &mut self.out)
+    }
+
+    fn account(&self) -> Account {
+        match bill(&self.records, &self.store, 0) {
+            Answer::Billed(account) => account,
+            other => panic!("{other:?}"),
+        }
+    }
+}
+
+#[test]
+fn figure_01_token_300() {
+    let expected = [0xF8, 0xC5, 6, 6, 0, 0, 1, 0x2C];
+    assert_eq!(area(&[], &[1, 6, 0xAC, 2], 0), expected);
+}
+
+#[test]
+fn figure_01_program_text() {
+    let mut input = [SOURCE, DESTINATION].concat();
+    let mut buffer = [0; 100];
+    let docket = [1, 6, 0xAC, 2];
+    let length = write(SOURCE, DESTINATION, 1, 2, &[], &docket, 0, &mut buffer).unwrap();
+    input.extend(&buffer[..length]);
+    assert_eq!(report(&input), "user 0\nverdict read\nkind 6 300\nfill 0\n");
+}
+
+#[test]
+fn figure_02_after_one_data_byte() {
+    let expected = [0, 0xF8, 0xC4, 6, 6, 0, 0, 1, 0x2C];
+    assert_eq!(area(&[0x55], &[1, 6, 0xAC, 2], 0), expected);
+}
+
+#[test]
+fn figure_03_empty_docket() {
+    assert_eq!(area(&[], &[0], 0), [0xFF, 0xFD]);
+}
+
+#[test]
+fn figure_04_sum_sent_as_ffff() {
+    let docket = encode(&[ReadOption {
+        kind: 6,
+        fields: Fields::One(63_985),
+    }]);
+    let area = area(&[], &docket, 0);
+    assert_eq!(area[..2], [0xFF, 0xFF]);
+    assert_eq!(verdict(&[], &area), Verdict::Read);
+}
+
+#[test]
+fn figure_05_short() {
+    assert_eq!(verdict(&[], &[0]), Verdict::Short);
+}
+
+#[test]
+fn figure_06_pad() {
+    assert_eq!(verdict(&[7], &[1, 0xFF, 0xFD]), Verdict::Pad);
+}
+
+#[test]
+fn figure_07_malformed() {
+    assert_eq!(verdict(&[], &[0, 0, 6, 5, 0, 0, 0]), Verdict::Malformed);
+}
+
+#[test]
+fn figure_08_not_shortest() {
+    let mut buffer = [0xEE; 100];
+    let docket = [1, 6, 0x80, 0];
+    let answer = write(SOURCE, DESTINATION, 1, 2, &[], &docket, 0, &mut buffer);
+    assert_eq!(answer, Err(7));
+    assert_eq!(buffer, [0xEE; 100]);
+}
+
+#[test]
+fn figure_09_either_order() {
+    let whole = Answer::Delivered { t: 12, r: 0 };
+    let mut one = One::new();
+    assert_eq!(one.piece(0, 1, 0, &[1; 8], false), Answer::Stored);
+    assert_eq!(one.piece(0, 1, 8, &[2; 4], true), whole);
+    assert_eq!(one.out[..12], [1, 1, 1, 1, 1, 1, 1, 1, 2, 2, 2, 2]);
+    assert!(one.out[12..].iter().all(|&byte| byte == 0xEE));
+    let mut one = One::new();
+    assert_eq!(one.piece(0, 1, 8, &[2; 4], true), Answer::Stored);
+    assert_eq!(one.piece(0, 1, 0, &[1; 8], false), whole);
+    assert_eq!(one.out[..12], [1, 1, 1, 1, 1, 1, 1, 1, 2, 2, 2, 2]);
+    assert_eq!(one.account().delivered, 12);
+}
+
+#[test]
+fn figure_10_clash() {
+    let mut one = One::new();
+    assert_eq!(one.piece(0, 1, 0, &[1; 8], false), Answer::Stored);
+    assert_eq!(one.piece(0, 1, 7, &[1; 2], false), Answer::Clash);
+    assert_eq!(one.account().clashed, 10);
+    assert_eq!(one.account().held, 0);
+}
+
+#[test]
+fn figure_11_expiry() {
+    let mut one = One::new();
+    assert_eq!(one.piece(0, 1, 0, &[1; 8], false), Answer::Stored);
+    assert_eq!(
+        clock(&mut one.records, &one.store, 0, 119_999),
+        Answer::Clocked
+    );
+    assert_eq!((one.account().held, one.account().expired), (8, 0));
+    assert_eq!(
+        clock(&mut one.records, &one.store, 0, 120_000),
+        Answer::Clocked
+    );
+    assert_eq!((one.account().held, one.account().expired), (0, 8));
+    assert_eq!(
+        one.records[0],
+        Record {
+            time: 120_000,
+            offered: 8,
+            expired: 8,
+            ..fresh()
+        }
+    );
+}
+
+#[test]
+fn figure_12_fifth_key() {
+    let mut one = One::new();
+    for id in 0..4 {
+        assert_eq!(one.piece(id.into(), id, 0, &[1; 8], false), Answer::Stored);
+    }
+    assert_eq!(
+        one.piece(119_999, 4, 0, &[1; 8], false),
+        Answer::Refused(29)
+    );
+    assert_eq!(one.account().turned_away, 8);
+    assert_eq!(one.piece(120_000, 4, 0, &[1; 8], false), Answer::Stored);
+    assert_eq!(one.account().expired, 8);
+    // The lowest free place.
+    assert_eq!(one.records[0].assemblies[0].identification, 4);
+}
+
+#[test]
+fn figure_13_limits() {
+    let mut one = One::new();
+    assert_eq!(one.piece(0, 1, 4_090, &[1; 6], false), Answer::Stored);
+    assert_eq!(one.piece(0, 1, 4_090, &[1; 7], false), Answer::Refused(25));
+    let mut one = One::new();
+    for place in 0..16 {
+        assert_eq!(one.piece(0, 1, place, &[1], false), Answer::Stored);
+    }
+    assert_eq!(one.piece(0, 1, 16, &[1], true), Answer::Refused(30));
+    assert_eq!(one.piece(0, 1, 15, &[1], false), Answer::Repeated);
+    assert_eq!(one.piece(0, 1, 15, &[2], false), Answer::Clash);
+    let mut area = vec![0, 0];
+    area.extend([9, 2].repeat(32));
+    assert_eq!(verdict(&[], &area), Verdict::Read);
+    area.extend([9, 2]);
+    assert_eq!(verdict(&[], &area), Verdict::Crowded);
+}
