@@ -1,6 +1,7 @@
 pub mod Apcs
 pub mod Claims
 pub mod Lists
+pub mod Pieces
 pub mod Readings
 pub mod Refusals
 pub mod Starts

@@ -1,6 +1,7 @@
--- Laws of the walk of an area: leading NOPs, what a fragment that was found keeps to, and that options come from the walk of a plain list.
+-- Laws of the walk of an area: leading NOPs, what a fragment that was found keeps to, that options come from the walk of a plain list, and where
+-- a fragment's bytes end.
 -- Assumes nothing.
-use mathlib.Core.Path.{_≡_, refl, sym, ap, _∙_}
+use mathlib.Core.Path.{_≡_, refl, sym, ap, subst, _∙_}
 use mathlib.Core.Bool.{Bool, true, false, cond, _&&_}
 use mathlib.Core.List.{List}
 use mathlib.Core.Logic.{⊎-elim}
@@ -18,7 +19,7 @@ use Rattle.octets.specs.Octets.{part}
 use Rattle.options.specs.Kinds.{classOf, eol, nop, frag}
 use Rattle.options.specs.Step.{stepOf}
 use Rattle.options.specs.Walk.{Item, Walked, listed, faulty, walkFrom, optionLimit}
-use Rattle.options.specs.Area.{plain, nopsOf, fieldsOf, placedAt, fragmentOf, plainly, pieceWith, behindFrag, ledBy, areaOf}
+use Rattle.options.specs.Area.{plain, piece, nopsOf, fieldsOf, placedAt, fragmentOf, plainly, pieceWith, behindFrag, ledBy, areaOf}
 use Rattle.options.specs.declared.step.Step.{Step}
 use Rattle.options.specs.declared.step.Step.the-variants.{End, Eol, Nop, Found, Malformed as Unsound, Outlawed}
 use Rattle.options.specs.declared.area.Fields.{Fields}
@@ -109,3 +110,60 @@ area-plain empty base l items fill = go (eqb (getD l (nopsOf l) eol) frag)
         → walkFrom optionLimit 0 l ≡ listed items fill
     go true e = absurd (led-not empty l base (nopsOf l) (stepOf (drop (nopsOf l) l)) items fill e)
     go false e = plain-listed (walkFrom optionLimit 0 l) items fill e
+
+-- ---- a list that is a fragment's
+
+abbrev endOf : Placed → ℕ
+endOf (Sound f) = f .end .0
+endOf Refused = 0
+
+fragment-ends : (fields : Fields) (base behind size : ℕ) (f : Fragment) → fragmentOf fields base behind size ≡ Sound f → f .end .0 ≡ base + size
+unfolding fragmentOf
+fragment-ends fields base behind size f =
+    go (leb (base + behind) (fields .start) && leb (fields .start) (base + size)) (placeOf (fields .offset)) (placeOf (fields .«option_start»))
+  where
+    go : (t : Bool) (o r : Origin) → cond t (placedAt fields (base + size) o r) Refused ≡ Sound f → f .end .0 ≡ base + size
+    go false o r e = absurd (let z : _≡_ {A = ℕ} 0 1 = cc in omega arith)
+    go true BeforeData r e = absurd (let z : _≡_ {A = ℕ} 0 1 = cc in omega arith)
+    go true (At o) BeforeData e = absurd (let z : _≡_ {A = ℕ} 0 1 = cc in omega arith)
+    go true (At o) (At r) e = sym (ap endOf e)
+
+-- its bytes start within the list, or right behind it, and end with it
+pub record Ends (base : ℕ) (l : List ℕ) (f : Fragment) : Type 0 where
+  pub starts : f .start .0 ≤ base + length l
+  pub ends : f .end .0 ≡ base + length l
+
+same-piece : (g : Fragment) (w : Walked) (f : Fragment) → pieceWith g w ≡ piece f → g ≡ f
+same-piece g (listed others n) f e = cc
+same-piece g (faulty x) f e = absurd (let z : _≡_ {A = ℕ} 0 1 = cc in omega arith)
+
+behind-ends : (empty : Bool) (l : List ℕ) (base n : ℕ) (fields : Fields) (p : Placed) (f : Fragment) → fragmentOf fields base n (length l) ≡ p
+    → behindFrag empty l base n p ≡ piece f → Ends base l f
+behind-ends empty l base n fields Refused f q e = absurd (let z : _≡_ {A = ℕ} 0 1 = cc in omega arith)
+behind-ends false l base n fields (Sound g) f q e = absurd (let z : _≡_ {A = ℕ} 0 1 = cc in omega arith)
+behind-ends true l base n fields (Sound g) f q e =
+    subst (Ends base l) (same-piece g (walkFrom (optionLimit - 1) 0 (part n (g .start .0 - (base + n)) l)) f e)
+    (record { starts = fragment-within fields base n (length l) g q .1; ends = fragment-ends fields base n (length l) g q })
+
+led-ends : (empty : Bool) (l : List ℕ) (base nops : ℕ) (step : Step) (f : Fragment) → ledBy empty l base nops step ≡ piece f → Ends base l f
+led-ends empty l base nops (Found kind header size) f e =
+    behind-ends empty l base (nops + size) (fieldsOf size (drop nops l))
+    (fragmentOf (fieldsOf size (drop nops l)) base (nops + size) (length l)) f refl e
+led-ends empty l base nops End f e = absurd (let z : _≡_ {A = ℕ} 0 1 = cc in omega arith)
+led-ends empty l base nops Eol f e = absurd (let z : _≡_ {A = ℕ} 0 1 = cc in omega arith)
+led-ends empty l base nops Nop f e = absurd (let z : _≡_ {A = ℕ} 0 1 = cc in omega arith)
+led-ends empty l base nops Unsound f e = absurd (let z : _≡_ {A = ℕ} 0 1 = cc in omega arith)
+led-ends empty l base nops Outlawed f e = absurd (let z : _≡_ {A = ℕ} 0 1 = cc in omega arith)
+
+plain-not : (w : Walked) (f : Fragment) → plainly w ≡ piece f → ⊥
+plain-not (listed others n) f e = let z : _≡_ {A = ℕ} 0 1 = cc in omega arith
+plain-not (faulty x) f e = let z : _≡_ {A = ℕ} 0 1 = cc in omega arith
+
+pub area-piece : (empty : Bool) (base : ℕ) (l : List ℕ) (f : Fragment) → areaOf empty base l ≡ piece f → Ends base l f
+unfolding areaOf
+area-piece empty base l f = go (eqb (getD l (nopsOf l) eol) frag)
+  where
+    go : (t : Bool) → cond t (ledBy empty l base (nopsOf l) (stepOf (drop (nopsOf l) l))) (plainly (walkFrom optionLimit 0 l)) ≡ piece f
+        → Ends base l f
+    go true e = led-ends empty l base (nopsOf l) (stepOf (drop (nopsOf l) l)) f e
+    go false e = absurd (plain-not (walkFrom optionLimit 0 l) f e)

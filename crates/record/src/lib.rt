@@ -25,7 +25,7 @@ pub const ASSEMBLY_LIMIT: usize = 4;
 pub const ADDRESS: usize = 4;
 
 // A client's share of the store: one place for each assembly.
-pub const SHARE: usize = 16384;
+pub const SHARE: usize = ASSEMBLY_LIMIT * DATAGRAM_LIMIT;
 
 // The clients of a table.
 pub const CLIENT_LIMIT: usize = 12;

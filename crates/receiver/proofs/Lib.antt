@@ -1,0 +1,4 @@
+pub mod Facts
+pub mod ClientKind
+pub mod Lent
+pub mod Packets

@@ -1,0 +1,133 @@
+-- Demand 3 over demand 2's reading: lists of calls in which the fragments are those that `reading` finds in payloads as they arrive.
+use Prim.Native.Nat.{ℕ, _<_}
+use mathlib.Core.Path.{_≡_}
+use mathlib.Core.List.{List, [], _∷_, _++_}
+use mathlib.Core.Option.{Option, none, some}
+use mathlib.Core.Logic.{_↔_}
+use lib.Dec.{eqb}
+use lib.ListN.{length}
+use Rattle.record.specs.Lists.{if}
+use Rattle.reassembly.specs.Answer.{Reply, refused, delivered}
+use Rattle.reassembly.specs.Advance.{figures}
+use Rattle.options.specs.declared.area.Fragment.{Fragment}
+use Rattle.ledger.specs.Book as Book
+use Rattle.ledger.specs.Book.{Book, Offer}
+use Rattle.ledger.specs.Stands as Stands
+use Rattle.ledger.specs.Whole.{Whole, Taken, assembled}
+use Rattle.ledger.specs.History.{Ask, advancing, accounting, Given}
+use Rattle.table.specs.Table.{Table, lentOf, shareOf, recordOf, resetOn, askOn}
+use Rattle.table.specs.Events.{Lending, current, another, Event, resetting, asking, tableFor, next, givenBy, owes}
+use Rattle.table.specs.Demand3 as Table
+use Rattle.table.specs.Demand3.{Terms, bookAfter, Sums}
+use Rattle.receiver.specs.Receive.{pieceIn, arrivalOf, bytesOf, Packet, readingOf, offerOf, Fate, unread, whole, offered, Outcome′, fateOf, receiveOn}
+
+-- a set-up, a datagram that arrives for a client, with an out buffer, a client's clock, its account
+pub data Call : Type 0 where
+  setUp : Lending → Call
+  arriving : Lending → ℕ → Packet → List ℕ → Call
+  clocking : Lending → ℕ → ℕ → Call
+  billing : Lending → ℕ → Call
+
+-- ---- what the calls do
+
+-- the current table after a call
+abbrev pub after : Table → Call → Table
+after t (setUp g) = next t (resetting g)
+after t (arriving current k p out) = receiveOn k p out t .table
+after t (arriving (another u) k p out) = t
+after t (clocking g k time) = next t (asking g k (advancing time))
+after t (billing g k) = next t (asking g k accounting)
+
+unfoldable pub finally : Table → List Call → Table
+finally t [] = t
+finally t (c ∷ cs) = finally (after t c) cs
+
+-- the table's answer to a fragment, with out
+abbrev pub toldOf : Fate → List ℕ → List Given
+toldOf (unread n) out = []
+toldOf (whole r) out = []
+toldOf (offered reply) out = record { reply = reply; out = out } ∷ []
+
+abbrev pub toldBy : Outcome′ → List Given
+toldBy o = toldOf (o .fate) (o .out)
+
+-- what the table answered to client k's fragments, clocks and accounts, and to the set-ups
+abbrev pub told : ℕ → Table → Call → List Given
+told k t (setUp g) = givenBy (resetOn (tableFor g t)) ∷ []
+told k t (arriving g j p out) = if (eqb j k) (toldBy (receiveOn j p out (tableFor g t))) []
+told k t (clocking g j time) = if (eqb j k) (givenBy (askOn j (advancing time) (tableFor g t)) ∷ []) []
+told k t (billing g j) = if (eqb j k) (givenBy (askOn j accounting (tableFor g t)) ∷ []) []
+
+unfoldable pub tells : ℕ → Table → List Call → List Given
+tells k t [] = []
+tells k t (c ∷ cs) = told k t c ++ tells k (after t c) cs
+
+-- ---- the table's events in such a list
+
+-- a datagram that is no fragment is none
+abbrev pub offers : Lending → ℕ → Packet → List ℕ → Option Fragment → List Event
+offers g k p out none = []
+offers g k p out (some f) = asking g k (offerOf p f out) ∷ []
+
+abbrev pub eventsOf : Call → List Event
+eventsOf (setUp g) = resetting g ∷ []
+eventsOf (arriving g k p out) = offers g k p out (pieceIn (readingOf p))
+eventsOf (clocking g k time) = asking g k (advancing time) ∷ []
+eventsOf (billing g k) = asking g k accounting ∷ []
+
+unfoldable pub allEvents : List Call → List Event
+allEvents [] = []
+allEvents (c ∷ cs) = eventsOf c ++ allEvents cs
+
+-- a list without the calls of clients other than k
+abbrev pub ownIf : ℕ → Call → List Call → List Call
+ownIf k (setUp g) cs = setUp g ∷ cs
+ownIf k (arriving g j p out) cs = if (eqb j k) (arriving g j p out ∷ cs) cs
+ownIf k (clocking g j time) cs = if (eqb j k) (clocking g j time ∷ cs) cs
+ownIf k (billing g j) cs = if (eqb j k) (billing g j ∷ cs) cs
+
+unfoldable pub ownCalls : ℕ → List Call → List Call
+ownCalls k [] = []
+ownCalls k (c ∷ cs) = ownIf k c (ownCalls k cs)
+
+-- ---- the claim
+
+abbrev pub opening : List Call → List Call
+opening cs = setUp current ∷ cs
+
+abbrev pub tableAfter : Table → List Call → Table
+tableAfter t cs = finally t (opening cs)
+
+-- client k's plain book after the list: its history has the fragments that were read
+abbrev pub bookFrom : ℕ → Table → List Call → Book
+bookFrom k t cs = bookAfter k t (allEvents cs)
+
+-- the fragment of a packet as the book has it
+abbrev pub offerIn : Packet → Fragment → Offer
+offerIn p f = Stands.offerOf (arrivalOf (p .payload) (p .source) (p .destination) (p .time) f) (bytesOf (p .payload) f)
+
+pub record OverPayloads : Type 0 where
+  -- a datagram that is no fragment leaves every record, the store and out as they were
+  pub no-fragment : (k : ℕ) (p : Packet) (out : List ℕ) (t : Table) → pieceIn (readingOf p) ≡ none
+      → receiveOn k p out t ≡ record { table = t; out = out; fate = fateOf (readingOf p) }
+  pub answers : (t : Table) (cs : List Call) → Terms t (allEvents cs) → (k : ℕ)
+      → tells k t (opening cs) ≡ owes k (lentOf t) [] (Table.opening (allEvents cs))
+  pub accounts : (t : Table) (cs : List Call) → Terms t (allEvents cs) → (k : ℕ) → k < length (tableAfter t cs .records)
+      → figures (recordOf k (tableAfter t cs)) ≡ Book.figures (bookFrom k t cs)
+  pub sum : (t : Table) (cs : List Call) → Terms t (allEvents cs) → (k : ℕ) → k < length (tableAfter t cs .records)
+      → Sums (recordOf k (tableAfter t cs))
+  pub delivery : (t : Table) (cs : List Call) → Terms t (allEvents cs) → (k : ℕ) (p : Packet) (out : List ℕ) (f : Fragment) (n r : ℕ)
+      → pieceIn (readingOf p) ≡ some f
+      → (receiveOn k p out (tableAfter t cs) .fate ≡ offered (delivered n r))
+      ↔ (Taken (lentOf (tableAfter t cs)) k (offerIn p f) out (bookFrom k t cs)
+      × Whole (assembled (offerIn p f) (bookFrom k t cs)) out n r (receiveOn k p out (tableAfter t cs) .out))
+  pub untouched : (t : Table) (cs : List Call) → Terms t (allEvents cs) → (k : ℕ) (p : Packet) (out : List ℕ)
+      → ((n r : ℕ) → receiveOn k p out (tableAfter t cs) .fate ≡ offered (delivered n r) → ⊥)
+      → receiveOn k p out (tableAfter t cs) .out ≡ out
+  pub isolation : (t : Table) (cs cs′ : List Call) → Terms t (allEvents cs) → Terms t (allEvents cs′) → (k : ℕ)
+      → ownCalls k cs ≡ ownCalls k cs′
+      → (tells k t (opening cs) ≡ tells k t (opening cs′))
+      × (recordOf k (tableAfter t cs) ≡ recordOf k (tableAfter t cs′))
+      × (shareOf k (tableAfter t cs) ≡ shareOf k (tableAfter t cs′))
+  pub sound : (t : Table) (cs : List Call) → Terms t (allEvents cs) → (k : ℕ) (p : Packet) (out : List ℕ)
+      → receiveOn k p out (tableAfter t cs) .fate ≡ offered (refused 22) → ⊥
