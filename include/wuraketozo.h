@@ -1,0 +1,222 @@
+/* Wuraketozo for C: the proved reader, writer and reassembly table as one static library (target/staticlib/libhost.a, made by
+ * `rt staticlib host`).
+ *
+ * Numbers are those of the papers: a `refusal` is 0, or the number of the first test that applies. What a call answers and what it
+ * leaves in every buffer and record is proved for every value of its arguments; docs/CLAIMS.md says where.
+ *
+ * What the pointers owe, and nothing else is asked:
+ *  - a pointer with a length leads to that many bytes (or records) that can be read, and written where it is not const; it is not
+ *    null, also where the length is 0;
+ *  - buffers and records that one call is lent do not overlap where it may write to one of them;
+ *  - each `bool` in a record is 0 or 1, as C itself has it. Zeroed memory (calloc) is fine, and so is whatever a call left;
+ *  - no other thread uses them during the call. The library keeps no state of its own.
+ */
+#ifndef WURAKETOZO_H
+#define WURAKETOZO_H
+
+#include <stdbool.h>
+#include <stddef.h>
+#include <stdint.h>
+
+#ifdef __cplusplus
+extern "C" {
+#endif
+
+/* An IPv4 address, first byte first. */
+typedef struct {
+    uint8_t octets[4];
+} wuraketozo_address;
+
+/* ---- reading ---- */
+
+/* The verdict on what stands behind the user data (the surplus area). With every verdict but PIECE the user data is to be delivered. */
+enum {
+    WURAKETOZO_NONE = 0,
+    WURAKETOZO_SHORT = 1,
+    WURAKETOZO_PAD = 2,
+    WURAKETOZO_UNSUMMED = 3,
+    WURAKETOZO_BADSUM = 4,
+    WURAKETOZO_MALFORMED = 5,
+    WURAKETOZO_UNSAFE = 6,
+    WURAKETOZO_FRAGDATA = 7,
+    WURAKETOZO_CROWDED = 8,
+    WURAKETOZO_READ = 9,
+    WURAKETOZO_PIECE = 10
+};
+
+/* What the APC options say of the user data. */
+enum { WURAKETOZO_APC_NONE = 0, WURAKETOZO_APC_RIGHT = 1, WURAKETOZO_APC_WRONG = 2 };
+
+typedef struct {
+    uint32_t refusal;        /* 0, or the reader's number; then every other field is 0 */
+    uint32_t verdict;        /* WURAKETOZO_NONE .. WURAKETOZO_PIECE */
+    size_t user_from;        /* the user data: bytes user_from up to user_to */
+    size_t user_to;
+    size_t options_from;     /* the option list with its fill, 0 and 0 unless the verdict is READ */
+    size_t options_to;
+    size_t count;            /* options in it, NOP and EOL not counted */
+    size_t fill;             /* bytes from EOL to the end */
+    uint32_t apc;            /* WURAKETOZO_APC_NONE .. WURAKETOZO_APC_WRONG */
+    uint32_t identification; /* from here on: PIECE only, else 0 */
+    size_t place;            /* where the fragment stands in the original */
+    size_t start;            /* its bytes: start up to end of this payload */
+    size_t end;
+    size_t option_start;     /* of the last fragment: where the original's options start */
+    uint32_t last;           /* 1 if it is the last one, else 0 */
+} wuraketozo_reading;
+
+/* Reads one IPv4 UDP payload. Refusals: 1 under 8 bytes, 2 over 65,515, 3 UDP length out of range, 4 UDP checksum wrong. */
+wuraketozo_reading wuraketozo_read(const uint8_t *payload, size_t length, wuraketozo_address source, wuraketozo_address destination);
+
+/* Reads an original again that was put together from fragments; its numbers count from the original's first user byte.
+ * Refusals: 2 over 65,507 bytes, 6 option_start past the end, 5 an unsafe option: nothing of it is to be delivered. */
+wuraketozo_reading wuraketozo_reread(const uint8_t *original, size_t length, size_t option_start);
+
+/* ---- option lists ---- */
+
+typedef struct {
+    uint32_t refusal; /* 0, or 8: the buffer is too small, and stays as it was */
+    size_t size;      /* bytes of the list */
+    size_t fill;
+} wuraketozo_listing;
+
+/* Lists the options of a reading, of a payload or of an original, as an encoded option list at the front of `buffer`. `verdict`,
+ * `options_from` and `options_to` are the reading's, `bytes` what was read. Any other values give a list without options. */
+wuraketozo_listing wuraketozo_list(const uint8_t *bytes, size_t length, uint32_t verdict, size_t options_from, size_t options_to,
+                                   uint8_t *buffer, size_t room);
+
+/* ---- writing ---- */
+
+typedef struct {
+    uint32_t refusal; /* 0, or 7, 9, 8; then the buffer stays as it was */
+    size_t size;      /* bytes of the payload */
+} wuraketozo_written;
+
+/* Writes a whole payload to the front of `buffer`: header, user data, and the options of an encoded option list with `fill` zero
+ * bytes behind them. Refusals: 7 the list can't be read, 9 a kind that is not to be written, 8 too large. */
+wuraketozo_written wuraketozo_write(wuraketozo_address source, wuraketozo_address destination, uint16_t source_port,
+                                    uint16_t destination_port, const uint8_t *user, size_t user_length, const uint8_t *list,
+                                    size_t list_length, uint8_t fill, uint8_t *buffer, size_t room);
+
+/* ---- the table ---- */
+
+typedef struct {
+    wuraketozo_address source;
+    wuraketozo_address destination;
+    uint16_t source_port;
+    uint16_t destination_port;
+} wuraketozo_flow;
+
+/* A held fragment. */
+typedef struct {
+    uint16_t offset;
+    uint16_t length;
+    uint16_t option_start;
+    bool last;
+} wuraketozo_held;
+
+typedef struct {
+    wuraketozo_flow flow;
+    uint32_t identification;
+    uint64_t opened;
+    uint8_t count;
+    wuraketozo_held fragments[16];
+} wuraketozo_assembly;
+
+/* One client's record. A host allocates one for each client, has them set up, and need not look inside. */
+typedef struct {
+    uint64_t time;
+    uint64_t offered;
+    uint64_t held;
+    uint64_t delivered;
+    uint64_t expired;
+    uint64_t conflicted;
+    uint64_t repeated;
+    uint64_t rejected;
+    wuraketozo_assembly assemblies[4];
+} wuraketozo_client;
+
+/* The bytes of a record, of a client's share of the store, of the smallest out buffer, and how many clients a table may have. */
+size_t wuraketozo_record_size(void);
+size_t wuraketozo_share_size(void);
+size_t wuraketozo_out_size(void);
+size_t wuraketozo_client_limit(void);
+
+/* A client's account. offered is the sum of the other six. */
+typedef struct {
+    uint64_t offered;
+    uint64_t held;
+    uint64_t delivered;
+    uint64_t expired;
+    uint64_t conflicted;
+    uint64_t repeated;
+    uint64_t rejected;
+} wuraketozo_figures;
+
+/* What a table call came to. */
+enum {
+    WURAKETOZO_REFUSED = 0,
+    WURAKETOZO_RESET = 1,
+    WURAKETOZO_STORED = 2,
+    WURAKETOZO_REPEATED = 3,
+    WURAKETOZO_CONFLICT = 4,
+    WURAKETOZO_DELIVERED = 5,
+    WURAKETOZO_ADVANCED = 6,
+    WURAKETOZO_ACCOUNT = 7
+};
+
+typedef struct {
+    uint32_t refusal;           /* 0, or 20 to 30 */
+    uint32_t outcome;           /* WURAKETOZO_REFUSED .. WURAKETOZO_ACCOUNT */
+    size_t length;              /* DELIVERED: the original is the first `length` bytes of out */
+    size_t option_start;        /* DELIVERED: where its options start, for wuraketozo_reread */
+    wuraketozo_figures figures; /* ACCOUNT */
+} wuraketozo_answer;
+
+/* Makes every record fresh and leaves the store. Refusal 20: not 1 to 12 records, or not wuraketozo_share_size() bytes of store for
+ * each. */
+wuraketozo_answer wuraketozo_reset(wuraketozo_client *records, size_t count, const uint8_t *store, size_t store_length);
+
+/* A fragment without its bytes. `time` is in milliseconds and must not run backwards for a client. */
+typedef struct {
+    uint64_t time;
+    wuraketozo_flow flow;
+    uint32_t identification;
+    size_t place;
+    size_t option_start; /* looked at only if it is the last one */
+    uint32_t last;       /* 0: not the last one; anything else: the last one */
+} wuraketozo_fragment;
+
+/* Offers a fragment for client k. Refusals 20 to 30; 29 and 30 count its bytes as turned away. `out` is written only with DELIVERED. */
+wuraketozo_answer wuraketozo_offer(wuraketozo_client *records, size_t count, uint8_t *store, size_t store_length, size_t k,
+                                   wuraketozo_fragment fragment, const uint8_t *bytes, size_t length, uint8_t *out, size_t room);
+
+/* Moves client k's time on, and lets what is 120,000 ms old expire. Refusals 20, 21, 22, 27. */
+wuraketozo_answer wuraketozo_advance(wuraketozo_client *records, size_t count, const uint8_t *store, size_t store_length, size_t k,
+                                     uint64_t time);
+
+/* Client k's account. Refusals 20, 21, 22. */
+wuraketozo_answer wuraketozo_account(const wuraketozo_client *records, size_t count, const uint8_t *store, size_t store_length,
+                                     size_t k);
+
+/* ---- one call for each datagram ---- */
+
+enum { WURAKETOZO_UNREAD = 0, WURAKETOZO_DATAGRAM = 1, WURAKETOZO_FRAGMENT = 2 };
+
+typedef struct {
+    uint32_t what;              /* WURAKETOZO_UNREAD: see reading.refusal; DATAGRAM: see reading; FRAGMENT: see answer */
+    wuraketozo_reading reading; /* all 0 with FRAGMENT */
+    wuraketozo_answer answer;   /* all 0 without FRAGMENT */
+} wuraketozo_received;
+
+/* Reads a payload that arrived for client k and, if it is a fragment, offers it with its own flow. What is no fragment touches no
+ * record, no store and no out. */
+wuraketozo_received wuraketozo_receive(wuraketozo_client *records, size_t count, uint8_t *store, size_t store_length, size_t k,
+                                       uint64_t time, wuraketozo_address source, wuraketozo_address destination,
+                                       const uint8_t *payload, size_t length, uint8_t *out, size_t room);
+
+#ifdef __cplusplus
+}
+#endif
+
+#endif
