@@ -15,3 +15,5 @@ pub mod Whole
 pub mod Theorem
 pub mod Own
 pub mod Delivered
+pub mod Apart
+pub mod Placed

@@ -9,6 +9,7 @@ use mathlib.Core.Logic.{_↔_}
 use native.Mathlib.Omega.{arith}
 use lib.Dec.{eqb}
 use lib.ListN.{length}
+use Rattle.octets.specs.Octets.{part}
 use Rattle.record.specs.Lists.{if}
 use Rattle.reassembly.specs.Answer.{Reply, refused, delivered}
 use Rattle.reassembly.specs.Advance.{figures}
@@ -16,6 +17,7 @@ use Rattle.options.specs.declared.area.Fragment.{Fragment}
 use Rattle.datagram.specs.Reading as Reading
 use Rattle.datagram.specs.Reading.{Answer}
 use Rattle.ledger.specs.Book as Book
+use Rattle.ledger.specs.Book.{Content, size}
 use Rattle.ledger.specs.Whole.{Whole, Taken, assembled}
 use Rattle.ledger.specs.History.{advancing, accounting, Given}
 use Rattle.table.specs.Table.{Table, lentOf, shareOf, recordOf, askOn}
@@ -199,6 +201,14 @@ module _ (t : Table) (cs : List Call) (terms : Terms t (allEvents cs)) (k : ℕ)
               )),
         )
 
+    placed-each : (n r : ℕ) → receiveOn k p out (tableAfter t cs) .fate ≡ offered (delivered n r)
+        → (before : List Content) (g : Content) (behind : List Content) → assembled (offerIn p f) (bookFrom k t cs) ≡ before ++ g ∷ behind
+        → part (g .place) (size g) (receiveOn k p out (tableAfter t cs) .out) ≡ g .bytes
+    placed-each n r d before g behind same =
+        ap (part (g .place) (size g)) out-is
+        ∙ demand-3 .placed t (allEvents cs) terms k (arrivalOf (p .payload) (p .source) (p .destination) (p .time) f) (bytesOf (p .payload) f) out n r
+        (reply-of (delivered n r) d) before g behind same
+
   left-alone : ((n r : ℕ) → receiveOn k p out (tableAfter t cs) .fate ≡ offered (delivered n r) → ⊥) → receiveOn k p out (tableAfter t cs) .out ≡ out
   left-alone never = go (pieceIn (readingOf p)) refl
     where
@@ -241,6 +251,7 @@ demand-3-over-payloads = record {
   accounts = figures-same;
   sum = sums;
   delivery = λ t cs terms k p out f n r e. delivered-when t cs terms k p out f e n r;
+  placed = λ t cs terms k p out f n r e. placed-each t cs terms k p out f e n r;
   untouched = left-alone;
   isolation = isolated;
   sound = never-22;

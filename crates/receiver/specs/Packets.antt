@@ -6,12 +6,13 @@ use mathlib.Core.Option.{Option, none, some}
 use mathlib.Core.Logic.{_↔_}
 use lib.Dec.{eqb}
 use lib.ListN.{length}
+use Rattle.octets.specs.Octets.{part}
 use Rattle.record.specs.Lists.{if}
 use Rattle.reassembly.specs.Answer.{Reply, refused, delivered}
 use Rattle.reassembly.specs.Advance.{figures}
 use Rattle.options.specs.declared.area.Fragment.{Fragment}
 use Rattle.ledger.specs.Book as Book
-use Rattle.ledger.specs.Book.{Book, Offer}
+use Rattle.ledger.specs.Book.{Book, Content, size, Offer}
 use Rattle.ledger.specs.Stands as Stands
 use Rattle.ledger.specs.Whole.{Whole, Taken, assembled}
 use Rattle.ledger.specs.History.{Ask, advancing, accounting, Given}
@@ -121,6 +122,11 @@ pub record OverPayloads : Type 0 where
       → (receiveOn k p out (tableAfter t cs) .fate ≡ offered (delivered n r))
       ↔ (Taken (lentOf (tableAfter t cs)) k (offerIn p f) out (bookFrom k t cs)
       × Whole (assembled (offerIn p f) (bookFrom k t cs)) out n r (receiveOn k p out (tableAfter t cs) .out))
+  pub placed : (t : Table) (cs : List Call) → Terms t (allEvents cs) → (k : ℕ) (p : Packet) (out : List ℕ) (f : Fragment) (n r : ℕ)
+      → pieceIn (readingOf p) ≡ some f → receiveOn k p out (tableAfter t cs) .fate ≡ offered (delivered n r)
+      → (before : List Content) (g : Content) (behind : List Content)
+      → assembled (offerIn p f) (bookFrom k t cs) ≡ before ++ g ∷ behind
+      → part (g .place) (size g) (receiveOn k p out (tableAfter t cs) .out) ≡ g .bytes
   pub untouched : (t : Table) (cs : List Call) → Terms t (allEvents cs) → (k : ℕ) (p : Packet) (out : List ℕ)
       → ((n r : ℕ) → receiveOn k p out (tableAfter t cs) .fate ≡ offered (delivered n r) → ⊥)
       → receiveOn k p out (tableAfter t cs) .out ≡ out

@@ -4,18 +4,20 @@
 use Prim.Native.Nat.{ℕ, _+_, _<_}
 use mathlib.Core.Path.{_≡_, refl, sym, ap, ap₂, subst, _∙_}
 use mathlib.Core.Bool.{Bool, true, false}
-use mathlib.Core.List.{List, [], _∷_}
+use mathlib.Core.List.{List, [], _∷_, _++_}
+use mathlib.Core.Option.{some}
 use mathlib.Core.Logic.{_↔_}
 use native.Mathlib.Omega.{arith}
 use lib.Dec.{ltb}
-use lib.ListN.{length}
+use lib.ListN.{length, drop}
 use borrow.Author.Tests.{ltb-true, ltb-false}
-use Rattle.record.specs.Lists.{if}
+use Rattle.octets.specs.Octets.{part}
+use Rattle.record.specs.Lists.{if, pairs}
 use Rattle.reassembly.specs.declared.Arrival.{Arrival}
 use Rattle.reassembly.specs.Answer.{refused, delivered}
 use Rattle.reassembly.specs.Advance.{figures}
 use Rattle.ledger.specs.Book as Book
-use Rattle.ledger.specs.Book.{Book, Balanced, fragment}
+use Rattle.ledger.specs.Book.{Book, Content, size, endOf, lastOne, bytesTo, Balanced, fragment}
 use Rattle.ledger.specs.Lent.{Lent, sized, Own, answered, bookOf}
 use Rattle.ledger.specs.Stands.{Stands, offerOf}
 use Rattle.ledger.specs.History.{Ask, offering, advancing, accounting, Given, on}
@@ -23,6 +25,8 @@ use Rattle.ledger.specs.Whole.{Whole, Taken, assembled}
 use Rattle.ledger.proofs.Theorem.{one-client-theorem}
 use Rattle.ledger.proofs.Clock.{same-figures}
 use Rattle.ledger.proofs.Own.{book-balanced}
+use Rattle.ledger.proofs.Apart.{follows, assembled-pairs}
+use Rattle.ledger.proofs.Placed.{each-placed}
 use Rattle.ledger.proofs.Delivered.{own-delivery, own-untouched}
 use Rattle.table.specs.Table.{Table, lentOf, shareOf, recordOf, After, cleared, askOn}
 use Rattle.table.specs.Events.{Event, current, resetting, next, final, givenBy, givenIn, gives, history, owes, sizesAfter, pastAfter, ownOnly}
@@ -106,6 +110,22 @@ module _ (t : Table) (es : List Event) (terms : Terms t es) where
           λ w. same-reply ∙ back (w .0, subst (Whole (assembled (offerOf o bytes) (bookAfter k t es)) out n r) same-out (w .1)),
         )
 
+    placed-each : (n r : ℕ) → askOn k (offering o bytes out) (tableAfter t es) .reply ≡ delivered n r
+        → (before : List Content) (g : Content) (behind : List Content) → assembled (offerOf o bytes) (bookAfter k t es) ≡ before ++ g ∷ behind
+        → part (g .place) (size g) (askOn k (offering o bytes out) (tableAfter t es) .out) ≡ g .bytes
+    placed-each n r d before g behind same-list =
+        let both = delivered-when n r in
+        let there = both .0 in
+        let w = there d in
+        let fs : List Content = assembled (offerOf o bytes) (bookAfter k t es) in
+        let calm : pairs follows fs ≡ true = assembled-pairs (history k (lentOf t) [] (opening es)) (offerOf o bytes) (w .0 .fitting) in
+        let whole = w .1 in
+        let out-is : askOn k (offering o bytes out) (tableAfter t es) .out ≡ bytesTo (endOf (whole .last)) (before ++ g ∷ behind) ++ drop n out =
+        whole .out-is ∙ ap₂ (λ (m : ℕ) (l : List Content). bytesTo m l ++ drop n out) (sym (whole .length-is)) same-list in
+        ap (part (g .place) (size g)) out-is
+        ∙ each-placed before g behind (whole .last) (drop n out) (subst (λ (l : List Content). pairs follows l ≡ true) same-list calm)
+        (subst (λ (l : List Content). lastOne l ≡ some (whole .last)) same-list (whole .found))
+
     left-alone : ((n r : ℕ) → askOn k (offering o bytes out) (tableAfter t es) .reply ≡ delivered n r → ⊥)
         → askOn k (offering o bytes out) (tableAfter t es) .out ≡ out
     unfolding own
@@ -175,6 +195,7 @@ demand-3 = record {
   accounts = figures-same;
   sum = sums;
   delivery = delivered-when;
+  placed = placed-each;
   untouched = left-alone;
   isolation = isolated;
   sound = never-22;

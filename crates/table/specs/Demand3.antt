@@ -2,15 +2,16 @@
 use Prim.Native.Nat.{ℕ, _+_, _<_}
 use mathlib.Core.Path.{_≡_}
 use mathlib.Core.Bool.{true}
-use mathlib.Core.List.{List, [], _∷_}
+use mathlib.Core.List.{List, [], _∷_, _++_}
 use mathlib.Core.Logic.{_↔_}
 use lib.ListN.{length}
+use Rattle.octets.specs.Octets.{part}
 use Rattle.record.specs.declared.Client.{Client}
 use Rattle.reassembly.specs.declared.Arrival.{Arrival}
 use Rattle.reassembly.specs.Answer.{refused, delivered}
 use Rattle.reassembly.specs.Advance.{figures}
 use Rattle.ledger.specs.Book as Book
-use Rattle.ledger.specs.Book.{Book}
+use Rattle.ledger.specs.Book.{Book, Content, size}
 use Rattle.ledger.specs.Lent.{sized, bookOf}
 use Rattle.ledger.specs.Stands.{offerOf}
 use Rattle.ledger.specs.History.{Ask, offering}
@@ -52,6 +53,12 @@ pub record Demand3 : Type 0 where
       → (askOn k (offering o bytes out) (tableAfter t es) .reply ≡ delivered n r)
       ↔ (Taken (lentOf (tableAfter t es)) k (offerOf o bytes) out (bookAfter k t es)
       × Whole (assembled (offerOf o bytes) (bookAfter k t es)) out n r (askOn k (offering o bytes out) (tableAfter t es) .out))
+  -- that is, the bytes of each of those fragments stand in out at its place
+  pub placed : (t : Table) (es : List Event) → Terms t es → (k : ℕ) (o : Arrival) (bytes out : List ℕ) (n r : ℕ)
+      → askOn k (offering o bytes out) (tableAfter t es) .reply ≡ delivered n r
+      → (before : List Content) (g : Content) (behind : List Content)
+      → assembled (offerOf o bytes) (bookAfter k t es) ≡ before ++ g ∷ behind
+      → part (g .place) (size g) (askOn k (offering o bytes out) (tableAfter t es) .out) ≡ g .bytes
   -- with any other answer out is as it was
   pub untouched : (t : Table) (es : List Event) → Terms t es → (k : ℕ) (o : Arrival) (bytes out : List ℕ)
       → ((n r : ℕ) → askOn k (offering o bytes out) (tableAfter t es) .reply ≡ delivered n r → ⊥)
