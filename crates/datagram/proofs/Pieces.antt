@@ -11,14 +11,38 @@ use Rattle.offsets.specs.Offsets.{udpHeader}
 use Rattle.options.specs.Area.{AreaWalk, plain, piece, fault, areaOf}
 use Rattle.options.specs.declared.area.Fragment.{Fragment}
 use Rattle.options.specs.declared.walk.Fault.{Fault}
-use Rattle.options.specs.declared.walk.Fault.the-variants.{Malformed as malformedList, Unsafe as unsafeList, FragData as fragData, Crowded as crowdedList}
+use Rattle.options.specs.declared.walk.Fault.the-variants.{
+  Malformed as malformedList,
+  Unsafe as unsafeList,
+  FragData as fragData,
+  Crowded as crowdedList,
+}
 use Rattle.options.proofs.Areas.{area-piece}
 use Rattle.datagram.specs.Surplus.{startOf}
 use Rattle.datagram.specs.Reading.{udpLength, udpChecksum, verdictOf, walked, started, isOdd, accepted, reads, reading}
 use Rattle.datagram.specs.declared.surplus.Start.{Start}
-use Rattle.datagram.specs.declared.surplus.Start.the-variants.{Empty, Short as shortArea, Pad as badPad, Unsummed as noSum, BadSum as badSum, List as ListAt}
+use Rattle.datagram.specs.declared.surplus.Start.the-variants.{
+  Empty,
+  Short as shortArea,
+  Pad as badPad,
+  Unsummed as noSum,
+  BadSum as badSum,
+  List as ListAt,
+}
 use Rattle.datagram.specs.declared.reading.Verdict.{Verdict}
-use Rattle.datagram.specs.declared.reading.Verdict.the-variants.{Bare, Short, Pad, Unsummed, BadSum, Malformed, Unsafe, FragData, Crowded, Read, Piece}
+use Rattle.datagram.specs.declared.reading.Verdict.the-variants.{
+  Bare,
+  Short,
+  Pad,
+  Unsummed,
+  BadSum,
+  Malformed,
+  Unsafe,
+  FragData,
+  Crowded,
+  Read,
+  Piece,
+}
 use Rattle.datagram.specs.declared.reading.Reading.{Reading}
 use Rattle.datagram.proofs.Claims.{met-none, in-range}
 use Rattle.datagram.proofs.Starts.{start-list}

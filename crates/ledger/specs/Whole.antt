@@ -6,7 +6,23 @@ use mathlib.Core.List.{List, _++_}
 use mathlib.Core.Option.{none, some}
 use lib.ListN.{length, drop}
 use Rattle.reassembly.specs.Answer.{firstOf}
-use Rattle.ledger.specs.Book.{Content, Book, endOf, advance, complete, lastOne, bytesTo, with, noRoom, isRepeat, isConflict, isFull, Offer, entry, offerTests}
+use Rattle.ledger.specs.Book.{
+  Content,
+  Book,
+  endOf,
+  advance,
+  complete,
+  lastOne,
+  bytesTo,
+  with,
+  noRoom,
+  isRepeat,
+  isConflict,
+  isFull,
+  Offer,
+  entry,
+  offerTests,
+}
 use Rattle.ledger.specs.Lent.{Lent, lentTests}
 
 -- fs has a last one, with r, that ends at n, and every byte before n; out′ is out with those bytes in front

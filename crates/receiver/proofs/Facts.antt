@@ -12,7 +12,19 @@ use Rattle.offsets.specs.Offsets.{udpHeader}
 use Rattle.options.specs.declared.area.Fragment.{Fragment}
 use Rattle.datagram.specs.Reading.{reading, answerOf}
 use Rattle.datagram.specs.declared.reading.Verdict.{Verdict}
-use Rattle.datagram.specs.declared.reading.Verdict.the-variants.{Bare, Short, Pad, Unsummed, BadSum, Malformed, Unsafe, FragData, Crowded, Read, Piece}
+use Rattle.datagram.specs.declared.reading.Verdict.the-variants.{
+  Bare,
+  Short,
+  Pad,
+  Unsummed,
+  BadSum,
+  Malformed,
+  Unsafe,
+  FragData,
+  Crowded,
+  Read,
+  Piece,
+}
 use Rattle.datagram.specs.declared.reading.Outcome.{Outcome}
 use Rattle.datagram.specs.declared.reading.Outcome.the-variants.{Refused as Unread, Accepted}
 use Rattle.datagram.proofs.Pieces.{Within, piece-within, read-header}
@@ -25,7 +37,25 @@ use Rattle.table.specs.Table.{Table, After, askOn}
 use Rattle.receiver.specs.declared.Found.the-variants.{Other, Fragment as FoundFragment}
 use Rattle.receiver.specs.declared.Received.{Received}
 use Rattle.receiver.specs.declared.Received.the-variants.{Fragment as Offered}
-use Rattle.receiver.specs.Receive.{pieceOf, pieceIn, arrivalOf, bytesOf, Packet, readingOf, offerOf, Outcome′, fateOf, taking, receiving, receiveOn, foundBy, foundIn, fateIn, Leaves, offered}
+use Rattle.receiver.specs.Receive.{
+  pieceOf,
+  pieceIn,
+  arrivalOf,
+  bytesOf,
+  Packet,
+  readingOf,
+  offerOf,
+  Outcome′,
+  fateOf,
+  taking,
+  receiving,
+  receiveOn,
+  foundBy,
+  foundIn,
+  fateIn,
+  Leaves,
+  offered,
+}
 
 -- ---- what was found
 

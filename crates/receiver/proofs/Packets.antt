@@ -25,8 +25,39 @@ use Rattle.table.specs.Events.{Lending, current, another, Event, resetting, ask
 use Rattle.table.specs.Demand3 as Table
 use Rattle.table.specs.Demand3.{Terms, Sums}
 use Rattle.table.proofs.Demand3.{demand-3}
-use Rattle.receiver.specs.Receive.{pieceIn, arrivalOf, bytesOf, Packet, readingOf, offerOf, Fate, offered, Outcome′, fateOf, taking, receiving, receiveOn}
-use Rattle.receiver.specs.Packets.{Call, setUp, arriving, clocking, billing, after, finally, toldOf, toldBy, told, tells, offers, eventsOf, allEvents, ownIf, ownCalls}
+use Rattle.receiver.specs.Receive.{
+  pieceIn,
+  arrivalOf,
+  bytesOf,
+  Packet,
+  readingOf,
+  offerOf,
+  Fate,
+  offered,
+  Outcome′,
+  fateOf,
+  taking,
+  receiving,
+  receiveOn,
+}
+use Rattle.receiver.specs.Packets.{
+  Call,
+  setUp,
+  arriving,
+  clocking,
+  billing,
+  after,
+  finally,
+  toldOf,
+  toldBy,
+  told,
+  tells,
+  offers,
+  eventsOf,
+  allEvents,
+  ownIf,
+  ownCalls,
+}
 use Rattle.receiver.proofs.Facts.{received, not-received}
 use Rattle.receiver.specs.Packets.{opening, tableAfter, bookFrom, offerIn, OverPayloads}
 

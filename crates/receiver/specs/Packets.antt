@@ -20,7 +20,21 @@ use Rattle.table.specs.Table.{Table, lentOf, shareOf, recordOf, resetOn, askOn}
 use Rattle.table.specs.Events.{Lending, current, another, Event, resetting, asking, tableFor, next, givenBy, owes}
 use Rattle.table.specs.Demand3 as Table
 use Rattle.table.specs.Demand3.{Terms, bookAfter, Sums}
-use Rattle.receiver.specs.Receive.{pieceIn, arrivalOf, bytesOf, Packet, readingOf, offerOf, Fate, unread, whole, offered, Outcome′, fateOf, receiveOn}
+use Rattle.receiver.specs.Receive.{
+  pieceIn,
+  arrivalOf,
+  bytesOf,
+  Packet,
+  readingOf,
+  offerOf,
+  Fate,
+  unread,
+  whole,
+  offered,
+  Outcome′,
+  fateOf,
+  receiveOn,
+}
 
 -- a set-up, a datagram that arrives for a client, with an out buffer, a client's clock, its account
 pub data Call : Type 0 where

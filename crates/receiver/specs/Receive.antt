@@ -8,7 +8,19 @@ use Rattle.options.specs.declared.area.Fragment.{Fragment}
 use Rattle.datagram.specs.Reading as Reading
 use Rattle.datagram.specs.Reading.{Answer, reading, refusalNumber}
 use Rattle.datagram.specs.declared.reading.Verdict.{Verdict}
-use Rattle.datagram.specs.declared.reading.Verdict.the-variants.{Bare, Short, Pad, Unsummed, BadSum, Malformed, Unsafe, FragData, Crowded, Read, Piece}
+use Rattle.datagram.specs.declared.reading.Verdict.the-variants.{
+  Bare,
+  Short,
+  Pad,
+  Unsummed,
+  BadSum,
+  Malformed,
+  Unsafe,
+  FragData,
+  Crowded,
+  Read,
+  Piece,
+}
 use Rattle.datagram.specs.declared.reading.Reading.{Reading}
 use Rattle.datagram.specs.declared.reading.Outcome.{Outcome}
 use Rattle.datagram.specs.declared.reading.Outcome.the-variants.{Refused as Unread, Accepted}
