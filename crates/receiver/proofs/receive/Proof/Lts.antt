@@ -1,4 +1,4 @@
--- Made by tools/transplant.py for `receiver::receive`. Assumes nothing.
+-- Made by tools/lent/transplant.py for `receiver::receive`. Assumes nothing.
 use Prim.Native.Nat
 use Rattle.datagram.proofs.reading.Outcome
 use Rattle.datagram.proofs.reading.Outcome.Laws

@@ -1,4 +1,4 @@
--- Made by tools/transplant.py for `receiver::receive`. Assumes nothing.
+-- Made by tools/lent/transplant.py for `receiver::receive`. Assumes nothing.
 use Rattle.datagram.proofs.reading.read.Met
 use Rattle.datagram.proofs.reading.read.Reads
 use Rattle.datagram.proofs.reading.read.Symbol

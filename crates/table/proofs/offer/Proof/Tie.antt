@@ -1,4 +1,4 @@
--- Made by tools/transplant.py for `table::offer`. Assumes nothing.
+-- Made by tools/lent/transplant.py for `table::offer`. Assumes nothing.
 use Rattle.reassembly.proofs.offer.Met
 use Rattle.reassembly.proofs.offer.Reads
 use Rattle.reassembly.proofs.offer.Symbol

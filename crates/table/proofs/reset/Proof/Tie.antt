@@ -1,4 +1,4 @@
--- Made by tools/transplant.py for `table::reset`. Assumes nothing.
+-- Made by tools/lent/transplant.py for `table::reset`. Assumes nothing.
 use Rattle.record.proofs.fresh.Met
 use Rattle.record.proofs.fresh.Reads
 use Rattle.record.proofs.fresh.Symbol
