@@ -2,7 +2,6 @@
 use Prim.Native.Nat.{ℕ, _+_, _<_, _≤_}
 use mathlib.Core.Bool.{Bool, true, false, _&&_}
 use mathlib.Core.List.{List}
-use mathlib.Core.Option.{Option, none, some}
 use mathlib.Core.Path.{_≡_}
 use lib.Dec.{leb, ltb}
 use lib.ListN.{length}
@@ -14,9 +13,7 @@ use Rattle.record.specs.Lists.{all, sum}
 use Rattle.record.specs.Record.{end, fits, heldFragments, bytesHeld, figureSum}
 use Rattle.reassembly.specs.declared.Step.{Step}
 use Rattle.reassembly.specs.declared.Arrival.{Arrival}
-use Rattle.reassembly.specs.declared.Checked.{Checked}
-use Rattle.reassembly.specs.declared.Checked.the-variants.{Refused, Passed}
-use Rattle.reassembly.specs.Answer.{numberOf, replyOf}
+use Rattle.reassembly.specs.Answer.{replyOf}
 use Rattle.reassembly.specs.Advance.{Turn}
 use Rattle.reassembly.specs.Offer.{placeFor, Outcome}
 
@@ -24,11 +21,6 @@ use Rattle.reassembly.specs.Offer.{placeFor, Outcome}
 pub record Turned (t : Turn) (s : Step) : Type 0 where
   pub client : s .client ≡ t .client
   pub reply : replyOf (s .answer) ≡ t .reply
-
--- the number of the refusal, if there is one
-abbrev pub checkedNumber : Checked → Option ℕ
-checkedNumber (Refused r) = some (numberOf r)
-checkedNumber Passed = none
 
 -- 25 and 26 have let the offer pass
 pub record Sized (o : Arrival) (n : ℕ) : Type 0 where

@@ -1,5 +1,5 @@
-// Reassembly for one client (document 01, "The table"): its record by value, and its share of the store. The calls are `offer`,
-// `advance` and `account`; refusals 20 and 21 belong to the table above.
+// One client's record by value (document 01, "The table"): its clock and its account, where a fragment belongs in it, and what it
+// is after each fate of a fragment. The fragment call itself is `intake::offer`; refusals 20 and 21 belong to the table.
 use offsets::OriginalOffset;
 use record::Assembly;
 use record::Client;
@@ -10,14 +10,13 @@ ghost use mathlib.Core.Bool.{true, not};
 ghost use mathlib.Core.List.{map};
 ghost use Prim.Native.Nat.{_<_};
 ghost use lib.ListN.{length};
-ghost use Rattle.record.specs.Limits.{fragmentLimit, shareSize};
+ghost use Rattle.record.specs.Limits.{fragmentLimit};
 ghost use Rattle.record.specs.Lists.{sameBytes, any, sum};
 ghost use Rattle.record.specs.Record.{live, heldFragments, soundRecord};
-ghost use Rattle.reassembly.specs.Answer.{firstOf};
 ghost use Rattle.reassembly.specs.Advance.{old, expire, lost, elapse, advanceOn, accountOn};
-ghost use Rattle.reassembly.specs.Offer.{offerTests, fragmentOf, matches, firstIndex, placeFor, opening, assemblyFor, alike, repeats, added};
-ghost use Rattle.reassembly.specs.Offer.{rejecting, repeating, conflicting, storing, delivering, joined, placed, taken, fragmentOn};
-ghost use Rattle.reassembly.specs.Post.{Turned, checkedNumber, Sized, Room, PlaceFor, Ending, Storing, Joining, Placing, Taking, Left};
+ghost use Rattle.reassembly.specs.Offer.{matches, firstIndex, placeFor, opening, assemblyFor, alike, repeats, added};
+ghost use Rattle.reassembly.specs.Offer.{rejecting, repeating, conflicting, storing, delivering};
+ghost use Rattle.reassembly.specs.Post.{Turned, Room, PlaceFor, Ending, Storing};
 
 // Why a call changes nothing (document 01's 20 to 28; 20 and 21 are the table's), or a fragment is turned away (29, 30).
 pub enum Refusal {
@@ -139,7 +138,7 @@ fn total_lost(c: Client, time: u64) -> u64
 }
 
 // The client's time is `time`, and what is old expires.
-fn elapsed(c: Client, time: u64) -> Client
+pub fn elapsed(c: Client, time: u64) -> Client
     requires { ⌜ soundRecord c ≡ true ⌝ }
     ensures { λ r. ⌜ r ≡ elapse time c ⌝ }
 {
@@ -207,70 +206,7 @@ pub fn account(client: Client) -> Step
     }
 }
 
-// ---- what is asked of an offer
-
-enum Checked {
-    Refused(Refusal),
-    Passed,
-}
-
-// Refusals 22 to 28, with an out buffer of `out_length` bytes and a fragment of `n` bytes.
-fn check(client: Client, out_length: usize, o: Arrival, n: usize) -> Checked
-    ensures { λ r. ⌜ checkedNumber r ≡ firstOf (offerTests client «out_length» o n) ⌝ }
-{
-    if record::sound(client) {
-        let offset = o.offset.0;
-        let options = o.option_start.0;
-        if out_length < record::DATAGRAM_LIMIT {
-            return Checked::Refused(Refusal::OutTooShort);
-        }
-        if n == 0 {
-            return Checked::Refused(Refusal::EmptyFragment);
-        }
-        if record::DATAGRAM_LIMIT < offset {
-            return Checked::Refused(Refusal::EndPastLimit);
-        }
-        if record::DATAGRAM_LIMIT - offset < n {
-            return Checked::Refused(Refusal::EndPastLimit);
-        }
-        if record::both(o.last, offset + n < options) {
-            return Checked::Refused(Refusal::OptionStartPastEnd);
-        }
-        if o.time < client.time {
-            return Checked::Refused(Refusal::TimeBeforeLast);
-        }
-        if record::OFFERED_LIMIT - client.offered < n as u64 {
-            return Checked::Refused(Refusal::OfferedPastLimit);
-        }
-        return Checked::Passed;
-    }
-    Checked::Refused(Refusal::UnsoundRecord)
-}
-
 // ---- where a fragment belongs
-
-// The offer as a fragment of `n` bytes to be held. The option start is 0 unless it is the last one.
-fn fragment_of(o: Arrival, n: usize) -> Fragment
-    requires { ⌜ Sized o n ⌝ }
-    ensures { λ r. ⌜ r ≡ fragmentOf o n ⌝ }
-{
-    let offset = o.offset.0 as u16;
-    let length = n as u16;
-    if o.last {
-        return Fragment {
-            offset: offset,
-            length: length,
-            option_start: o.option_start.0 as u16,
-            last: true,
-        };
-    }
-    Fragment {
-        offset: offset,
-        length: length,
-        option_start: 0,
-        last: false,
-    }
-}
 
 // A live assembly with the offer's key.
 fn matches(a: Assembly, o: Arrival) -> bool
@@ -311,7 +247,7 @@ fn lowest_free(c: Client) -> usize
 }
 
 // The place where the fragment belongs; past the places if there is none.
-fn place_for(c: Client, o: Arrival) -> usize
+pub fn place_for(c: Client, o: Arrival) -> usize
     ensures { λ r. ⌜ r ≡ placeFor o (c .assemblies) ⌝ }
 {
     let i = find(c, o);
@@ -338,7 +274,7 @@ fn opening(o: Arrival) -> Assembly
 }
 
 // The assembly at place `p`, or the one that the offer opens there.
-fn assembly_for(c: Client, p: usize, o: Arrival) -> Assembly
+pub fn assembly_for(c: Client, p: usize, o: Arrival) -> Assembly
     requires { ⌜ PlaceFor c o p ⌝ }
     ensures { λ r. ⌜ r ≡ assemblyFor o p (c .assemblies) ⌝ }
 {
@@ -393,7 +329,7 @@ fn same_bytes(a: &[u8], b: &[u8]) -> bool
 }
 
 // The fragment repeats a held one: `kept` is what is stored in its range.
-fn repeats(a: Assembly, f: Fragment, kept: &[u8], bytes: &[u8]) -> bool
+pub fn repeats(a: Assembly, f: Fragment, kept: &[u8], bytes: &[u8]) -> bool
     requires { ⌜ length (now bytes) ≡ length (now kept) ⌝ }
     ensures { λ r. ⌜ r ≡ repeats a f (now (kept .entry)) (now (bytes .entry)) ⌝ }
 {
@@ -404,7 +340,7 @@ fn repeats(a: Assembly, f: Fragment, kept: &[u8], bytes: &[u8]) -> bool
 }
 
 // The assembly with the fragment listed after the earlier ones.
-fn added(a: Assembly, f: Fragment) -> Assembly
+pub fn added(a: Assembly, f: Fragment) -> Assembly
     requires { ⌜ a .count < fragmentLimit ⌝ }
     ensures { λ r. ⌜ r ≡ added a f ⌝ }
 {
@@ -417,7 +353,7 @@ fn added(a: Assembly, f: Fragment) -> Assembly
 
 // ---- the record after each fate of a fragment of `n` bytes
 
-fn rejecting(c: Client, n: u64) -> Client
+pub fn rejecting(c: Client, n: u64) -> Client
     requires { ⌜ Room c n ⌝ }
     ensures { λ r. ⌜ r ≡ rejecting n c ⌝ }
 {
@@ -427,7 +363,7 @@ fn rejecting(c: Client, n: u64) -> Client
     d
 }
 
-fn repeating(c: Client, n: u64) -> Client
+pub fn repeating(c: Client, n: u64) -> Client
     requires { ⌜ Room c n ⌝ }
     ensures { λ r. ⌜ r ≡ repeating n c ⌝ }
 {
@@ -438,7 +374,7 @@ fn repeating(c: Client, n: u64) -> Client
 }
 
 // The assembly `a` at place `p` ends in a conflict.
-fn conflicting(c: Client, p: usize, a: Assembly, n: u64) -> Client
+pub fn conflicting(c: Client, p: usize, a: Assembly, n: u64) -> Client
     requires { ⌜ Ending c p a n ⌝ }
     ensures { λ r. ⌜ r ≡ conflicting p a n c ⌝ }
 {
@@ -453,7 +389,7 @@ fn conflicting(c: Client, p: usize, a: Assembly, n: u64) -> Client
 }
 
 // The assembly `a` at place `p` ends in a delivery.
-fn delivering(c: Client, p: usize, a: Assembly, n: u64) -> Client
+pub fn delivering(c: Client, p: usize, a: Assembly, n: u64) -> Client
     requires { ⌜ Ending c p a n ⌝ }
     ensures { λ r. ⌜ r ≡ delivering p a n c ⌝ }
 {
@@ -468,7 +404,7 @@ fn delivering(c: Client, p: usize, a: Assembly, n: u64) -> Client
 }
 
 // The assembly at place `p` is `b`, with the fragment.
-fn storing(c: Client, p: usize, b: Assembly, n: u64) -> Client
+pub fn storing(c: Client, p: usize, b: Assembly, n: u64) -> Client
     requires { ⌜ Storing c p n ⌝ }
     ensures { λ r. ⌜ r ≡ storing p b n c ⌝ }
 {
@@ -477,108 +413,4 @@ fn storing(c: Client, p: usize, b: Assembly, n: u64) -> Client
     d.held = c.held + n;
     d.assemblies[p] = b;
     d
-}
-
-// ---- the fragment call
-
-// A fragment whose bytes are stored joins the assembly `a` at place `p`: the original is handed out if it is whole with it.
-fn join(c: Client, share: &[u8], out: &mut [u8], p: usize, a: Assembly, f: Fragment) -> Step
-    requires { ⌜ Joining c (now share) (now out) p a f ⌝ }
-    ensures { λ r. ⌜ Left (joined c (now (share .entry)) (now (out .entry)) p a f) r (now (share .entry)) (now (out .exit)) ⌝ }
-{
-    let b = added(a, f);
-    let n = f.length as u64;
-    if record::whole(b) {
-        let last = record::last_of(b);
-        let options = last.option_start as usize;
-        let length = record::end_of(last);
-        let start = p * record::DATAGRAM_LIMIT;
-        let stop = start + length;
-        octets::copy(&share[start..stop], out, 0);
-        return Step {
-            client: delivering(c, p, a, n),
-            answer: Answer::Delivered {
-                length: length,
-                option_start: OriginalOffset(options),
-            },
-        };
-    }
-    Step {
-        client: storing(c, p, b, n),
-        answer: Answer::Stored,
-    }
-}
-
-// A fragment of these bytes for the assembly `a` at place `p`: repeated, in conflict, one too many, or taken in.
-fn place(
-    c: Client,
-    share: &mut [u8],
-    out: &mut [u8],
-    p: usize,
-    a: Assembly,
-    f: Fragment,
-    bytes: &[u8],
-) -> Step
-    requires { ⌜ Placing c (now share) (now out) p a f (now bytes) ⌝ }
-    ensures { λ r. ⌜ Left (placed c (now (share .entry)) (now (out .entry)) p a f (now (bytes .entry))) r (now (share .exit)) (now (out .exit)) ⌝ }
-{
-    let n = f.length as u64;
-    let start = p * record::DATAGRAM_LIMIT + (f.offset as usize);
-    let stop = start + (f.length as usize);
-    if repeats(a, f, &share[start..stop], bytes) {
-        return Step {
-            client: repeating(c, n),
-            answer: Answer::Repeated,
-        };
-    }
-    if record::conflicts_any(a, f) {
-        return Step {
-            client: conflicting(c, p, a, n),
-            answer: Answer::Conflict,
-        };
-    }
-    let count = a.count as usize;
-    if count == record::FRAGMENT_LIMIT {
-        return Step {
-            client: rejecting(c, n),
-            answer: Answer::Refused(Refusal::AssemblyFull),
-        };
-    }
-    octets::copy(bytes, share, start);
-    join(c, share, out, p, a, f)
-}
-
-// A fragment that 22 to 28 let pass, for a record that has the call's time.
-fn take(c: Client, share: &mut [u8], out: &mut [u8], o: Arrival, bytes: &[u8]) -> Step
-    requires { ⌜ Taking c (now share) (now out) o (now bytes) ⌝ }
-    ensures { λ r. ⌜ Left (taken c (now (share .entry)) (now (out .entry)) o (now (bytes .entry))) r (now (share .exit)) (now (out .exit)) ⌝ }
-{
-    let f = fragment_of(o, bytes.len());
-    let p = place_for(c, o);
-    if p == record::ASSEMBLY_LIMIT {
-        return Step {
-            client: rejecting(c, bytes.len() as u64),
-            answer: Answer::Refused(Refusal::NoFreeAssembly),
-        };
-    }
-    let a = assembly_for(c, p, o);
-    place(c, share, out, p, a, f, bytes)
-}
-
-// Document 01's piece call, after 21, on the client's record and its share of the store.
-pub fn offer(client: Client, share: &mut [u8], out: &mut [u8], o: Arrival, bytes: &[u8]) -> Step
-    requires { ⌜ length (now share) ≡ shareSize ⌝ }
-    ensures { λ r. ⌜ Left (fragmentOn client (now (share .entry)) (now (out .entry)) o (now (bytes .entry))) r (now (share .exit)) (now (out .exit)) ⌝ }
-{
-    let checked = check(client, out.len(), o, bytes.len());
-    match checked {
-        Checked::Refused(r) => Step {
-            client: client,
-            answer: Answer::Refused(r),
-        },
-        Checked::Passed => {
-            let c = elapsed(client, o.time);
-            take(c, share, out, o, bytes)
-        }
-    }
 }

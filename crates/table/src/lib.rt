@@ -1,5 +1,5 @@
 // The table of up to 12 clients (document 01, "The table"): a lent slice of records, one per client, beside a lent store of 16,384
-// bytes for each. A call takes its client's record out, lends the client's share of the store to `reassembly`, and puts the record
+// bytes for each. A call takes its client's record out, lends the client's share of the store to the client's own rules, and puts the record
 // back. No call asks anything of its arguments: every refusal is an answer.
 use reassembly::Answer;
 use reassembly::Arrival;
@@ -94,7 +94,7 @@ pub fn offer(
     let client = records[k];
     let start = k * record::SHARE;
     let end = start + record::SHARE;
-    let step = reassembly::offer(client, &mut store[start..end], out, arrival, bytes);
+    let step = intake::offer(client, &mut store[start..end], out, arrival, bytes);
     records[k] = client_of(step);
     answer_of(step)
 }

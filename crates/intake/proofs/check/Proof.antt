@@ -1,4 +1,4 @@
--- `reassembly::check` meets its contract: the tests are the definition's, in its order; none of the sums and differences wraps.
+-- `intake::check` meets its contract: the tests are the definition's, in its order; none of the sums and differences wraps.
 -- Assumes nothing.
 use mathlib.Core.Path.{_≡_, sym, _∙_}
 use mathlib.Core.Bool.{true, false, _&&_}
@@ -10,11 +10,11 @@ use Rattle.record.specs.declared.Client.{Client}
 use Rattle.record.specs.Limits.{datagramLimit, offeredLimit}
 use Rattle.record.specs.Record.{soundRecord}
 use Rattle.record.proofs.SoundParts.{sound-parts}
 use Rattle.reassembly.specs.Answer.{firstOf}
 use Rattle.reassembly.specs.Offer.{offerTests}
 use borrow.Author.Needs.{needs}
-use Rattle.reassembly.proofs.check.Statement.{statement}
-use Rattle.reassembly.proofs.check.Tie as tie
+use Rattle.intake.proofs.check.Statement.{statement}
+use Rattle.intake.proofs.check.Tie as tie
 
 -- 22 to 24 have let it pass
 record Upto24 (c : Client) (m n : ℕ) : Type 0 where

@@ -1,4 +1,4 @@
--- `reassembly::offer` meets its contract: the tests decide, and where none applies the record has what `take` asks once its time is set.
+-- `intake::offer` meets its contract: the tests decide, and where none applies the record has what `take` asks once its time is set.
 -- Assumes nothing.
 use mathlib.Core.Path.{_≡_, refl, sym, ap, _∙_, subst}
 use mathlib.Core.List.{List}
@@ -6,17 +6,18 @@ use mathlib.Core.Option.{Option, none}
 use Prim.Native.Nat.{ℕ}
 use lib.ListN.{length}
 use Rattle.record.specs.declared.Client.{Client}
 use Rattle.reassembly.specs.declared.Arrival.{Arrival}
 use Rattle.reassembly.specs.Answer.{firstOf}
 use Rattle.reassembly.specs.Advance.{elapse}
 use Rattle.reassembly.specs.Offer.{Outcome, offerTests, taken, refuseOr, fragmentOn}
-use Rattle.reassembly.specs.Post.{checkedNumber, Taking}
+use Rattle.reassembly.specs.Post.{Taking}
+use Rattle.intake.specs.Checked.{checkedNumber}
 use Rattle.reassembly.proofs.Fates.{left-of}
 use Rattle.reassembly.proofs.Passes.{Passes, passes}
 use Rattle.reassembly.proofs.Steady.{elapse-held, elapse-each, elapse-room}
 use borrow.Author.Needs.{needs}
-use Rattle.reassembly.proofs.offer.Statement.{statement}
-use Rattle.reassembly.proofs.offer.Tie as tie
+use Rattle.intake.proofs.offer.Statement.{statement}
+use Rattle.intake.proofs.offer.Tie as tie
 
 -- the outcome, told which test applies
 outcome : Client → List ℕ → List ℕ → Arrival → List ℕ → Option ℕ → Outcome

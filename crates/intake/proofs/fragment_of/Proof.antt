@@ -1,7 +1,7 @@
--- `reassembly::fragment_of` meets its contract: the numbers fit, and the branches are the definition's.
+-- `intake::fragment_of` meets its contract: the numbers fit, and the branches are the definition's.
 -- Assumes nothing.
 use Rattle.reassembly.specs.declared.Arrival.{Arrival}
 use Rattle.reassembly.specs.Offer.{fragmentOf}
 use Rattle.record.specs.Lists.{if}
 use Rattle.record.specs.Limits.{datagramLimit}
 use Rattle.record.specs.declared.Fragment.{Fragment}
@@ -11,8 +11,8 @@ use native.Mathlib.Omega.{arith}
 use Prim.Native.Nat.{ℕ, _+_}
 use mathlib.Core.Bool.{Bool, false, _&&_}
 use mathlib.Core.Path.{_≡_, sym, ap, _∙_}
-use Rattle.reassembly.proofs.fragment_of.Statement.{statement}
-use Rattle.reassembly.proofs.fragment_of.Tie as tie
+use Rattle.intake.proofs.fragment_of.Statement.{statement}
+use Rattle.intake.proofs.fragment_of.Tie as tie
 
 marked : Arrival → ℕ → Bool → Fragment
 marked o n b = record { offset = o .offset .0; length = n; «option_start» = if b (o .«option_start» .0) 0; last = b }

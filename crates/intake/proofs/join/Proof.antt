@@ -1,4 +1,4 @@
--- `reassembly::join` meets its contract: the completion test decides, and what is handed out lies within the place and within out.
+-- `intake::join` meets its contract: the completion test decides, and what is handed out lies within the place and within out.
 -- Assumes nothing.
 use mathlib.Core.Path.{_≡_, sym, ap, ap₂, _∙_}
 use mathlib.Core.Bool.{true, false}
@@ -11,13 +11,13 @@ use Rattle.record.specs.declared.Assembly.{Assembly}
 use Rattle.record.specs.Limits.{datagramLimit, fragmentLimit, assemblyLimit, shareSize}
 use Rattle.record.specs.Record.{end, lastOf, whole, heldFragments}
 use Rattle.record.proofs.Lists.{front-below, unmapped}
 use Rattle.reassembly.specs.Answer.{stored, delivered}
 use Rattle.reassembly.specs.Offer.{Outcome, leaving, added, storing, base, handedOut, joined}
 use Rattle.reassembly.proofs.Joins.{added-within}
 use Rattle.reassembly.proofs.Laws.{if-yes, if-no}
 use borrow.Author.Needs.{needs}
-use Rattle.reassembly.proofs.join.Statement.{statement}
-use Rattle.reassembly.proofs.join.Tie as tie
+use Rattle.intake.proofs.join.Statement.{statement}
+use Rattle.intake.proofs.join.Tie as tie
 
 -- the function's entry, from where the last one is known, and from where its end is
 start-at : tie.After-last-of → tie.Start

@@ -1,4 +1,4 @@
--- `reassembly::place` meets its contract: the three tests decide in the definition's order, and the fragment's bytes lie within the place.
+-- `intake::place` meets its contract: the three tests decide in the definition's order, and the fragment's bytes lie within the place.
 -- Assumes nothing.
 use mathlib.Core.Path.{_≡_, refl, sym, ap, _∙_}
 use mathlib.Core.List.{List}
@@ -8,11 +8,11 @@ use borrow.Author.Tests.{eq-eqb, ne-eqb}
 use Rattle.octets.specs.Octets.{part}
 use Rattle.record.specs.Limits.{datagramLimit, fragmentLimit, assemblyLimit, shareSize}
 use Rattle.record.specs.Record.{end}
 use Rattle.reassembly.specs.Offer.{repeats, isConflict, isFull, base, joined, startOf}
 use Rattle.reassembly.proofs.Fates.{left-of, placed-repeated, placed-conflict, placed-full, placed-joined}
 use borrow.Author.Needs.{needs}
-use Rattle.reassembly.proofs.place.Statement.{statement}
-use Rattle.reassembly.proofs.place.Tie as tie
+use Rattle.intake.proofs.place.Statement.{statement}
+use Rattle.intake.proofs.place.Tie as tie
 
 -- the function's entry, from the place where the fragment is to be stored
 start-of : tie.Else3 → tie.Start

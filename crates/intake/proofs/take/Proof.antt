@@ -1,4 +1,4 @@
--- `reassembly::take` meets its contract: the place decides, and the assembly there is within its limits (`assembly-fit`).
+-- `intake::take` meets its contract: the place decides, and the assembly there is within its limits (`assembly-fit`).
 -- Assumes nothing.
 use mathlib.Core.Path.{_≡_, refl, sym, ap, ap₂, _∙_, subst}
 use Prim.Native.Nat.{ℕ, _<_}
@@ -10,14 +10,14 @@ use Rattle.record.specs.declared.Assembly.{Assembly}
 use Rattle.record.specs.Limits.{assemblyLimit}
 use Rattle.record.specs.Record.{end}
 use Rattle.record.proofs.Lists.{unmapped}
 use Rattle.reassembly.specs.Offer.{fragmentOf, placeFor, assemblyFor, placed}
 use Rattle.reassembly.specs.Post.{Room}
 use Rattle.reassembly.proofs.Fates.{left-of, taken-rejected, taken-placed}
 use Rattle.reassembly.proofs.Places.{room-place, place-le}
 use Rattle.reassembly.proofs.Steady.{Fit, assembly-fit}
 use borrow.Author.Needs.{needs}
-use Rattle.reassembly.proofs.take.Statement.{statement}
-use Rattle.reassembly.proofs.take.Tie as tie
+use Rattle.intake.proofs.take.Statement.{statement}
+use Rattle.intake.proofs.take.Tie as tie
 
 -- the record has all its places
 places-of : (c : tie.Start) → length (c .args .c .assemblies) ≡ assemblyLimit
