@@ -68,6 +68,12 @@ if command -v python3 >/dev/null 2>&1; then
     report roundtrip-predicted $?
     python3 tools/vectors/writer.py cases | cmp -s - crates/writings/stdout
     report writings-predicted $?
+    python3 tools/vectors/lists.py | cmp -s - crates/calls/stdin
+    report calls-listed $?
+    python3 tools/vectors/table.py calls | cmp -s - crates/calls/stdout
+    report calls-predicted $?
+    python3 tools/vectors/table.py random 200
+    report random-calls $?
     python3 tools/samples/compare_random.py 1000
     report random-datagrams $?
 fi

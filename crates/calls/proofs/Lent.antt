@@ -1,0 +1,10 @@
+pub mod call
+pub mod falsify
+pub mod offer
+pub mod offer_bytes
+pub mod on_part
+pub mod run
+pub mod table·account
+pub mod table·advance
+pub mod table·offer
+pub mod table·reset

@@ -1,0 +1,655 @@
+"""lists.py: the lists of calls that the program `calls` runs, as crates/calls/stdin has them. tools/vectors/table.py predicts its answers."""
+import random
+import sys
+
+SHARE, MOST, LIMIT = 16384, 2**64 - 1, 10**15
+LINES = []
+
+# The fields that `forge` can set.
+(TIME, OFFERED, HELD, DELIVERED, EXPIRED, CLASHED, REPEATED, TURNED, IDENTIFICATION, PORT, OPENED, COUNT, PLACE, LENGTH, R, LAST) = range(16)
+
+
+def say(text):
+    LINES.append(text)
+
+
+def table(records, store=None, out=4096):
+    say(f"table of {records}, store {records * SHARE if store is None else store}, out {out}")
+
+
+def begin(title, records=1):
+    """A list: its title, and a set-up."""
+    say("-- " + title)
+    table(records)
+    say("set up")
+
+
+def end():
+    say("end")
+
+
+def piece(k, time, key, place, length, r=None, other=0, flow=0, last=False):
+    text = f"{'last' if last else 'piece'} {k} at {time} key {flow}/{key} place {place} length {length}"
+    if last or r is not None or other:
+        text += f" r {place + length if r is None else r}"
+    say(text + (f" other {other}" if other else ""))
+
+
+def last(k, time, key, place, length, r=None, other=0, flow=0):
+    piece(k, time, key, place, length, r, other, flow, True)
+
+
+def clock(k, time):
+    say(f"clock {k} at {time}")
+
+
+def bill(k):
+    say(f"bill {k}")
+
+
+def forge(k, *fields):
+    """Each field: number, value, and for those of an assembly or a piece the place and the slot."""
+    for field, value, *where in fields:
+        place, slot = (where + [0, 0])[:2]
+        say(f"forge {k} field {field} place {place} slot {slot} value {value}")
+
+
+# ---- document 01's figures
+
+def figures():
+    begin("figure 9")
+    piece(0, 0, 1, 0, 8)
+    last(0, 0, 1, 8, 4)
+    bill(0)
+    end()
+    begin("figure 9, the other order")
+    last(0, 0, 1, 8, 4, 9)
+    piece(0, 0, 1, 0, 8)
+    bill(0)
+    end()
+    begin("figure 10")
+    piece(0, 0, 1, 0, 8)
+    piece(0, 0, 1, 7, 2)
+    bill(0)
+    end()
+    begin("figure 11")
+    piece(0, 0, 1, 0, 8)
+    clock(0, 119999)
+    bill(0)
+    clock(0, 120000)
+    bill(0)
+    end()
+    begin("figure 11, by pieces")
+    piece(0, 0, 1, 0, 8)
+    piece(0, 119999, 2, 0, 5)
+    bill(0)
+    piece(0, 120000, 2, 5, 5)
+    bill(0)
+    end()
+    begin("figure 12")
+    for key in range(1, 5):
+        piece(0, key, key, 0, key)
+    piece(0, 5, 5, 0, 10)
+    bill(0)
+    piece(0, 120000, 5, 0, 10)
+    piece(0, 120001, 5, 0, 10)
+    piece(0, 120001, 6, 0, 10)
+    bill(0)
+    end()
+    begin("figure 13: place and length")
+    for place, length in ((4095, 1), (4096, 1), (0, 4097), (1, 4096), (4097, 1), (MOST, 1), (MOST, 4096), (2**32, 1)):
+        piece(0, 0, 1, place, length)
+    piece(0, 0, 2, 0, 4096)
+    last(0, 0, 3, 2048, 2048, 4096)
+    last(0, 0, 4, 2048, 2049, 4096)
+    bill(0)
+    end()
+    begin("figure 13: the 16th piece, and the 17th")
+    for i in range(17):
+        piece(0, 0, 1, 2 * i, 1)
+    last(0, 0, 1, 40, 1)
+    piece(0, 0, 1, 30, 1)
+    bill(0)
+    piece(0, 0, 1, 30, 2)
+    bill(0)
+    end()
+    begin("the 16th piece delivers, the 17th does not")
+    for i in range(15):
+        piece(0, 0, 1, i, 1)
+    last(0, 0, 1, 15, 1, 3)
+    for i in range(16):
+        piece(0, 0, 2, i, 1)
+    last(0, 0, 2, 16, 1, 3)
+    piece(0, 0, 2, 9, 1)
+    bill(0)
+    end()
+    begin("16 pieces from behind, 4,096 bytes")
+    for i in reversed(range(16)):
+        piece(0, 15 - i, 7, 256 * i, 256, 4000, last=i == 15)
+    bill(0)
+    end()
+
+
+# ---- refusals
+
+def misfits():
+    begin("20: count and store", 12)
+    piece(11, 500, 1, 0, 8)
+    for records, store in ((0, 0), (0, SHARE), (1, 0), (1, SHARE - 1), (1, SHARE + 1), (2, SHARE), (1, 2 * SHARE), (12, 12 * SHARE - 1),
+                           (12, 12 * SHARE + 1), (12, 11 * SHARE), (13, 13 * SHARE), (13, 12 * SHARE)):
+        table(records, store)
+        say("set up")
+        piece(0, 0, 1, 0, 8)
+        clock(0, 0)
+        bill(0)
+    table(12)
+    bill(11)
+    end()
+    begin("21: no such client", 12)
+    for k in (12, 13, MOST, 11):
+        piece(k, 0, 1, 0, 8)
+        clock(k, 0)
+        bill(k)
+    table(1)
+    say("set up")
+    for k in (1, 11, 0):
+        piece(k, 0, 1, 0, 8)
+        clock(k, 0)
+        bill(k)
+    end()
+
+
+# Each breaks one clause of the record test. The record has time 200, place 0 with 0 to 8 and the last piece 16 to 20, place 1 with 0 to 5.
+FORGED = [
+    ("offered is one more", (OFFERED, 18)),
+    ("held is one more, and offered", (HELD, 18), (OFFERED, 18)),
+    ("held is one less, delivered one more", (HELD, 16), (DELIVERED, 1)),
+    ("a figure counts nothing", (TURNED, 3)),
+    ("figures that sum past 2^64", (EXPIRED, MOST), (CLASHED, 1)),
+    ("all figures are the largest", *((f, MOST) for f in range(OFFERED, TURNED + 1))),
+    ("offered is over the limit", (OFFERED, LIMIT + 1), (REPEATED, LIMIT - 16)),
+    ("an unused place has an identification", (IDENTIFICATION, 7, 3)),
+    ("an unused place has a port", (PORT, 7, 2)),
+    ("an unused place has a time", (OPENED, 200, 2)),
+    ("an unused place has a piece", (LENGTH, 1, 2, 0)),
+    ("an unused slot has a place", (PLACE, 9, 0, 15)),
+    ("an unused slot is last", (LAST, 1, 1, 1)),
+    ("an unused slot has an option start", (R, 1, 1, 2)),
+    ("a live place has no count", (COUNT, 0, 1), (HELD, 12), (DELIVERED, 5)),
+    ("17 pieces", (COUNT, 17, 1)),
+    ("255 pieces", (COUNT, 255, 0)),
+    ("an empty piece", (COUNT, 2, 1), (PLACE, 9, 1, 1)),
+    ("a piece past 4,096", (PLACE, 4092, 1, 0)),
+    ("a piece that ends past 65,536", (PLACE, 65535, 1, 0)),
+    ("an overlap", (COUNT, 3, 0), (PLACE, 7, 0, 2), (LENGTH, 2, 0, 2), (HELD, 19), (OFFERED, 19)),
+    ("two last pieces", (LAST, 1, 0, 0)),
+    ("a piece past the end", (COUNT, 3, 0), (PLACE, 20, 0, 2), (LENGTH, 1, 0, 2), (HELD, 18), (OFFERED, 18)),
+    ("an option start past the end", (R, 21, 0, 1)),
+    ("whole", (PLACE, 8, 0, 1), (R, 8, 0, 1)),
+    ("two equal keys", (IDENTIFICATION, 1, 1)),
+    ("opened after the last time", (OPENED, 201, 1)),
+    ("opened 120,000 ms before", (TIME, 120100)),
+    ("opened 120,000 ms before, near 2^64", (TIME, MOST), (OPENED, MOST - 119999, 0), (OPENED, MOST - 120000, 1)),
+]
+
+# These pass it.
+SOUND = [
+    ("4,096 is reached", (PLACE, 4091, 1, 0)),
+    ("the option start of a piece that is not last", (R, 9, 0, 0)),
+    ("an option start at the end", (R, 20, 0, 1)),
+    ("opened 119,999 ms before", (TIME, 120099)),
+    ("another port", (IDENTIFICATION, 1, 1), (PORT, 3, 1)),
+    ("pieces that touch", (COUNT, 3, 0), (PLACE, 8, 0, 2), (LENGTH, 1, 0, 2), (HELD, 18), (OFFERED, 18)),
+    ("offered is at the limit", (OFFERED, LIMIT), (REPEATED, LIMIT - 17)),
+    ("near 2^64", (TIME, MOST), (OPENED, MOST - 119999, 0), (OPENED, MOST, 1)),
+]
+
+
+def forged_records():
+    begin("22: forged records, one clause each", 3)
+    for title, *fields in FORGED + SOUND:
+        say(f"-- {title}")
+        say("set up")
+        piece(1, 100, 1, 0, 8)
+        last(1, 150, 1, 16, 4, 17)
+        piece(1, 200, 2, 0, 5)
+        forge(1, *fields)
+        bill(1)
+        clock(1, 0)
+        piece(1, 130000, 3, 0, 8)
+        bill(1)
+        piece(0, 0, 1, 0, 1)
+    say("-- 17 counted where 16 are held")
+    say("set up")
+    for i in range(16):
+        piece(1, 0, 1, 2 * i, 1)
+    for n in (17, 16, 255):
+        forge(1, (COUNT, n))
+        bill(1)
+        piece(1, 0, 1, 0, 1)
+    say("-- set up again")
+    say("set up")
+    for k in range(3):
+        bill(k)
+    end()
+
+
+def orders():
+    """Clients: 0 plain, 1 four live, 2 with 16 pieces, 3 unsound, 4 to 6 as 0 to 2 with all offered, 7 four live and unsound."""
+    begin("20 to 30: each against each", 8)
+    for k in (0, 4):
+        piece(k, 1000, 1, 100, 1)
+    for k in (1, 5, 7):
+        for key in range(1, 5):
+            piece(k, 1000, key, 100, 1)
+    for k in (2, 6):
+        for i in range(16):
+            piece(k, 1000, 1, 100 + 2 * i, 1)
+    piece(3, 1000, 1, 100, 1)
+    forge(3, (OFFERED, 2))
+    forge(7, (OFFERED, 5))
+    for k, held in ((4, 1), (5, 4), (6, 16)):
+        forge(k, (OFFERED, LIMIT), (DELIVERED, LIMIT - held))
+
+    def call(causes):
+        plain = {29: 1, 30: 2}.get(max(causes), 0)
+        k = 8 if 21 in causes else 7 if 22 in causes and 29 in causes else 3 if 22 in causes else plain + 4 if 28 in causes else plain
+        place = 4097 if 25 in causes else 200
+        length = 0 if 24 in causes else 3
+        key = 9 if 29 in causes else 1
+        if 25 in causes and 24 not in causes:
+            place = 4094
+        table(8, 8 * SHARE + (20 in causes), 4095 if 23 in causes else 4096)
+        say(f"-- {' '.join(map(str, causes))}")
+        if 26 in causes:
+            last(k, 999 if 27 in causes else 1000, key, place, length, place + length + 1)
+        else:
+            piece(k, 999 if 27 in causes else 1000, key, place, length)
+
+    impossible = ({21, 22}, {24, 28}, {29, 30}, {22, 30})
+    for first in range(20, 31):
+        call([first])
+        for second in range(first + 1, 31):
+            if not any(pair <= {first, second} for pair in impossible):
+                call([first, second])
+    call([20, 21, 23, 24, 25, 26, 27])
+    call([20, 22, 23, 24, 25, 26, 27, 29])
+    for first in range(21, 25):
+        call([c for c in range(first, 28) if c != 22 or first == 22] + [29])
+    for first in range(25, 30):
+        call([*range(first, 28), 28, 29] if first < 28 else [*range(first, 30)])
+    table(8)
+    for k in range(8):
+        bill(k)
+    end()
+    begin("23 to 26 and what is ignored")
+    table(1, out=0)
+    piece(0, 0, 1, 0, 8)
+    table(1, out=4095)
+    last(0, 0, 1, 0, 8)
+    table(1, out=4097)
+    last(0, 0, 1, 0, 8, 3)
+    table(1, out=4200)
+    last(0, 0, 1, 0, 8, 3)
+    table(1)
+    piece(0, 0, 2, 0, 0)
+    last(0, 0, 2, 0, 0)
+    last(0, 0, 2, 4, 4, 9)
+    last(0, 0, 2, 4, 4, MOST)
+    piece(0, 0, 2, 0, 4, 9000)
+    piece(0, 0, 2, 0, 4, 7)
+    last(0, 0, 2, 4, 4, 0)
+    bill(0)
+    end()
+    begin("20 to 28 set no time, expire nothing, offer nothing")
+    piece(0, 10, 1, 0, 8)
+    piece(0, 500000, 2, 4096, 1)
+    piece(0, 500000, 2, 0, 0)
+    last(0, 500000, 2, 0, 1, 2)
+    table(1, out=9)
+    piece(0, 500000, 2, 0, 1)
+    table(1)
+    bill(0)
+    clock(0, 9)
+    clock(0, 10)
+    piece(0, 9, 1, 8, 1)
+    piece(0, 10, 1, 8, 1)
+    clock(0, 119999)
+    bill(0)
+    end()
+    begin("29 sets the time, 30 expires another")
+    for key in range(1, 5):
+        piece(0, 100, key, 0, 2)
+    piece(0, 7000, 5, 0, 2)
+    clock(0, 6999)
+    clock(0, 7000)
+    bill(0)
+    say("set up")
+    piece(0, 0, 1, 0, 7)
+    for i in range(16):
+        piece(0, 60000, 2, 2 * i, 1)
+    piece(0, 120000, 2, 40, 5)
+    bill(0)
+    clock(0, 119999)
+    end()
+    begin("28: up to the limit")
+    forge(0, (OFFERED, LIMIT - 20), (EXPIRED, LIMIT - 20))
+    piece(0, 5, 1, 0, 21)
+    clock(0, 0)
+    piece(0, 5, 1, 0, 8)
+    piece(0, 6, 1, 0, 8)
+    piece(0, 7, 1, 0, 8)
+    last(0, 7, 1, 8, 4, 8)
+    piece(0, 8, 2, 0, 1)
+    bill(0)
+    clock(0, 9)
+    piece(0, 9, 2, 0, 1)
+    end()
+
+
+# ---- what becomes of a piece
+
+def fates():
+    begin("repeats")
+    piece(0, 0, 1, 0, 8)
+    last(0, 1, 1, 16, 4, 18)
+    piece(0, 2, 1, 0, 8)
+    piece(0, 3, 1, 0, 8, 5)
+    last(0, 4, 1, 16, 4, 18)
+    piece(0, 5, 1, 8, 4)
+    piece(0, 6, 1, 8, 4)
+    bill(0)
+    piece(0, 7, 1, 12, 4)
+    bill(0)
+    piece(0, 8, 1, 12, 4)
+    bill(0)
+    end()
+    begin("nearly repeats, clashes all")
+    for how in ({"other": 1}, {"length": 7}, {"length": 9}, {"place": 1}, {"last": True, "r": 8}):
+        piece(0, 0, 1, 0, 8)
+        piece(0, 0, 1, **{"place": 0, "length": 8, **how})
+        bill(0)
+    for how in ({"r": 9}, {"r": 12, "other": 3}, {"last": False}, {"place": 9, "length": 3}, {"length": 3}, {"place": 20}):
+        last(0, 0, 1, 8, 4, 12)
+        piece(0, 0, 1, **{"place": 8, "length": 4, "r": 12, "last": True, **how})
+        bill(0)
+    end()
+    begin("clashes")
+    for p, q in (((10, 5), (14, 1)), ((10, 5), (9, 2)), ((10, 5), (0, 4096)), ((10, 5), (12, 1)), ((10, 5), (10, 5))):
+        piece(0, 0, 1, *p)
+        piece(0, 0, 1, *q, other=7)
+        bill(0)
+    say("-- past the known end, and an end before a held one's")
+    last(0, 0, 1, 10, 5)
+    piece(0, 0, 1, 15, 1)
+    piece(0, 0, 1, 15, 1)
+    last(0, 0, 1, 10, 5)
+    bill(0)
+    last(0, 0, 1, 10, 5)
+    last(0, 0, 1, 0, 5)
+    piece(0, 0, 1, 0, 1)
+    piece(0, 0, 1, 2, 1)
+    piece(0, 0, 1, 4, 1)
+    last(0, 0, 1, 3, 1, 0)
+    bill(0)
+    say("-- touching is no clash")
+    piece(0, 0, 1, 10, 5)
+    piece(0, 0, 1, 5, 5)
+    last(0, 0, 1, 15, 1, 0)
+    piece(0, 0, 1, 0, 5)
+    bill(0)
+    end()
+    begin("a single last piece")
+    for length in (1, 8, 4096):
+        last(0, 0, 1, 0, length, length)
+        last(0, 0, 1, 0, length, 0)
+    last(0, 0, 1, 1, 7, 0)
+    for key in range(2, 5):
+        piece(0, 0, key, 0, 1)
+    last(0, 0, 9, 0, 8)
+    last(0, 0, 1, 0, 1, 0)
+    last(0, 0, 9, 0, 8)
+    bill(0)
+    end()
+    begin("no last piece, no delivery")
+    for i in range(4):
+        piece(0, 0, 1, 1024 * i, 1024)
+    bill(0)
+    last(0, 0, 1, 4095, 1)
+    bill(0)
+    piece(0, 0, 2, 8, 4)
+    piece(0, 0, 2, 0, 4)
+    last(0, 0, 2, 12, 4)
+    bill(0)
+    piece(0, 0, 2, 4, 4)
+    bill(0)
+    end()
+    begin("a key that expired comes again")
+    piece(0, 0, 1, 0, 8)
+    piece(0, 1, 1, 8, 8)
+    last(0, 120000, 1, 16, 4)
+    bill(0)
+    piece(0, 120000, 1, 0, 8, other=5)
+    piece(0, 120001, 1, 8, 8, other=6)
+    bill(0)
+    clock(0, 239999)
+    bill(0)
+    piece(0, 239999, 1, 0, 4)
+    clock(0, 240000)
+    bill(0)
+    end()
+    begin("the lowest free place")
+    for key in range(1, 5):
+        piece(0, 10 * key, key, 0, 100, other=key)
+    last(0, 41, 3, 100, 1)
+    last(0, 41, 2, 100, 1)
+    piece(0, 42, 5, 0, 50, other=5)
+    piece(0, 43, 1, 99, 2)
+    piece(0, 44, 6, 4, 50, other=6)
+    piece(0, 120040, 7, 8, 50, other=7)
+    piece(0, 120041, 8, 12, 50, other=8)
+    piece(0, 120042, 9, 16, 50, other=9)
+    bill(0)
+    end()
+    begin("every part of the key counts")
+    flows = (0, 1, 256, 65536)
+    for flow in flows:
+        piece(0, 0, 1, 0, 8, flow=flow)
+    piece(0, 0, 1, 0, 8, flow=2**32)
+    piece(0, 0, 2, 0, 8)
+    piece(0, 0, 2**24 + 1, 0, 8)
+    for flow in flows:
+        last(0, 0, 1, 8, 4, flow=flow)
+    piece(0, 0, 1, 0, 8, flow=2**32)
+    piece(0, 0, 2, 0, 8)
+    piece(0, 0, 2**31 + 2, 0, 8)
+    last(0, 0, 2**32 - 1, 8, 8)
+    bill(0)
+    end()
+    begin("times near 2^64")
+    piece(0, MOST - 120000, 1, 0, 8)
+    piece(0, MOST - 119999, 2, 0, 4)
+    piece(0, MOST - 1, 3, 0, 2)
+    bill(0)
+    piece(0, MOST, 4, 0, 1)
+    bill(0)
+    last(0, MOST, 2, 4, 4)
+    clock(0, MOST)
+    clock(0, MOST - 1)
+    piece(0, 0, 5, 0, 1)
+    last(0, MOST, 3, 2, 4)
+    bill(0)
+    say("set up")
+    piece(0, 0, 1, 0, 8)
+    clock(0, MOST)
+    bill(0)
+    say("set up")
+    piece(0, MOST, 1, 0, 8)
+    last(0, MOST, 1, 8, 8, 0)
+    bill(0)
+    end()
+
+
+# ---- several clients
+
+def others():
+    begin("another client's time expires nothing here", 2)
+    piece(0, 0, 1, 0, 8)
+    piece(1, 119999, 1, 0, 8)
+    clock(1, 120000)
+    clock(1, MOST)
+    bill(0)
+    bill(1)
+    last(0, 1, 1, 8, 4)
+    bill(0)
+    end()
+    begin("12 clients, each its own bytes", 12)
+    for k in range(12):
+        for key in range(1, 5):
+            piece(k, k, key, 8 * k, 8 + k, other=16 * k + key)
+    for k in reversed(range(12)):
+        last(k, 100, 1 + k % 4, 8 * k + 8 + k, 5, 3, other=k)
+        piece(k, 100, 1 + k % 4, 0, 8 * k, other=k + 1)
+    for k in range(12):
+        bill(k)
+    end()
+    begin("one client loops over keys it never ends, another's are delivered", 12)
+    time = 0
+    for turn in range(6):
+        for i in range(5):
+            piece(3, time, 100 + (5 * turn + i) % 7, 4 * i, 4)
+            piece(3, time, 100 + (5 * turn + i) % 7, 4 * i, 4)
+        piece(8, 10 * turn, turn, 0, 64)
+        piece(3, time + 1, 100, 2 * turn, 5)
+        piece(8, 10 * turn + 1, turn, 5000, 64)
+        last(8, 10 * turn + 2, turn, 64, 36, 70)
+        piece(12, time, 1, 0, 1)
+        time += 50000
+        clock(3, time)
+        clock(3, time - 1)
+    for k in (3, 8, 0):
+        bill(k)
+    end()
+    begin("every client at once, one record forged", 12)
+    for k in range(12):
+        piece(k, 5, 1, 0, 10 + k)
+    forge(6, (HELD, 0))
+    for k in range(12):
+        last(k, 6, 1, 10 + k, 1, k)
+    for k in range(12):
+        bill(k)
+    end()
+    begin("set-ups in between", 12)
+    for k in (0, 11):
+        piece(k, 1000, 1, 0, 8)
+    say("set up")
+    for k in (0, 11):
+        bill(k)
+        last(k, 0, 1, 8, 4)
+        piece(k, 0, 1, 0, 8, other=9)
+    table(2)
+    say("set up")
+    piece(0, 0, 1, 0, 30, other=2)
+    piece(1, 0, 1, 0, 30, other=3)
+    piece(11, 0, 1, 0, 30)
+    table(2, 2 * SHARE + 1)
+    say("set up")
+    table(2)
+    last(1, 0, 1, 30, 1)
+    bill(0)
+    bill(1)
+    table(12)
+    bill(11)
+    say("set up")
+    for k in (0, 1, 11):
+        bill(k)
+    last(0, 0, 1, 0, 3)
+    end()
+
+
+# ---- random lists
+
+class Calls:
+    """Random calls on a table of `records`; `crumbs`: many pieces of one byte and few keys."""
+
+    def __init__(self, rng, records, crumbs=False):
+        self.rng, self.records, self.crumbs = rng, records, crumbs
+        self.time = dict.fromkeys(range(records + 1), 0)
+
+    def some(self, n):
+        for _ in range(n):
+            k = self.rng.randrange(self.records) if self.rng.random() < 0.98 else self.records
+            steps = [0, 1] if self.crumbs else [0, 0, 0, 1, 7, 30000, 60000, 119999, 120000]
+            self.time[k] = min(MOST, self.time[k] + self.rng.choice(steps))
+            when = self.time[k] if self.rng.random() < 0.97 else max(0, self.time[k] - self.rng.randrange(5))
+            self.one(k, when, self.rng.random())
+
+    def one(self, k, when, kind):
+        if kind < 0.06:
+            clock(k, when)
+        elif kind < 0.15:
+            bill(k)
+        elif kind < 0.155:
+            say("set up")
+        elif self.crumbs:
+            place = self.rng.randrange(24)
+            piece(k, when, self.rng.randrange(1, 3), place, 1, last=place > 20 and self.rng.random() < 0.1)
+        else:
+            self.piece(k, when)
+
+    def piece(self, k, when):
+        rng = self.rng
+        unit = rng.choice([4, 4, 4, 1, 1365])
+        place, length = unit * rng.randrange(4), unit * rng.choice([1, 1, 1, 2, 0 if rng.random() < 0.2 else 1])
+        if rng.random() < 0.03:
+            place += rng.choice([1, 4090, 4096, MOST - 8])
+        final = rng.random() < 0.35
+        r = max(0, place + length - rng.choice([0, 0, 0, 1, 4, -1 if rng.random() < 0.3 else 0])) if final else None
+        piece(k, when, rng.randrange(1, 6), place, length, r, int(rng.random() < 0.04), rng.choice([0, 0, 0, 0, 0, 1]), final)
+
+    def forging(self):
+        k = self.rng.randrange(self.records)
+        for _ in range(self.rng.randrange(1, 4)):
+            value = self.rng.choice([0, 1, 2, 4, 8, 16, 17, 4095, 4096, 65535, MOST, LIMIT, self.rng.randrange(30)])
+            forge(k, (self.rng.randrange(16), value, self.rng.randrange(4), self.rng.choice([0, 0, 1, 2, 15])))
+
+
+def random_list(seed):
+    """A script of its own."""
+    rng = random.Random(9868 + seed)
+    del LINES[:]
+    records = rng.choice([1, 2, 12])
+    begin(f"random {seed}", records)
+    calls = Calls(rng, records, rng.random() < 0.2)
+    if rng.random() < 0.2:
+        calls.time = {k: MOST - rng.randrange(400000) for k in calls.time}
+    if rng.random() < 0.1:
+        for k in range(records):
+            forge(k, (DELIVERED, LIMIT - 40), (OFFERED, LIMIT - 40))
+    for _ in range(rng.randrange(1, 4)):
+        calls.some(40)
+        if rng.random() < 0.2:
+            calls.forging()
+        table(records, records * SHARE + (rng.choice([-1, 1]) if rng.random() < 0.05 else 0), 4095 if rng.random() < 0.05 else 4096)
+    end()
+    return "\n".join(LINES) + "\n"
+
+
+def stored():
+    del LINES[:]
+    say("-- Made by tools/vectors/lists.py")
+    figures()
+    misfits()
+    forged_records()
+    orders()
+    fates()
+    others()
+    for seed in (1, 2, 3, 12):
+        begin(f"random calls, clients: {seed}", seed)
+        Calls(random.Random(seed), seed, seed == 2).some(80)
+        end()
+    return "\n".join(LINES) + "\n"
+
+
+if __name__ == "__main__":
+    sys.stdout.write(stored())

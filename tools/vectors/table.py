@@ -1,0 +1,418 @@
+"""A table in plain Python, from document 01 alone, beside the plain book of each client.
+
+    table.py calls        what the program `calls` has to print for crates/calls/stdin
+    table.py count        how often each answer stands in that
+    table.py random N     N random lists, the program against this table
+"""
+import os
+import re
+import subprocess
+import sys
+from collections import Counter
+
+from reader import crc32c
+
+HERE = os.path.dirname(os.path.abspath(__file__))
+ROOT = os.path.join(HERE, "..", "..")
+PLACE, PLACES, PIECES = 4096, 4, 16
+SHARE = PLACE * PLACES
+CLIENTS, LIFETIME, OFFERED = 12, 120000, 10**15
+RECORDS, STORE = CLIENTS + 1, (CLIENTS + 1) * SHARE + 1
+UNTOUCHED, BLANK = 0x5A, 0xA5
+NOWHERE = ((0, 0, 0, 0), (0, 0, 0, 0), 0, 0)  # addresses and ports
+FIGURES = ("held", "delivered", "expired", "clashed", "repeated", "turned")
+
+
+# ---- document 01's record, record test and calls
+
+class Piece:
+    def __init__(self):
+        self.place = self.length = self.r = self.last = 0
+
+    def end(self):
+        return self.place + self.length
+
+    def fresh(self):
+        return not (self.place or self.length or self.r or self.last)
+
+
+class Assembly:
+    def __init__(self):
+        self.flow, self.identification, self.opened, self.count = NOWHERE, 0, 0, 0
+        self.slots = [Piece() for _ in range(PIECES)]
+
+    def pieces(self):
+        return self.slots[:self.count]
+
+    def key(self):
+        return self.flow, self.identification
+
+    def fresh(self):
+        return self.flow == NOWHERE and not (self.identification or self.opened or self.count) and all(p.fresh() for p in self.slots)
+
+
+class Record:
+    def __init__(self):
+        self.time = self.offered = 0
+        self.figures = dict.fromkeys(FIGURES, 0)
+        self.assemblies = [Assembly() for _ in range(PLACES)]
+
+
+def size(pieces):
+    return sum(p.length for p in pieces)
+
+
+def overlap(p, q):
+    return p.place < q.end() and q.place < p.end()
+
+
+def whole(pieces):
+    """T and r, if the last piece is there and the pieces cover 0 to T."""
+    for p in pieces:
+        if p.last and set(range(p.end())) <= {i for q in pieces for i in range(q.place, q.end())}:
+            return p.end(), p.r
+    return None
+
+
+def sound_assembly(a, time):
+    pieces = a.pieces()
+    lasts = [p for p in pieces if p.last]
+    return (1 <= a.count <= PIECES
+            and all(p.length and p.end() <= PLACE for p in pieces)
+            and not any(overlap(p, q) for i, p in enumerate(pieces) for q in pieces[:i])
+            and len(lasts) <= 1
+            and all(p.end() <= end.end() for end in lasts for p in pieces)
+            and all(end.r <= end.end() for end in lasts)
+            and not whole(pieces)
+            and a.opened <= time < a.opened + LIFETIME
+            and all(p.fresh() for p in a.slots[a.count:]))
+
+
+def sound(record):
+    live = [a for a in record.assemblies if a.count]
+    return (all(a.count or a.fresh() for a in record.assemblies)
+            and all(sound_assembly(a, record.time) for a in live)
+            and len({a.key() for a in live}) == len(live)
+            and record.figures["held"] == sum(size(a.pieces()) for a in live)
+            and sum(record.figures.values()) == record.offered <= OFFERED)
+
+
+def clashes(p, held):
+    """Document 01's four causes."""
+    return (any(overlap(p, q) for q in held)
+            or p.last and any(q.last for q in held)
+            or any(q.last and p.end() > q.end() for q in held)
+            or p.last and any(q.end() > p.end() for q in held))
+
+
+class Refused(Exception):
+    pass
+
+
+class Table:
+    def __init__(self):
+        self.records = [Record() for _ in range(RECORDS)]
+        self.store = bytearray([UNTOUCHED]) * STORE
+
+    def client(self, lent, k):
+        """20 to 22."""
+        misfit(lent)
+        if k >= lent[0]:
+            raise Refused(21)
+        if not sound(self.records[k]):
+            raise Refused(22)
+        return self.records[k]
+
+    def reset(self, lent):
+        misfit(lent)
+        self.records[:lent[0]] = [Record() for _ in range(lent[0])]
+        return "taken"
+
+    def clock(self, lent, k, time):
+        record = self.client(lent, k)
+        if time < record.time:
+            raise Refused(27)
+        elapse(record, time)
+        return "taken"
+
+    def bill(self, lent, k):
+        record = self.client(lent, k)
+        return " ".join(str(n) for n in [record.offered, *record.figures.values()])
+
+    def piece(self, lent, k, time, key, p, data, room):
+        """The answer, and what is delivered."""
+        record = self.client(lent, k)
+        tests(p, time, room, record.time, record.offered)
+        elapse(record, time)
+        record.offered += p.length
+        figures = record.figures
+        at = [i for i, a in enumerate(record.assemblies) if a.count and a.key() == key]
+        at = at or [i for i, a in enumerate(record.assemblies) if not a.count]
+        if not at:
+            figures["turned"] += p.length
+            raise Refused(29)
+        a, base = record.assemblies[at[0]], k * SHARE + at[0] * PLACE
+        held = a.pieces()
+        kept = self.store[base + p.place:base + p.end()]
+        if any((p.place, p.length, p.last, p.last and p.r) == (q.place, q.length, q.last, q.last and q.r) for q in held) and kept == data:
+            figures["repeated"] += p.length
+            return "repeated", None
+        if clashes(p, held):
+            figures["held"] -= size(held)
+            figures["clashed"] += size(held) + p.length
+            record.assemblies[at[0]] = Assembly()
+            return "clash", None
+        if a.count == PIECES:
+            figures["turned"] += p.length
+            raise Refused(30)
+        if not a.count:
+            (a.flow, a.identification), a.opened = key, time
+        a.slots[a.count] = p
+        a.count += 1
+        self.store[base + p.place:base + p.end()] = data
+        figures["held"] += p.length
+        done = whole(a.pieces())
+        if not done:
+            return "stored", None
+        figures["held"] -= size(a.pieces())
+        figures["delivered"] += size(a.pieces())
+        record.assemblies[at[0]] = Assembly()
+        return "delivered %d %d" % done, bytes(self.store[base:base + done[0]])
+
+
+def misfit(lent):
+    if not 1 <= lent[0] <= CLIENTS or lent[1] != lent[0] * SHARE:
+        raise Refused(20)
+
+
+def tests(p, time, room, last_time, offered):
+    """23 to 28."""
+    for number, cause in ((23, room < PLACE), (24, p.length == 0), (25, p.end() > PLACE), (26, p.last and p.r > p.end()),
+                          (27, time < last_time), (28, offered + p.length > OFFERED)):
+        if cause:
+            raise Refused(number)
+
+
+def elapse(record, time):
+    record.time = time
+    for i, a in enumerate(record.assemblies):
+        if a.count and time - a.opened >= LIFETIME:
+            record.figures["held"] -= size(a.pieces())
+            record.figures["expired"] += size(a.pieces())
+            record.assemblies[i] = Assembly()
+
+
+# ---- document 01's plain book of one client: no places, no store
+
+class Book:
+    def __init__(self):
+        self.time = self.offered = 0
+        self.figures = dict.fromkeys(FIGURES[1:], 0)
+        self.open = []  # (key, time, piece, bytes)
+
+    def until(self, time):
+        if time < self.time:
+            raise Refused(27)
+        self.time = time
+        first = {}
+        for key, when, _, _ in self.open:
+            first.setdefault(key, when)
+        old = [o for o in self.open if time - first[o[0]] >= LIFETIME]
+        self.out(old, "expired")
+
+    def out(self, gone, figure):
+        self.figures[figure] += sum(len(o[3]) for o in gone)
+        self.open = [o for o in self.open if not any(o is g for g in gone)]
+
+    def bill(self):
+        held = sum(len(o[3]) for o in self.open)
+        return " ".join(str(n) for n in [self.offered, held, *self.figures.values()])
+
+    def piece(self, time, key, p, data, room):
+        tests(p, time, room, self.time, self.offered)
+        self.until(time)
+        self.offered += len(data)
+        mine = [o for o in self.open if o[0] == key]
+        if not mine and len({o[0] for o in self.open}) == PLACES:
+            self.figures["turned"] += len(data)
+            raise Refused(29)
+        for _, _, q, held in mine:
+            if (p.place, data, bool(p.last)) == (q.place, held, bool(q.last)) and (not p.last or p.r == q.r):
+                self.figures["repeated"] += len(data)
+                return "repeated", None
+        if clashes(p, [o[2] for o in mine]):
+            self.figures["clashed"] += len(data)
+            self.out(mine, "clashed")
+            return "clash", None
+        if len(mine) == PIECES:
+            self.figures["turned"] += len(data)
+            raise Refused(30)
+        self.open.append((key, time, p, data))
+        mine.append(self.open[-1])
+        done = whole([o[2] for o in mine])
+        if not done:
+            return "stored", None
+        self.out(mine, "delivered")
+        return "delivered %d %d" % done, b"".join(o[3] for o in sorted(mine, key=lambda o: o[2].place))
+
+
+# ---- the program's lines
+
+TABLE = []
+for value in range(256):
+    for _ in range(8):
+        value = (value >> 1) ^ (0x82F63B78 if value & 1 else 0)
+    TABLE.append(value)
+
+
+def crc(data):
+    state = 0xFFFFFFFF
+    for byte in data:
+        state = (state >> 8) ^ TABLE[(state ^ byte) & 255]
+    return int.from_bytes((state ^ 0xFFFFFFFF).to_bytes(4, "little"), "big")
+
+
+assert crc(b"123456789") == crc32c(b"123456789") == 0x839206E3
+
+
+def pattern(place, length, seed):
+    return bytes((at * 7 + at // 256 * 13 + seed) % 256 for at in ((place + i) % 65536 for i in range(length)))
+
+
+def forge(record, field, place, slot, value):
+    a = record.assemblies[place % PLACES]
+    p = a.slots[slot % PIECES]
+    if field == 0:
+        record.time = value
+    elif field == 1:
+        record.offered = value
+    elif field < 8:
+        record.figures[FIGURES[field - 2]] = value
+    elif field == 9:
+        a.flow = a.flow[:2] + (value % 65536,) + a.flow[3:]
+    elif field in (8, 10, 11):
+        setattr(a, {8: "identification", 10: "opened", 11: "count"}[field], value % {8: 2**32, 10: 2**64, 11: 256}[field])
+    else:
+        setattr(p, ("place", "length", "r", "last")[field - 12], value % 65536 if field < 15 else int(value == 1))
+
+
+class Run:
+    """Answers line by line; `books` has the book of each client whose history it is."""
+
+    def __init__(self):
+        self.table, self.lent, self.room, self.books = Table(), (0, 0), 0, {}
+
+    def booked(self, lent, k):
+        if k not in self.books or not 1 <= lent[0] <= CLIENTS or lent[1] != lent[0] * SHARE:
+            return None
+        if lent != self.whole:
+            self.books = {}
+            return None
+        return self.books[k]
+
+    def agree(self, book, ask, answer):
+        """The book of this client answers the same."""
+        if book:
+            try:
+                said = ask(book)
+            except Refused as why:
+                said = why.args[0]
+            assert said == answer, (said, answer)
+
+    def ask(self, line):
+        """What stands behind the line."""
+        n = [int(x) for x in re.findall(r"\d+", line)] + [0] * 8
+        word, k = line[:1], n[0]
+        table, lent = self.table, self.lent
+        if word == "t":
+            self.lent, self.room = (n[0], n[1]), n[2]
+        elif word == "f":
+            if k < lent[0]:
+                forge(table.records[k], *n[1:5])
+                self.books.pop(k, None)
+        elif word == "s":
+            answer = table.reset(lent)
+            self.whole, self.books = lent, {i: Book() for i in range(lent[0])}
+            return ": " + answer
+        elif word == "c":
+            return self.both(self.booked(lent, k), lambda: table.clock(lent, k, n[1]), lambda b: b.until(n[1]) or "taken")
+        elif word == "b":
+            return self.both(self.booked(lent, k), lambda: table.bill(lent, k), lambda b: b.bill())
+        elif word in ("p", "l"):
+            p = Piece()
+            p.place, p.length, p.r, p.last = n[4], n[5], n[6] if word == "l" else 0, int(word == "l")
+            flow = ((192, 0, 2, n[2] % 256), (198, 51, 100, n[2] // 256 % 256), n[2] // 2**16 % 2**16, n[2] // 2**32 % 2**16)
+            key = flow, n[3] % 2**32
+            data = pattern(n[4], n[5], (n[3] % 65536 * 31 + n[7] % 65536 * 101) % 256)
+            said = self.both(self.booked(lent, k), lambda: table.piece(lent, k, n[1], key, p, data, self.room),
+                             lambda b: b.piece(n[1], key, p, data, self.room))
+            if isinstance(said, str):
+                return said
+            answer, out = said
+            return ": " + answer + (" out %08x" % crc(out + bytes([BLANK]) * (self.room - len(out))) if out else "")
+        return ""
+
+    def both(self, book, ask, say):
+        try:
+            answer = ask()
+        except Refused as why:
+            self.agree(book, say, why.args[0])
+            raise
+        self.agree(book, say, answer)
+        return ": " + answer if isinstance(answer, str) else answer
+
+    def line(self, line):
+        if line[:1] == "e":
+            said = "store %08x\n" % crc(self.table.store)
+            self.table.store = bytearray([UNTOUCHED]) * STORE
+            return said
+        try:
+            return line + self.ask(line) + "\n"
+        except Refused as why:
+            return line + ": refused %d\n" % why.args[0]
+
+
+def predict(script):
+    run = Run()
+    return "".join(run.line(line) for line in script.split("\n")[:-1])
+
+
+def stored():
+    with open(os.path.join(ROOT, "crates", "calls", "stdin")) as file:
+        return file.read()
+
+
+def count(text):
+    answers = Counter()
+    for line in text.split("\n"):
+        said = line.split(": ")[1] if ": " in line and not line.startswith("--") else ""
+        word = "refused " + said.split()[1] if said.startswith("refused") else said.split(" ")[0]
+        answers["figures" if word.isdigit() else word] += bool(said)
+    return answers
+
+
+def main():
+    if sys.argv[1] == "calls":
+        sys.stdout.write(predict(stored()))
+    elif sys.argv[1] == "count":
+        text = predict(stored())
+        print(text.count("\nstore "), "lists,", sum(count(text).values()), "calls")
+        for said, n in sorted(count(text).items()):
+            if n:
+                print(said, n)
+    else:
+        import lists
+        seen = Counter()
+        for i in range(int(sys.argv[2])):
+            script = lists.random_list(i)
+            want = predict(script)
+            got = subprocess.run([os.path.join(ROOT, "target", "bin", "calls")], input=script.encode(), stdout=subprocess.PIPE).stdout.decode()
+            seen += count(want)
+            if got != want:
+                print("differs in list", i, [pair for pair in zip(want.split("\n"), got.split("\n")) if pair[0] != pair[1]][:3])
+                sys.exit(1)
+        print(sys.argv[2], "lists agree:", dict(sorted(seen.items())))
+
+
+if __name__ == "__main__":
+    main()
