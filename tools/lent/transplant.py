@@ -316,6 +316,17 @@ def dependencies():
     return deps
 
 
+def reached(crate, twins, deps):
+    """The crate and the twins that it depends on, directly or through others."""
+    seen, todo = set(), [crate]
+    while todo:
+        c = todo.pop()
+        if c not in seen:
+            seen.add(c)
+            todo += [d for d in deps[c] if d in twins]
+    return seen
+
+
 def plain_clauses(source):
     """Every clause of the lent functions made trivial."""
     def plain(m):
@@ -327,7 +338,8 @@ def plain_clauses(source):
 def make_twin(crate, twins, deps):
     """The twin of `crate` and of those that it depends on, below target/twin; gives back every lent function that was seen."""
     shutil.rmtree(WORK, ignore_errors=True)
-    need = [c for c in twins if c == crate or c in deps[crate]]
+    below = reached(crate, twins, deps)
+    need = [c for c in twins if c in below]
     lent = []
     for c in twins:
         for folder, _, files in os.walk(os.path.join(TWINS, c)):

@@ -1,4 +1,4 @@
--- Made by tools/transplant.py for `calls::call`. Assumes nothing.
+-- Made by tools/lent/transplant.py for `calls::call`. Assumes nothing.
 use borrow.Fn.Kinds
 use borrow.Kind.MutSlice
 use borrow.Kind.ShrSlice

@@ -1,4 +1,4 @@
--- Made by tools/transplant.py for `calls::falsify`. Assumes nothing.
+-- Made by tools/lent/transplant.py for `calls::falsify`. Assumes nothing.
 use Rattle.calls.proofs.falsify
 use Rattle.calls.proofs.Lent.falsify.Kinds
 use base.Logic

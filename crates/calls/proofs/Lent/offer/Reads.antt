@@ -1,4 +1,4 @@
--- Made by tools/transplant.py for `calls::offer`. Assumes nothing.
+-- Made by tools/lent/transplant.py for `calls::offer`. Assumes nothing.
 use Rattle.calls.proofs.offer
 use Rattle.calls.proofs.Lent.offer.Kinds
 use base.Logic

@@ -1,4 +1,4 @@
--- Made by tools/transplant.py for `calls::offer_bytes`. Assumes nothing.
+-- Made by tools/lent/transplant.py for `calls::offer_bytes`. Assumes nothing.
 use Rattle.calls.proofs.offer_bytes
 use Rattle.calls.proofs.Lent.offer_bytes.Kinds
 use base.Logic

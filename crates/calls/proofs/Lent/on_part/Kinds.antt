@@ -1,4 +1,4 @@
--- Made by tools/transplant.py for `calls::on_part`. Assumes nothing.
+-- Made by tools/lent/transplant.py for `calls::on_part`. Assumes nothing.
 use Rattle.calls.proofs.line.Lent
 use Rattle.calls.proofs.line.Lent.Laws
 use borrow.Fn.Kinds

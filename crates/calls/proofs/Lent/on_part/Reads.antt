@@ -1,4 +1,4 @@
--- Made by tools/transplant.py for `calls::on_part`. Assumes nothing.
+-- Made by tools/lent/transplant.py for `calls::on_part`. Assumes nothing.
 use Rattle.calls.proofs.on_part
 use Rattle.calls.proofs.Lent.on_part.Kinds
 use base.Logic

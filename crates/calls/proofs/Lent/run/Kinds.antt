@@ -1,4 +1,4 @@
--- Made by tools/transplant.py for `calls::run`. Assumes nothing.
+-- Made by tools/lent/transplant.py for `calls::run`. Assumes nothing.
 use borrow.Fn.Kinds
 use borrow.Kind.ShrSlice
 use borrow.Table.Referent

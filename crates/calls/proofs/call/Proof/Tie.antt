@@ -1,4 +1,4 @@
--- Made by tools/transplant.py for `calls::call`. Assumes nothing.
+-- Made by tools/lent/transplant.py for `calls::call`. Assumes nothing.
 use Rattle.calls.proofs.call.Code
 use Rattle.calls.proofs.call.Key
 use Rattle.calls.proofs.Lent.call.Kinds

@@ -1,4 +1,4 @@
--- Made by tools/transplant.py for `calls::offer`. Assumes nothing.
+-- Made by tools/lent/transplant.py for `calls::offer`. Assumes nothing.
 use Prim.Native.Nat
 use borrow.Author.Called
 use borrow.Author.Tests

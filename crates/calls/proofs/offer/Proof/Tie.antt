@@ -1,4 +1,4 @@
--- Made by tools/transplant.py for `calls::offer`. Assumes nothing.
+-- Made by tools/lent/transplant.py for `calls::offer`. Assumes nothing.
 use Rattle.calls.proofs.line.fill.Met
 use Rattle.calls.proofs.line.fill.Reads
 use Rattle.calls.proofs.line.fill.Symbol

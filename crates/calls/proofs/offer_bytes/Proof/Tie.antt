@@ -1,4 +1,4 @@
--- Made by tools/transplant.py for `calls::offer_bytes`. Assumes nothing.
+-- Made by tools/lent/transplant.py for `calls::offer_bytes`. Assumes nothing.
 use Rattle.calls.proofs.line.arrival.Met
 use Rattle.calls.proofs.line.arrival.Reads
 use Rattle.calls.proofs.line.arrival.Symbol

@@ -1,4 +1,4 @@
--- Made by tools/transplant.py for `calls::run`. Assumes nothing.
+-- Made by tools/lent/transplant.py for `calls::run`. Assumes nothing.
 use Prim.Native.Nat
 use Rattle.calls.proofs.line.Lent
 use Rattle.calls.proofs.line.Lent.Laws

@@ -1,4 +1,4 @@
--- Made by tools/transplant.py for `calls::run`. Assumes nothing.
+-- Made by tools/lent/transplant.py for `calls::run`. Assumes nothing.
 use Rattle.calls.proofs.line.end.Met
 use Rattle.calls.proofs.line.end.Reads
 use Rattle.calls.proofs.line.end.Symbol
