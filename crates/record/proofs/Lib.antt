@@ -1,3 +1,4 @@
+pub mod Covered
 pub mod Held
 pub mod Lists
 pub mod SoundParts

@@ -6,7 +6,7 @@ ghost use Prim.Native.Nat.{_+_, _≤_};
 ghost use lib.ListN.{length, take};
 ghost use Rattle.record.specs.Limits.{assemblyLimit};
 ghost use Rattle.record.specs.Lists.{sameMark, sameBytes, all, any, sum};
-ghost use Rattle.record.specs.Post.{HeldCount, HeldFront};
+ghost use Rattle.record.specs.Post.{HeldCount, HeldFront, beyond};
 ghost use Rattle.record.specs.Record.{freshFragment, freshFlow, freshAssembly, freshClient, end, covers, conflicts};
 ghost use Rattle.record.specs.Record.{soundFragment, isFreshFragment, outruns, overlaps, compatible, coveredTo, lastOf, whole};
 ghost use Rattle.record.specs.Record.{live, heldFragments, spareSlots, bytesHeld, sameFlow, hasKey, isFreshAssembly, openedWithin, soundLive};
@@ -286,32 +286,35 @@ fn fragments_compatible(a: Assembly) -> bool
     ok
 }
 
-// Some fragment holds the place `at`.
-fn covered_at(a: Assembly, at: usize) -> bool
-    ensures { λ r. ⌜ r ≡ any (covers at) (heldFragments a) ⌝ }
+// The place behind the first fragment that holds the place `at`; `at` itself if none does.
+fn beyond(a: Assembly, at: usize) -> usize
+    ensures { λ r. ⌜ r ≡ beyond at (heldFragments a) ⌝ }
 {
     let n = held_count(a);
-    let mut found = false;
     let mut i = 0;
     while i < n {
         let f = a.fragments[i];
-        found = either(found, covers(f, at));
+        if covers(f, at) {
+            return end_of(f);
+        }
         i += 1;
     }
-    found
+    at
 }
 
-// Every place before `past` is held.
+// Every place before `past` is held: it goes on from fragment to fragment, not from place to place.
 fn covered_to(a: Assembly, past: usize) -> bool
     ensures { λ r. ⌜ r ≡ coveredTo past (heldFragments a) ⌝ }
 {
-    let mut ok = true;
-    let mut i = 0;
-    while i < past {
-        ok = both(ok, covered_at(a, i));
-        i += 1;
+    let mut at = 0;
+    while at < past {
+        let next = beyond(a, at);
+        if next == at {
+            return false;
+        }
+        at = next;
     }
-    ok
+    true
 }
 
 // The fragment that is marked last; a fresh one if there is none.

@@ -1,65 +1,57 @@
--- `record::covered_to` meets its contract: the loop's invariant says that `ok` is the test of the places before `i`.
+-- `record::covered_to` meets its contract: the loop's invariant says that every place before `at` is held. Each turn goes on to where a fragment
+-- that holds `at` ends, or finds that none does (`leads`).
 -- Assumes nothing.
-use Rattle.record.specs.Record.{heldFragments, coveredTo}
-use native.Mathlib.Numerals.{add-one}
-use Rattle.record.specs.Limits.{fragmentLimit}
-use Prim.Native.Nat.{ℕ, _-_, _≤_}
-use mathlib.Core.Bool.{_&&_}
-use mathlib.Core.Path.{_≡_, refl, sym, ap, ap₂, _∙_}
-use borrow.Author.Needs.{needs}
+use Prim.Native.Nat.{ℕ, _-_, _≤_, _<_}
+use mathlib.Core.Bool.{true}
+use mathlib.Core.Path.{_≡_, refl, sym, subst, _∙_}
 use native.Mathlib.Omega.{arith}
+use borrow.Author.Needs.{needs}
+use Rattle.record.specs.Record.{heldFragments, coveredTo}
+use Rattle.record.proofs.Covered.{Leads, leads, covered-on, covered-less, not-covered}
 use Rattle.record.proofs.covered_to.Statement.{statement}
 use Rattle.record.proofs.covered_to.Tie as tie
 
 abbrev Inv-loop : tie.InvT-loop
-Inv-loop a past ok₀ i₀ ok i = (ok ≡ coveredTo i (heldFragments a)) × (i ≤ past)
+Inv-loop a past at₀ at = coveredTo at (heldFragments a) ≡ true
 
 abbrev μ-loop : tie.MeasureT-loop
-μ-loop a past ok₀ i₀ ok i = past - i
+μ-loop a past at₀ at = past - at
+
+-- where the turn goes on
+led : (c : tie.After-beyond Inv-loop μ-loop) → let l = c .before .before in Leads (l .loop .at) (heldFragments (l .before .args .a)) (c .beyond .result)
+led c =
+    let l = c .before .before in
+    subst (Leads (l .loop .at) (heldFragments (l .before .args .a))) (sym (c .beyond .ensures)) (leads (l .loop .at) (heldFragments (l .before .args .a)))
 
 loop-holds : tie.Need-loop-holds Inv-loop μ-loop
 unfolding coveredTo
-loop-holds c = (refl, search needs)
+loop-holds c = refl
 
-covered-at-requires : tie.Need-covered-at-requires Inv-loop μ-loop
-covered-at-requires c κs = search needs
-
-both-requires : tie.Need-both-requires Inv-loop μ-loop
-both-requires c κs = search needs
-
-add-i : tie.Need-add-i Inv-loop μ-loop
-unfolding fragmentLimit
-add-i c = omega arith
-
-loop-less : tie.Need-loop-less Inv-loop μ-loop
-loop-less c = omega arith
-
-loop-again : tie.Need-loop-again Inv-loop μ-loop
-unfolding coveredTo
-loop-again c =
-    let l = c .before .before .before in
-    let a = l .before .args .a in (
-      c .both .ensures ∙ ap₂ _&&_ (l .loop .inv .0) (c .before .covered-at .ensures)
-          ∙ ap (λ (k : ℕ). coveredTo k (heldFragments a)) (sym (add-one (l .loop .i))),
-      omega arith,
-    )
+beyond-requires : tie.Need-beyond-requires Inv-loop μ-loop
+beyond-requires c κs = search needs
 
 returns : tie.Need-returns Inv-loop μ-loop
 returns c =
-    let s = c .before .before .args in
-    let e : c .before .loop .i ≡ s .past = omega arith in
-    c .before .loop .inv .0 ∙ ap (λ (k : ℕ). coveredTo k (heldFragments (s .a))) e
+    let l = c .before .before .before in
+    let s = l .before .args in
+    sym (not-covered (s .past) (l .loop .at) (heldFragments (s .a)) (led (c .before) .stuck (c .if1 .taken)) (c .before .before .loop-test .taken))
+
+loop-less : tie.Need-loop-less Inv-loop μ-loop
+loop-less c =
+    let low = led (c .before) .low in
+    omega (arith, low, c .if1 .left, c .before .before .loop-test .taken)
+
+loop-again : tie.Need-loop-again Inv-loop μ-loop
+loop-again c =
+    let l = c .before .before .before in
+    let s = l .before .args in
+    covered-on (c .before .beyond .result) (l .loop .at) (heldFragments (s .a)) (l .loop .inv) (led (c .before) .low) (led (c .before) .held)
+
+returns-2 : tie.Need-returns-2 Inv-loop μ-loop
+returns-2 c =
+    let l = c .before in
+    let s = l .before .args in
+    sym (covered-less (s .past) (l .loop .at) (heldFragments (s .a)) (l .loop .inv) (c .loop-test .left))
 
 pub covered-to-spec : {M : Type 1} → statement M
-covered-to-spec =
-    tie.close
-    (tie.spec
-    Inv-loop
-    μ-loop
-    loop-holds
-    covered-at-requires
-    both-requires
-    add-i
-    loop-less
-    loop-again
-    returns)
+covered-to-spec = tie.close (tie.spec Inv-loop μ-loop loop-holds beyond-requires returns loop-less loop-again returns-2)
