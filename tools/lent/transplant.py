@@ -53,16 +53,20 @@ def close(s, i):
 
 def spelled(s):
     """each declared type that is spelled out, by its bytes, becomes its name"""
-    used = set(); out = ''; i = 0
+    found = []; i = 0
     for m in re.finditer(r'\(Syntax\.ty(?:Struct|Enum) \(List\._∷_ \d+ ', s):
         if m.start() < i: continue
         e = close(s, m.start())
         name = ''.join(chr(int(x)) for x in re.findall(r'List\._∷_ (\d+)', s[m.start():close(s, s.index('(', m.start() + 1))]))
-        if '::' in name:
-            used.add(name); out += s[i:m.start()] + alias(name, 'L') + '.mir'; i = e
+        if '::' in name: found.append((m.start(), e, name)); i = e
+    used = {name for _, _, name in found}; out = ''; i = 0
+    for a, e, name in found: out += s[i:a] + alias(name, 'L', used) + '.mir'; i = e
     return out + s[i:], used
 
-def alias(name, k): return name.split('::')[-1] + '·' + k
+def alias(name, k, used):
+    """the last word of the name, or all of it where two types end in one word"""
+    last = name.split('::')[-1]
+    return ('·'.join(name.split('::')) if any(n != name and n.split('::')[-1] == last for n in used) else last) + '·' + k
 
 def home(name, own):
     """the module of a declared type or a function, as the crate `own` names it"""
@@ -126,7 +130,7 @@ def transplant(text, crate, f, lent, m_=''):
         m = re.match(r'use (\S+?)(?: as (\S+))?$', l); have[m.group(1)] = m.group(2) or m.group(1).split('.')[-1]
     want = [('Rows·T', 'borrow.Table.Rows'), ('Copies·T', 'borrow.Table.Copies'), ('Local·T', 'borrow.Rule.Local'), ('Yields·T', 'borrow.Rule.Yields'), ('SReads·T', 'borrow.Struct.Reads'), ('Value·T', 'borrow.Kind.Value'),
             ('Memory·T', 'denote.Memory'), ('Path·T', 'mathlib.Core.Path'), ('Laws·T', 'denote.Struct.Laws')]
-    for n in sorted(used): want += [(alias(n, 'T'), home(n, crate)), (alias(n, 'L'), home(n, crate) + '.Laws')]
+    for n in sorted(used): want += [(alias(n, 'T', used), home(n, crate)), (alias(n, 'L', used), home(n, crate) + '.Laws')]
     for S, c, full in structs:
         d = c['default_in']
         want += [(f'{S}·D', f"Rattle.{c['crate']}.specs.{d}" if c['crate'] == crate else f"Rattle.{c['crate']}.{d}"), (f'{S}·K', f'Rattle.{crate}.proofs.{S}Kind')]

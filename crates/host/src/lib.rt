@@ -127,3 +127,77 @@ pub extern "C" fn wuraketozo_client_limit() -> usize
 {
     record::CLIENT_LIMIT
 }
+
+// By hand from here on.
+// ---- the table
+
+// Makes every record fresh.
+#[no_mangle]
+pub extern "C" fn wuraketozo_reset(records: &mut [Client], store: &[u8]) -> Answer
+    ensures { λ r. ⌜ Leaves (resetOn (tableOf (now (records .entry)) (now (store .entry)))) r (now (records .exit)) (now (store .entry)) [] ⌝ }
+{
+    let answer = table::reset(records, store);
+    surface::answer_of(answer)
+}
+
+// Offers a fragment for client `k`.
+#[no_mangle]
+pub extern "C" fn wuraketozo_offer(
+    records: &mut [Client],
+    store: &mut [u8],
+    k: usize,
+    fragment: Fragment,
+    bytes: &[u8],
+    out: &mut [u8],
+) -> Answer
+    ensures { λ r. ⌜ Leaves (askOn k (offering (arrivalFrom fragment) (now (bytes .entry)) (now (out .entry))) (tableOf (now (records .entry)) (now (store .entry)))) r (now (records .exit)) (now (store .exit)) (now (out .exit)) ⌝ }
+{
+    let arrival = surface::arrival_of(fragment);
+    let answer = table::offer(records, store, k, arrival, bytes, out);
+    surface::answer_of(answer)
+}
+
+// Moves the time of client `k` on.
+#[no_mangle]
+pub extern "C" fn wuraketozo_advance(
+    records: &mut [Client],
+    store: &[u8],
+    k: usize,
+    time: u64,
+) -> Answer
+    ensures { λ r. ⌜ Leaves (askOn k (advancing time) (tableOf (now (records .entry)) (now (store .entry)))) r (now (records .exit)) (now (store .entry)) [] ⌝ }
+{
+    let answer = table::advance(records, store, k, time);
+    surface::answer_of(answer)
+}
+
+// The account of client `k`.
+#[no_mangle]
+pub extern "C" fn wuraketozo_account(records: &[Client], store: &[u8], k: usize) -> Answer
+    ensures { λ r. ⌜ Leaves (askOn k accounting (tableOf (now (records .entry)) (now (store .entry)))) r (now (records .entry)) (now (store .entry)) [] ⌝ }
+{
+    let answer = table::account(records, store, k);
+    surface::answer_of(answer)
+}
+
+// ---- one call for each datagram
+
+// Reads a payload that arrived for client `k` and, if it is a fragment, offers it.
+#[no_mangle]
+pub extern "C" fn wuraketozo_receive(
+    records: &mut [Client],
+    store: &mut [u8],
+    k: usize,
+    time: u64,
+    source: Address,
+    destination: Address,
+    payload: &[u8],
+    out: &mut [u8],
+) -> Received
+    ensures { λ r. ⌜ Receives (receiveOn k (record { time = time; source = source .octets; destination = destination .octets; payload = now (payload .entry) }) (now (out .entry)) (tableOf (now (records .entry)) (now (store .entry)))) r (now (records .exit)) (now (store .exit)) (now (out .exit)) ⌝ }
+{
+    let from = source.octets;
+    let to = destination.octets;
+    let received = receiver::receive(records, store, k, time, from, to, payload, out);
+    surface::received_of(received)
+}
