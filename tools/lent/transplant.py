@@ -80,8 +80,11 @@ def close(s, i):
         i += 1
 
 
-def alias(name, letter):
-    return name.split('::')[-1] + '·' + letter
+def alias(name, letter, used):
+    """The last word of the name, or all of it where two types end in one word."""
+    last = name.split('::')[-1]
+    shared = any(n != name and n.split('::')[-1] == last for n in used)
+    return (name.replace('::', '·') if shared else last) + '·' + letter
 
 
 def home(name, crate):
@@ -93,16 +96,19 @@ def home(name, crate):
 
 def named(s):
     """Each declared type that is spelled out, by the bytes of its name, becomes its alias; the names are given back, too."""
-    used, out, i = set(), '', 0
+    found, i = [], 0
     for m in re.finditer(r'\(Syntax\.ty(?:Struct|Enum) \(List\._∷_ \d+ ', s):
         if m.start() < i:
             continue
         spelled = s[m.start():close(s, s.index('(', m.start() + 1))]
         name = ''.join(chr(int(x)) for x in re.findall(r'List\._∷_ (\d+)', spelled))
         if '::' in name:
-            used.add(name)
-            out += s[i:m.start()] + alias(name, 'L') + '.mir'
             i = close(s, m.start())
+            found.append((m.start(), i, name))
+    used, out, i = {name for _, _, name in found}, '', 0
+    for start, end, name in found:
+        out += s[i:start] + alias(name, 'L', used) + '.mir'
+        i = end
     return out + s[i:], used
 
 
@@ -214,7 +220,7 @@ def with_uses(t, crate, used, structs):
             ('Yields·T', 'borrow.Rule.Yields'), ('SReads·T', 'borrow.Struct.Reads'), ('Value·T', 'borrow.Kind.Value'),
             ('Memory·T', 'denote.Memory'), ('Path·T', 'mathlib.Core.Path'), ('Laws·T', 'denote.Struct.Laws')]
     for name in sorted(used):
-        want += [(alias(name, 'T'), home(name, crate)), (alias(name, 'L'), home(name, crate) + '.Laws')]
+        want += [(alias(name, 'T', used), home(name, crate)), (alias(name, 'L', used), home(name, crate) + '.Laws')]
     for S, conf in structs:
         specs = f"Rattle.{crate}.specs." if conf['crate'] == crate else f"Rattle.{conf['crate']}."
         want += [(f'{S}·D', specs + conf['default_in']), (f'{S}·K', f'Rattle.{crate}.proofs.{S}Kind')]

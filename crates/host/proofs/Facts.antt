@@ -1,0 +1,65 @@
+-- What an exported call leaves, from what the call below it leaves: the answer's value by one more equation, and all else as it stands.
+-- Assumes nothing.
+use Prim.Native.Nat.{ℕ}
+use mathlib.Core.Path.{_≡_, ap, subst, _∙_}
+use mathlib.Core.List.{List}
+use Rattle.datagram.specs.declared.reading.Reading.{Reading}
+use Rattle.transcribe.specs.Listing.{listedAnswer, ListedInto}
+use Rattle.transcribe.specs.declared.Listed.{Listed}
+use Rattle.catalogue.specs.Catalogue.{walkOfValue}
+use Rattle.compose.specs.Answer as Compose
+use Rattle.compose.specs.Answer.{writtenAnswer, Wrote}
+use Rattle.compose.specs.declared.Written as Compose′
+use Rattle.record.specs.declared.Client.{Client}
+use Rattle.reassembly.specs.Answer.{replyOf}
+use Rattle.reassembly.specs.declared.Answer as Reassembly
+use Rattle.reassembly.specs.declared.Arrival.{Arrival}
+use Rattle.ledger.specs.History.{offering}
+use Rattle.table.specs.Table as Table
+use Rattle.receiver.specs.Receive as Receive
+use Rattle.receiver.specs.Receive.{fateIn}
+use Rattle.receiver.specs.declared.Received as Receiver
+use Rattle.surface.specs.Lists.{verdictFor, readingFor, hostListing, hostWritten}
+use Rattle.surface.specs.Answer.{hostAnswer, arrivalFrom, hostFate}
+use Rattle.surface.specs.declared.Listing.{Listing}
+use Rattle.surface.specs.declared.Written.{Written}
+use Rattle.surface.specs.declared.Answer.{Answer}
+use Rattle.surface.specs.declared.Fragment.{Fragment}
+use Rattle.surface.specs.declared.Received.{Received}
+use Rattle.host.specs.Left.{Lists, Writes, Leaves, Receives}
+
+-- the option list of a reading value with these numbers
+abbrev Into : List ℕ → List ℕ → Listed → List ℕ → Reading → Type 0
+Into bytes buffer listed left r = ListedInto (walkOfValue bytes (r .verdict) (r .options .from .0) (r .options .to .0)) buffer listed left
+
+pub lists : (bytes : List ℕ) (number from to : ℕ) {buffer left : List ℕ} {listed : Listed} {answer : Listing} {r : Reading} → r ≡ readingFor number from to
+    → ListedInto (walkOfValue bytes (r .verdict) (r .options .from .0) (r .options .to .0)) buffer listed left
+    → answer ≡ hostListing (listedAnswer listed) → Lists (walkOfValue bytes (verdictFor number) from to) buffer answer left
+lists bytes number from to {buffer} {left} {listed} is into says =
+    let h = subst (Into bytes buffer listed left) is into in
+    record { answers = says ∙ ap hostListing (h .answered); buffer-left = h .written }
+
+pub writes : {o : Compose.Outcome} {written : Compose′.Written} {answer : Written} {left : List ℕ} → Wrote o written left
+    → answer ≡ hostWritten (writtenAnswer written) → Writes o answer left
+writes h says = record { answers = says ∙ ap hostWritten (h .answered); buffer-left = h .left }
+
+pub leaves : {a : Table.After} {told : Reassembly.Answer} {answer : Answer} {records : List Client} {store out : List ℕ}
+    → Table.Leaves a told records store out → answer ≡ hostAnswer (replyOf told) → Leaves a answer records store out
+leaves h says =
+    record { answers = says ∙ ap hostAnswer (h .answers); records-left = h .records-left; store-left = h .store-left; out-left = h .out-left }
+
+-- the fragment that was offered is the one that the call was given
+abbrev Offered : ℕ → List ℕ → List ℕ → Table.Table → Reassembly.Answer → List Client → List ℕ → List ℕ → Arrival → Type 0
+Offered k bytes out t told records store left arrival = Table.Leaves (Table.askOn k (offering arrival bytes out) t) told records store left
+
+pub offers : (k : ℕ) (f : Fragment) (bytes out : List ℕ) (t : Table.Table) {arrival : Arrival} {told : Reassembly.Answer} {answer : Answer}
+    {records : List Client} {store left : List ℕ} → arrival ≡ arrivalFrom f
+    → Table.Leaves (Table.askOn k (offering arrival bytes out) t) told records store left → answer ≡ hostAnswer (replyOf told)
+    → Leaves (Table.askOn k (offering (arrivalFrom f) bytes out) t) answer records store left
+offers k f bytes out t {told = told} {records = records} {store = store} {left = left} is h says =
+    leaves (subst (Offered k bytes out t told records store left) is h) says
+
+pub receives : {o : Receive.Outcome′} {told : Receiver.Received} {answer : Received} {records : List Client} {store out : List ℕ}
+    → Receive.Leaves o told records store out → answer ≡ hostFate (fateIn told) → Receives o answer records store out
+receives h says =
+    record { answers = says ∙ ap hostFate (h .answers); records-left = h .records-left; store-left = h .store-left; out-left = h .out-left }

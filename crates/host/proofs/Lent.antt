@@ -1,0 +1,10 @@
+pub mod receiver·receive
+pub mod table·account
+pub mod table·advance
+pub mod table·offer
+pub mod table·reset
+pub mod wuraketozo_account
+pub mod wuraketozo_advance
+pub mod wuraketozo_offer
+pub mod wuraketozo_receive
+pub mod wuraketozo_reset

@@ -1,0 +1,38 @@
+-- The sizes of what crosses the surface, computed from the layouts: what sizeof must say of the structs of include/wuraketozo.h, in its order.
+-- Assumes nothing.
+use Prim.Native.Nat.{ℕ}
+use mathlib.Core.Path.{_≡_, refl}
+use mathlib.Core.List.{List, [], _∷_}
+use prog.Memory.{size}
+use Rattle.record.proofs.Flow.Laws as Flow
+use Rattle.record.proofs.Fragment.Laws as Held
+use Rattle.record.proofs.Assembly.Laws as Assembly
+use Rattle.surface.proofs.Address.Laws as Address
+use Rattle.surface.proofs.Reading.Laws as Reading
+use Rattle.surface.proofs.Listing.Laws as Listing
+use Rattle.surface.proofs.Written.Laws as Written
+use Rattle.surface.proofs.Figures.Laws as Figures
+use Rattle.surface.proofs.Answer.Laws as Answer
+use Rattle.surface.proofs.Fragment.Laws as Fragment
+use Rattle.surface.proofs.Received.Laws as Received
+use Rattle.host.specs.Left.{recordSize}
+
+pub record-size-is : recordSize ≡ 704
+unfolding recordSize
+record-size-is = refl
+
+-- an address, a reading, a listing, what was written
+pub read-and-written : size Address.mir ∷ size Reading.mir ∷ size Listing.mir ∷ size Written.mir ∷ [] ≡ 4 ∷ 104 ∷ 24 ∷ 16 ∷ []
+read-and-written = refl
+
+-- a flow, a held fragment, an assembly; an account, an answer, a fragment that is offered, what was received
+pub of-the-table : size Flow.mir
+    ∷ size Held.mir
+    ∷ size Assembly.mir
+    ∷ size Figures.mir
+    ∷ size Answer.mir
+    ∷ size Fragment.mir
+    ∷ size Received.mir
+    ∷ []
+    ≡ 12 ∷ 8 ∷ 160 ∷ 56 ∷ 80 ∷ 48 ∷ 192 ∷ []
+of-the-table = refl

@@ -1,0 +1,55 @@
+-- What each exported call answers and leaves: the value of include/wuraketozo.h for the answer of the papers, and all that was lent.
+use Prim.Native.Nat.{ℕ}
+use mathlib.Core.Path.{_≡_}
+use mathlib.Core.Bool.{cond}
+use mathlib.Core.List.{List, _++_}
+use lib.ListN.{length, drop}
+use Rattle.options.specs.Walk.{Walked}
+use Rattle.listing.specs.Encoding as Encoding
+use Rattle.listing.specs.Encoding.{given, refused}
+use Rattle.transcribe.specs.Listing as Transcribe
+use Rattle.transcribe.specs.Listing.{listing, fillOf, roomFor, tooSmall}
+use Rattle.compose.specs.Answer as Compose
+use prog.Memory.{size}
+use Rattle.record.specs.declared.Client.{Client}
+use Rattle.record.proofs.Client.Laws as Client′
+use Rattle.table.specs.Table.{After}
+use Rattle.receiver.specs.Receive.{Outcome′}
+use Rattle.surface.specs.Lists.{hostListing, hostWritten}
+use Rattle.surface.specs.Answer.{hostAnswer, hostFate}
+use Rattle.surface.specs.declared.Listing.{Listing}
+use Rattle.surface.specs.declared.Written.{Written}
+use Rattle.surface.specs.declared.Answer.{Answer}
+use Rattle.surface.specs.declared.Received.{Received}
+
+-- the bytes of a client's record, as it is laid out
+unfoldable pub recordSize : ℕ
+recordSize = size Client′.mir
+
+-- "8 if too small", else the size of the list and its fill: what `ListedInto` says of the answer
+abbrev pub listedFor : Walked → List ℕ → Encoding.Answer Transcribe.Listing
+listedFor walk buffer = cond (roomFor walk buffer) (given (record { size = length (listing walk); fill = fillOf walk })) (refused tooSmall)
+
+-- the list of a walk, at the front of the buffer
+pub record Lists (walk : Walked) (buffer : List ℕ) (answer : Listing) (left : List ℕ) : Type 0 where
+  pub answers : answer ≡ hostListing (listedFor walk buffer)
+  pub buffer-left : left ≡ cond (roomFor walk buffer) (listing walk ++ drop (length (listing walk)) buffer) buffer
+
+-- a payload that was written, or not
+pub record Writes (o : Compose.Outcome) (answer : Written) (buffer : List ℕ) : Type 0 where
+  pub answers : answer ≡ hostWritten (o .answer)
+  pub buffer-left : buffer ≡ o .buffer
+
+-- a call on a table
+pub record Leaves (a : After) (answer : Answer) (records : List Client) (store out : List ℕ) : Type 0 where
+  pub answers : answer ≡ hostAnswer (a .reply)
+  pub records-left : records ≡ a .table .records
+  pub store-left : store ≡ a .table .store
+  pub out-left : out ≡ a .out
+
+-- a datagram that arrived
+pub record Receives (o : Outcome′) (answer : Received) (records : List Client) (store out : List ℕ) : Type 0 where
+  pub answers : answer ≡ hostFate (o .fate)
+  pub records-left : records ≡ o .table .records
+  pub store-left : store ≡ o .table .store
+  pub out-left : out ≡ o .out

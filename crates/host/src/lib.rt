@@ -1,0 +1,203 @@
+// The library for C and Rust: the calls of include/wuraketozo.h under their names there. A slice is a pointer and a length in C. No
+// call asks anything of the values of its arguments.
+use datagram::reading;
+use datagram::rereading;
+use offsets::OriginalOffset;
+use record::Client;
+use surface::Address;
+use surface::Answer;
+use surface::Fragment;
+use surface::Listing;
+use surface::Reading;
+use surface::Received;
+use surface::Written;
+ghost use mathlib.Core.Path.{_≡_};
+ghost use mathlib.Core.List.{[]};
+ghost use Rattle.datagram.specs.Reading.{reading};
+ghost use Rattle.datagram.specs.Rereading.{rereading};
+ghost use Rattle.catalogue.specs.Catalogue.{walkOfValue};
+ghost use Rattle.compose.specs.Answer.{written, datagramFor};
+ghost use Rattle.record.specs.Limits.{datagramLimit, shareSize, clientLimit};
+ghost use Rattle.ledger.specs.History.{Ask, offering, advancing, accounting};
+ghost use Rattle.table.specs.Table.{tableOf, resetOn, askOn};
+ghost use Rattle.receiver.specs.Receive.{receiveOn};
+ghost use Rattle.surface.specs.Reading.{hostReading, hostRereading};
+ghost use Rattle.surface.specs.Lists.{verdictFor};
+ghost use Rattle.surface.specs.Answer.{arrivalFrom};
+ghost use Rattle.host.specs.Left.{recordSize, Lists, Writes, Leaves, Receives};
+
+// ---- reading
+
+// Reads one IPv4 payload.
+#[no_mangle]
+pub extern "C" fn wuraketozo_read(payload: &[u8], source: Address, destination: Address) -> Reading
+    ensures { λ r. ⌜ r ≡ hostReading (reading (now (payload .entry)) (source .octets) (destination .octets)) ⌝ }
+{
+    let from = source.octets;
+    let to = destination.octets;
+    surface::reading_of(reading::read(payload, from, to))
+}
+
+// Reads an original again that was put together from fragments.
+#[no_mangle]
+pub extern "C" fn wuraketozo_reread(original: &[u8], option_start: usize) -> Reading
+    ensures { λ r. ⌜ r ≡ hostRereading (rereading (now (original .entry)) «option_start») ⌝ }
+{
+    surface::rereading_of(rereading::reread(original, OriginalOffset(option_start)))
+}
+
+// ---- option lists and payloads
+
+// Lists the options of a reading of `bytes`, which is given by its verdict's number and the ends of its option list.
+#[no_mangle]
+pub extern "C" fn wuraketozo_list(
+    bytes: &[u8],
+    verdict: u32,
+    options_from: usize,
+    options_to: usize,
+    buffer: &mut [u8],
+) -> Listing
+    ensures { λ r. ⌜ Lists (walkOfValue (now (bytes .entry)) (verdictFor verdict) «options_from» «options_to») (now (buffer .entry)) r (now (buffer .exit)) ⌝ }
+{
+    let reading = surface::reading_for(verdict, options_from, options_to);
+    surface::listing_of(catalogue::list_reading(bytes, reading, buffer))
+}
+
+// Writes a whole payload.
+#[no_mangle]
+pub extern "C" fn wuraketozo_write(
+    source: Address,
+    destination: Address,
+    source_port: u16,
+    destination_port: u16,
+    user: &[u8],
+    list: &[u8],
+    fill: u8,
+    buffer: &mut [u8],
+) -> Written
+    ensures { λ r. ⌜ Writes
+        (written (datagramFor (source .octets) (destination .octets) «source_port» «destination_port» (now (user .entry)) fill) (now (list .entry)) (now (buffer .entry)))
+        r (now (buffer .exit)) ⌝ }
+{
+    let from = source.octets;
+    let to = destination.octets;
+    surface::written_of(compose::write(
+        from,
+        to,
+        source_port,
+        destination_port,
+        user,
+        list,
+        fill,
+        buffer,
+    ))
+}
+
+// ---- sizes
+
+// The bytes of a record: 64 for the eight numbers, and 160 for each of the four assemblies (12 for the flow, 4, 8, 1 and 1 of
+// padding, 8 for each of the 16 fragments, and 6 of padding). `recordSize` is the size of the layout, so no other number is proved.
+#[no_mangle]
+pub extern "C" fn wuraketozo_record_size() -> usize
+    ensures { λ r. ⌜ r ≡ recordSize ⌝ }
+{
+    704
+}
+
+// The bytes of a client's share of the store.
+#[no_mangle]
+pub extern "C" fn wuraketozo_share_size() -> usize
+    ensures { λ r. ⌜ r ≡ shareSize ⌝ }
+{
+    record::SHARE
+}
+
+// The bytes of the smallest out buffer.
+#[no_mangle]
+pub extern "C" fn wuraketozo_out_size() -> usize
+    ensures { λ r. ⌜ r ≡ datagramLimit ⌝ }
+{
+    record::DATAGRAM_LIMIT
+}
+
+// The most clients of a table.
+#[no_mangle]
+pub extern "C" fn wuraketozo_client_limit() -> usize
+    ensures { λ r. ⌜ r ≡ clientLimit ⌝ }
+{
+    record::CLIENT_LIMIT
+}
+
+// By hand from here on.
+// ---- the table
+
+// Makes every record fresh.
+#[no_mangle]
+pub extern "C" fn wuraketozo_reset(records: &mut [Client], store: &[u8]) -> Answer
+    ensures { λ r. ⌜ Leaves (resetOn (tableOf (now (records .entry)) (now (store .entry)))) r (now (records .exit)) (now (store .entry)) [] ⌝ }
+{
+    let answer = table::reset(records, store);
+    surface::answer_of(answer)
+}
+
+// Offers a fragment for client `k`.
+#[no_mangle]
+pub extern "C" fn wuraketozo_offer(
+    records: &mut [Client],
+    store: &mut [u8],
+    k: usize,
+    fragment: Fragment,
+    bytes: &[u8],
+    out: &mut [u8],
+) -> Answer
+    ensures { λ r. ⌜ Leaves (askOn k (offering (arrivalFrom fragment) (now (bytes .entry)) (now (out .entry))) (tableOf (now (records .entry)) (now (store .entry)))) r (now (records .exit)) (now (store .exit)) (now (out .exit)) ⌝ }
+{
+    let arrival = surface::arrival_of(fragment);
+    let answer = table::offer(records, store, k, arrival, bytes, out);
+    surface::answer_of(answer)
+}
+
+// Moves the time of client `k` on.
+#[no_mangle]
+pub extern "C" fn wuraketozo_advance(
+    records: &mut [Client],
+    store: &[u8],
+    k: usize,
+    time: u64,
+) -> Answer
+    ensures { λ r. ⌜ Leaves (askOn k (advancing time) (tableOf (now (records .entry)) (now (store .entry)))) r (now (records .exit)) (now (store .entry)) [] ⌝ }
+{
+    let answer = table::advance(records, store, k, time);
+    surface::answer_of(answer)
+}
+
+// The account of client `k`.
+#[no_mangle]
+pub extern "C" fn wuraketozo_account(records: &[Client], store: &[u8], k: usize) -> Answer
+    ensures { λ r. ⌜ Leaves (askOn k accounting (tableOf (now (records .entry)) (now (store .entry)))) r (now (records .entry)) (now (store .entry)) [] ⌝ }
+{
+    let answer = table::account(records, store, k);
+    surface::answer_of(answer)
+}
+
+// ---- one call for each datagram
+
+// Reads a payload that arrived for client `k` and, if it is a fragment, offers it.
+#[no_mangle]
+pub extern "C" fn wuraketozo_receive(
+    records: &mut [Client],
+    store: &mut [u8],
+    k: usize,
+    time: u64,
+    source: Address,
+    destination: Address,
+    payload: &[u8],
+    out: &mut [u8],
+) -> Received
+    ensures { λ r. ⌜ Receives (receiveOn k (record { time = time; source = source .octets; destination = destination .octets; payload = now (payload .entry) }) (now (out .entry)) (tableOf (now (records .entry)) (now (store .entry)))) r (now (records .exit)) (now (store .exit)) (now (out .exit)) ⌝ }
+{
+    let from = source.octets;
+    let to = destination.octets;
+    let received = receiver::receive(records, store, k, time, from, to, payload, out);
+    surface::received_of(received)
+}
