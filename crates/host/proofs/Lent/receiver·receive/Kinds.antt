@@ -1,4 +1,4 @@
--- Made by tools/transplant.py for `receiver::receive`. Assumes nothing.
+-- Made by tools/lent/transplant.py for `receiver::receive`. Assumes nothing.
 use Rattle.receiver.proofs.Received
 use Rattle.receiver.proofs.Received.Laws
 use borrow.Fn.Kinds

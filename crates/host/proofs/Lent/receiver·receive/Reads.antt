@@ -1,4 +1,4 @@
--- Made by tools/transplant.py for `receiver::receive`. Assumes nothing.
+-- Made by tools/lent/transplant.py for `receiver::receive`. Assumes nothing.
 use Rattle.receiver.proofs.receive
 use Rattle.host.proofs.Lent.receiver·receive.Kinds
 use base.Logic

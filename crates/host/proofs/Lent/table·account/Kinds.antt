@@ -1,4 +1,4 @@
--- Made by tools/transplant.py for `table::account`. Assumes nothing.
+-- Made by tools/lent/transplant.py for `table::account`. Assumes nothing.
 use Rattle.reassembly.proofs.Answer
 use Rattle.reassembly.proofs.Answer.Laws
 use borrow.Fn.Kinds

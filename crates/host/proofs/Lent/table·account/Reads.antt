@@ -1,4 +1,4 @@
--- Made by tools/transplant.py for `table::account`. Assumes nothing.
+-- Made by tools/lent/transplant.py for `table::account`. Assumes nothing.
 use Rattle.table.proofs.account
 use Rattle.host.proofs.Lent.table·account.Kinds
 use base.Logic

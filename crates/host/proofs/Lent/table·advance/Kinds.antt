@@ -1,4 +1,4 @@
--- Made by tools/transplant.py for `table::advance`. Assumes nothing.
+-- Made by tools/lent/transplant.py for `table::advance`. Assumes nothing.
 use Rattle.reassembly.proofs.Answer
 use Rattle.reassembly.proofs.Answer.Laws
 use borrow.Fn.Kinds

@@ -1,4 +1,4 @@
--- Made by tools/transplant.py for `table::advance`. Assumes nothing.
+-- Made by tools/lent/transplant.py for `table::advance`. Assumes nothing.
 use Rattle.table.proofs.advance
 use Rattle.host.proofs.Lent.table·advance.Kinds
 use base.Logic

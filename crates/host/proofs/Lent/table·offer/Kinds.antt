@@ -1,4 +1,4 @@
--- Made by tools/transplant.py for `table::offer`. Assumes nothing.
+-- Made by tools/lent/transplant.py for `table::offer`. Assumes nothing.
 use Rattle.reassembly.proofs.Answer
 use Rattle.reassembly.proofs.Answer.Laws
 use Rattle.reassembly.proofs.Arrival

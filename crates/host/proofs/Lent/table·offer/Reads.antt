@@ -1,4 +1,4 @@
--- Made by tools/transplant.py for `table::offer`. Assumes nothing.
+-- Made by tools/lent/transplant.py for `table::offer`. Assumes nothing.
 use Rattle.table.proofs.offer
 use Rattle.host.proofs.Lent.table·offer.Kinds
 use base.Logic

@@ -1,4 +1,4 @@
--- Made by tools/transplant.py for `table::reset`. Assumes nothing.
+-- Made by tools/lent/transplant.py for `table::reset`. Assumes nothing.
 use Rattle.table.proofs.reset
 use Rattle.host.proofs.Lent.table·reset.Kinds
 use base.Logic

@@ -1,4 +1,4 @@
--- Made by tools/transplant.py for `host::wuraketozo_account`. Assumes nothing.
+-- Made by tools/lent/transplant.py for `host::wuraketozo_account`. Assumes nothing.
 use Rattle.surface.proofs.Answer
 use Rattle.surface.proofs.Answer.Laws
 use borrow.Fn.Kinds

@@ -1,4 +1,4 @@
--- Made by tools/transplant.py for `host::wuraketozo_account`. Assumes nothing.
+-- Made by tools/lent/transplant.py for `host::wuraketozo_account`. Assumes nothing.
 use Rattle.host.proofs.wuraketozo_account
 use Rattle.host.proofs.Lent.wuraketozo_account.Kinds
 use base.Logic

@@ -1,4 +1,4 @@
--- Made by tools/transplant.py for `host::wuraketozo_offer`. Assumes nothing.
+-- Made by tools/lent/transplant.py for `host::wuraketozo_offer`. Assumes nothing.
 use Rattle.surface.proofs.Answer
 use Rattle.surface.proofs.Answer.Laws
 use Rattle.surface.proofs.Fragment

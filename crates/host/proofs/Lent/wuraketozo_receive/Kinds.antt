@@ -1,4 +1,4 @@
--- Made by tools/transplant.py for `host::wuraketozo_receive`. Assumes nothing.
+-- Made by tools/lent/transplant.py for `host::wuraketozo_receive`. Assumes nothing.
 use Rattle.surface.proofs.Address
 use Rattle.surface.proofs.Address.Laws
 use Rattle.surface.proofs.Received

@@ -1,4 +1,4 @@
--- Made by tools/transplant.py for `host::wuraketozo_advance`. Assumes nothing.
+-- Made by tools/lent/transplant.py for `host::wuraketozo_advance`. Assumes nothing.
 use Rattle.host.proofs.wuraketozo_advance.Code
 use Rattle.host.proofs.wuraketozo_advance.Key
 use Rattle.host.proofs.Lent.wuraketozo_advance.Kinds

@@ -1,4 +1,4 @@
--- Made by tools/transplant.py for `host::wuraketozo_offer`. Assumes nothing.
+-- Made by tools/lent/transplant.py for `host::wuraketozo_offer`. Assumes nothing.
 use Prim.Native.Nat
 use Rattle.reassembly.proofs.Answer
 use Rattle.reassembly.proofs.Answer.Laws

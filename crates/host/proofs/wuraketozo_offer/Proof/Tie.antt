@@ -1,4 +1,4 @@
--- Made by tools/transplant.py for `host::wuraketozo_offer`. Assumes nothing.
+-- Made by tools/lent/transplant.py for `host::wuraketozo_offer`. Assumes nothing.
 use Rattle.host.proofs.wuraketozo_offer.Code
 use Rattle.host.proofs.wuraketozo_offer.Key
 use Rattle.host.proofs.Lent.wuraketozo_offer.Kinds

@@ -1,4 +1,4 @@
--- Made by tools/transplant.py for `host::wuraketozo_receive`. Assumes nothing.
+-- Made by tools/lent/transplant.py for `host::wuraketozo_receive`. Assumes nothing.
 use Prim.Native.Nat
 use Rattle.receiver.proofs.Received
 use Rattle.receiver.proofs.Received.Laws

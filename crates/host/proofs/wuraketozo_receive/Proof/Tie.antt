@@ -1,4 +1,4 @@
--- Made by tools/transplant.py for `host::wuraketozo_receive`. Assumes nothing.
+-- Made by tools/lent/transplant.py for `host::wuraketozo_receive`. Assumes nothing.
 use Rattle.host.proofs.wuraketozo_receive.Code
 use Rattle.host.proofs.wuraketozo_receive.Key
 use Rattle.host.proofs.Lent.wuraketozo_receive.Kinds

@@ -1,4 +1,4 @@
--- Made by tools/transplant.py for `host::wuraketozo_reset`. Assumes nothing.
+-- Made by tools/lent/transplant.py for `host::wuraketozo_reset`. Assumes nothing.
 use Rattle.host.proofs.wuraketozo_reset.Code
 use Rattle.host.proofs.wuraketozo_reset.Key
 use Rattle.host.proofs.Lent.wuraketozo_reset.Kinds
