@@ -120,6 +120,70 @@ fn forged(random: &mut Random, counts: &mut Counts, way: Way, most: usize) -> Re
     Ok(most as u64)
 }
 
+/// Every list of four fragments of one original from a small set: places 0
+/// to 3, one or two bytes, last or not, option start 0 or 1, two with other
+/// bytes. Returns the calls made.
+pub fn sweep(random: &mut Random, counts: &mut Counts) -> Result<u64, String> {
+    let mut calls = Vec::new();
+    for place in 0..4 {
+        for length in 1..=2 {
+            for (last, r) in [(false, 0), (true, 0), (true, 1)] {
+                calls.push(small(place, length, last, r, 0));
+            }
+        }
+    }
+    calls.push(small(0, 1, false, 0, 1));
+    calls.push(small(1, 2, false, 0, 1));
+    let mut made = 0;
+    let pair = Pair::of(World::new(Lent::of(1)));
+    sweep_from(random, counts, &calls, &pair, 4, &mut made)?;
+    Ok(made)
+}
+
+/// Every list of `left` more calls behind those that made this table.
+fn sweep_from(
+    random: &mut Random,
+    counts: &mut Counts,
+    calls: &[Call],
+    pair: &Pair,
+    left: usize,
+    made: &mut u64,
+) -> Check {
+    if left == 0 {
+        return Ok(());
+    }
+    for call in calls {
+        let mut next = Pair {
+            plain: pair.plain.clone(),
+            records: pair.records.clone(),
+            store: pair.store.clone(),
+        };
+        run(random, counts, Way::Offered, &mut next, call)?;
+        *made += 1;
+        sweep_from(random, counts, calls, &next, left - 1, made)?;
+    }
+    Ok(())
+}
+
+/// A short fragment; its bytes are its places, changed by `other`.
+fn small(place: usize, length: usize, last: bool, r: usize, other: u8) -> Call {
+    let bytes = (place..place + length).map(|at| at as u8 ^ other).collect();
+    Call {
+        lent: Lent::of(1),
+        ask: Ask::Piece {
+            client: 0,
+            time: 5,
+            flow: plain::Flow::default(),
+            identification: 7,
+            place,
+            bytes,
+            last,
+            r,
+            out: 4_096,
+        },
+    }
+}
+
 /// Sets a few fields of a record to anything.
 fn wild(random: &mut Random, record: &mut plain::Record) {
     for _ in 0..1 + random.below(3) {

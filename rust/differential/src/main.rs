@@ -26,8 +26,16 @@ struct Plan {
     seed: u64,
     payloads: u64,
     calls: u64,
-    first_payload: u64,
-    first_list: u64,
+    /// Given to see one round or list again; then nothing is swept, and not
+    /// everything need be reached.
+    first_payload: Option<u64>,
+    first_list: Option<u64>,
+}
+
+impl Plan {
+    fn is_whole(&self) -> bool {
+        self.first_payload.is_none() && self.first_list.is_none()
+    }
 }
 
 /// The command line's numbers, or the word that is not one.
@@ -36,8 +44,8 @@ fn plan() -> Result<Plan, String> {
         seed: 1,
         payloads: 200_000,
         calls: 50_000,
-        first_payload: 0,
-        first_list: 0,
+        first_payload: None,
+        first_list: None,
     };
     let mut words = std::env::args().skip(1);
     while let Some(word) = words.next() {
@@ -47,8 +55,8 @@ fn plan() -> Result<Plan, String> {
             "--seed" => plan.seed = number,
             "--payloads" => plan.payloads = number,
             "--calls" => plan.calls = number,
-            "--first-payload" => plan.first_payload = number,
-            "--first-list" => plan.first_list = number,
+            "--first-payload" => plan.first_payload = Some(number),
+            "--first-list" => plan.first_list = Some(number),
             _ => return Err(format!("{word} is not known")),
         }
     }
@@ -65,13 +73,16 @@ fn random(seed: u64, part: u64, number: u64) -> Random {
 fn run(plan: &Plan, counts: &mut Counts) -> Result<(), String> {
     let seed = plan.seed;
     let start = Instant::now();
-    let swept = if plan.first_payload == 0 && plan.first_list == 0 {
-        payloads::sweep(&mut random(seed, 0, 0), counts)
-            .map_err(|text| format!("--seed {seed}, sweep\n{text}"))?
+    let whole = plan.is_whole();
+    let first_payload = plan.first_payload.unwrap_or(0);
+    let first_list = plan.first_list.unwrap_or(0);
+    let told = |text: String| format!("--seed {seed}, sweep\n{text}");
+    let swept = if whole {
+        payloads::sweep(&mut random(seed, 0, 0), counts).map_err(told)?
     } else {
         0
     };
-    for number in plan.first_payload..plan.first_payload + plan.payloads {
+    for number in first_payload..first_payload + plan.payloads {
         payloads::round(&mut random(seed, 1, number), counts).map_err(|text| {
             format!("--seed {seed} --first-payload {number} --payloads 1 --calls 0\n{text}")
         })?;
@@ -82,8 +93,13 @@ fn run(plan: &Plan, counts: &mut Counts) -> Result<(), String> {
         start.elapsed().as_secs_f64()
     );
     let start = Instant::now();
+    let swept = if whole {
+        calls::sweep(&mut random(seed, 0, 1), counts).map_err(told)?
+    } else {
+        0
+    };
     let mut made = 0;
-    let mut number = plan.first_list;
+    let mut number = first_list;
     while made < plan.calls {
         made += calls::list(&mut random(seed, 2, number), counts, LIST).map_err(|text| {
             format!("--seed {seed} --payloads 0 --first-list {number} --calls 1\n{text}")
@@ -91,8 +107,8 @@ fn run(plan: &Plan, counts: &mut Counts) -> Result<(), String> {
         number += 1;
     }
     println!(
-        "{made} table calls in {} lists: {:.1} s",
-        number - plan.first_list,
+        "{made} table calls in {} lists, {swept} swept: {:.1} s",
+        number - first_list,
         start.elapsed().as_secs_f64()
     );
     Ok(())
@@ -117,8 +133,7 @@ fn main() -> ExitCode {
         return ExitCode::FAILURE;
     }
     let missing = counts.print();
-    let whole = plan.first_payload == 0 && plan.first_list == 0;
-    if whole && !missing.is_empty() {
+    if plan.is_whole() && !missing.is_empty() {
         println!("never reached: {}", missing.join(", "));
         return ExitCode::FAILURE;
     }

@@ -359,43 +359,82 @@ pub fn receive(
     }
 }
 
-/// States the size and alignment of a struct and where its fields stand, as
-/// C lays the header's structs out on x86-64.
-macro_rules! layout {
-    ($name:ty, $size:literal, $align:literal, $($field:ident $at:literal),+) => {
-        const _: () = {
+/// A struct's name in C, its size, and where its fields stand.
+#[cfg(test)]
+type Layout = (&'static str, usize, &'static [(&'static str, usize)]);
+
+/// States the size and alignment of each struct and where its fields stand,
+/// as C lays the header's structs out on x86-64.
+macro_rules! layouts {
+    ($($name:ident $c:literal $size:literal $align:literal: $($field:ident $at:literal),+;)+) => {
+        $(const _: () = {
             assert!(size_of::<$name>() == $size);
             assert!(align_of::<$name>() == $align);
             $(assert!(offset_of!($name, $field) == $at);)+
-        };
+        };)+
+
+        #[cfg(test)]
+        const LAYOUTS: &[Layout] = &[
+            $(($c, $size, &[$((stringify!($field), $at)),+])),+
+        ];
     };
 }
 
 use crate::record::{Assembly, Held};
 
-layout!(Address, 4, 1, octets 0);
-layout!(Flow, 12, 2, source 0, destination 4, source_port 8, destination_port 10);
-layout!(Held, 8, 2, offset 0, length 2, option_start 4, last 6);
-layout!(Assembly, 160, 8, flow 0, identification 12, opened 16, count 24, fragments 26);
-layout!(
-    Client, 704, 8,
-    time 0, offered 8, held 16, delivered 24, expired 32, conflicted 40, repeated 48, rejected 56,
-    assemblies 64
-);
-layout!(
-    Account, 56, 8,
-    offered 0, held 8, delivered 16, expired 24, conflicted 32, repeated 40, rejected 48
-);
-layout!(
-    Reading, 104, 8,
-    refusal 0, verdict 4, user_from 8, user_to 16, options_from 24, options_to 32, count 40,
-    fill 48, apc 56, identification 60, place 64, start 72, end 80, option_start 88, last 96
-);
-layout!(Listing, 24, 8, refusal 0, size 8, fill 16);
-layout!(Written, 16, 8, refusal 0, size 8);
-layout!(Answer, 80, 8, refusal 0, outcome 4, length 8, option_start 16, figures 24);
-layout!(
-    Fragment, 48, 8,
-    time 0, flow 8, identification 20, place 24, option_start 32, last 40
-);
-layout!(Received, 192, 8, what 0, reading 8, answer 112);
+layouts! {
+    Address "wuraketozo_address" 4 1: octets 0;
+    Flow "wuraketozo_flow" 12 2: source 0, destination 4, source_port 8, destination_port 10;
+    Held "wuraketozo_held" 8 2: offset 0, length 2, option_start 4, last 6;
+    Assembly "wuraketozo_assembly" 160 8:
+        flow 0, identification 12, opened 16, count 24, fragments 26;
+    Client "wuraketozo_client" 704 8:
+        time 0, offered 8, held 16, delivered 24, expired 32, conflicted 40, repeated 48,
+        rejected 56, assemblies 64;
+    Account "wuraketozo_figures" 56 8:
+        offered 0, held 8, delivered 16, expired 24, conflicted 32, repeated 40, rejected 48;
+    Reading "wuraketozo_reading" 104 8:
+        refusal 0, verdict 4, user_from 8, user_to 16, options_from 24, options_to 32, count 40,
+        fill 48, apc 56, identification 60, place 64, start 72, end 80, option_start 88, last 96;
+    Listing "wuraketozo_listing" 24 8: refusal 0, size 8, fill 16;
+    Written "wuraketozo_written" 16 8: refusal 0, size 8;
+    Answer "wuraketozo_answer" 80 8:
+        refusal 0, outcome 4, length 8, option_start 16, figures 24;
+    Fragment "wuraketozo_fragment" 48 8:
+        time 0, flow 8, identification 20, place 24, option_start 32, last 40;
+    Received "wuraketozo_received" 192 8: what 0, reading 8, answer 112;
+}
+
+#[cfg(test)]
+mod tests {
+    use super::LAYOUTS;
+    use std::io::Write;
+    use std::process::{Command, Stdio};
+
+    /// The header has these layouts too: gcc is asked, where there is one.
+    #[test]
+    fn the_header_agrees() {
+        let mut text = String::from("#include \"wuraketozo.h\"\n");
+        for (name, size, fields) in LAYOUTS {
+            text += &format!("_Static_assert(sizeof({name}) == {size}, \"{name}\");\n");
+            for (field, at) in *fields {
+                text += &format!(
+                    "_Static_assert(offsetof({name}, {field}) == {at}, \"{name}.{field}\");\n"
+                );
+            }
+        }
+        let include = concat!(env!("CARGO_MANIFEST_DIR"), "/../../include");
+        let spawned = Command::new("gcc")
+            .args(["-std=c11", "-Wall", "-Wextra", "-Werror", "-I", include])
+            .args(["-fsyntax-only", "-x", "c", "-"])
+            .stdin(Stdio::piped())
+            .spawn();
+        let Ok(mut gcc) = spawned else {
+            println!("gcc is missing, so the header is not looked at");
+            return;
+        };
+        let written = gcc.stdin.take().map(|mut to| to.write_all(text.as_bytes()));
+        assert!(matches!(written, Some(Ok(()))));
+        assert!(gcc.wait().unwrap().success());
+    }
+}
