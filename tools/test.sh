@@ -16,6 +16,17 @@ report() {
     fi
 }
 
+# quietly NAME COMMAND..: one test, whose output is shown only if it fails.
+quietly() {
+    name=$1
+    shift
+    "$@" >"$log" 2>&1
+    status=$?
+    [ "$status" -eq 0 ] || tail -n 30 "$log" | cut -c 1-2000
+    rm -f "$log"
+    report "$name" "$status"
+}
+
 if ! command -v rt >/dev/null 2>&1; then
     echo "The Rattle kit is not on the PATH: see README.md."
     echo "0 passed, 1 failed"
@@ -57,6 +68,26 @@ for sample in samples/*.bin; do
     target/bin/inspect <"$sample" | cmp -s - "${sample%.bin}.txt"
     report "$sample" $?
 done
+
+# The static library for hosts, and the C example on it against the output that stands beside it.
+quietly static-library rt staticlib host
+if command -v gcc >/dev/null 2>&1; then
+    quietly c-example sh tools/example.sh examples/host.expected
+else
+    echo "note: gcc is missing, so test c-example is skipped"
+fi
+
+# The wrapper for Rust, the plain reference, and the library against the reference on seeded inputs.
+if command -v cargo >/dev/null 2>&1; then
+    CARGO_TARGET_DIR=$PWD/target/rust
+    export CARGO_TARGET_DIR
+    quietly rust-wrapper cargo test --offline --manifest-path rust/wuraketozo/Cargo.toml
+    quietly rust-reference cargo test --release --offline --manifest-path rust/reference/Cargo.toml
+    cargo run --quiet --release --offline --manifest-path rust/differential/Cargo.toml -- --seed 1 --payloads 200000 --calls 50000
+    report differential $?
+else
+    echo "note: cargo is missing, so tests rust-wrapper, rust-reference and differential are skipped"
+fi
 
 # What readers in Python, written from the papers apart from this code, say of the same bytes.
 if command -v python3 >/dev/null 2>&1; then

@@ -1,0 +1,270 @@
+//! The reference's values as the library's.
+
+use reference as plain;
+use wuraketozo::{raw, Account, Assembly, Client, Flow, Held};
+
+/// Bytes in hex. Of long ones the front: the seed gives the rest.
+pub fn hex(bytes: &[u8]) -> String {
+    let shown = bytes.iter().take(4_096);
+    let mut text: String = shown.map(|byte| format!("{byte:02x}")).collect();
+    if bytes.len() > 4_096 {
+        text += &format!(".. ({} bytes in all)", bytes.len());
+    }
+    text
+}
+
+fn verdict_number(verdict: &plain::Verdict) -> u32 {
+    match verdict {
+        plain::Verdict::None => 0,
+        plain::Verdict::Short => 1,
+        plain::Verdict::Pad => 2,
+        plain::Verdict::Unsummed => 3,
+        plain::Verdict::BadSum => 4,
+        plain::Verdict::Malformed => 5,
+        plain::Verdict::Unsafe => 6,
+        plain::Verdict::FragData => 7,
+        plain::Verdict::Crowded => 8,
+        plain::Verdict::Read => 9,
+        plain::Verdict::Piece(_) => 10,
+    }
+}
+
+/// The C struct of a reading; all 0 but the number where it is refused.
+pub fn reading(result: &Result<plain::Reading, u32>) -> raw::Reading {
+    let reading = match result {
+        Ok(reading) => reading,
+        Err(number) => {
+            return raw::Reading {
+                refusal: *number,
+                ..raw::Reading::default()
+            }
+        }
+    };
+    let mut expected = raw::Reading {
+        verdict: verdict_number(&reading.verdict),
+        user_from: reading.user.from,
+        user_to: reading.user.to,
+        options_from: reading.options_from,
+        options_to: reading.options_to,
+        count: reading.count,
+        fill: reading.fill,
+        apc: match reading.apc {
+            plain::Apc::None => 0,
+            plain::Apc::Right => 1,
+            plain::Apc::Wrong => 2,
+        },
+        ..raw::Reading::default()
+    };
+    if let plain::Verdict::Piece(fragment) = reading.verdict {
+        expected.identification = fragment.identification;
+        expected.place = fragment.place;
+        expected.start = fragment.from;
+        expected.end = fragment.to;
+        expected.option_start = fragment.option_start;
+        expected.last = u32::from(fragment.last);
+    }
+    expected
+}
+
+/// A rereading has the fields of a reading.
+pub fn as_reading(rereading: &plain::Rereading) -> plain::Reading {
+    plain::Reading {
+        user: rereading.user,
+        verdict: rereading.verdict,
+        options_from: rereading.options_from,
+        options_to: rereading.options_to,
+        count: rereading.count,
+        fill: rereading.fill,
+        apc: rereading.apc,
+    }
+}
+
+/// What the wrapper makes of a reading that was not refused.
+pub fn wrapped(reading: &plain::Reading) -> wuraketozo::Reading {
+    let verdict = match reading.verdict {
+        plain::Verdict::None => wuraketozo::Verdict::Bare,
+        plain::Verdict::Short => wuraketozo::Verdict::Short,
+        plain::Verdict::Pad => wuraketozo::Verdict::Pad,
+        plain::Verdict::Unsummed => wuraketozo::Verdict::Unsummed,
+        plain::Verdict::BadSum => wuraketozo::Verdict::BadSum,
+        plain::Verdict::Malformed => wuraketozo::Verdict::Malformed,
+        plain::Verdict::Unsafe => wuraketozo::Verdict::Unsafe,
+        plain::Verdict::FragData => wuraketozo::Verdict::FragData,
+        plain::Verdict::Crowded => wuraketozo::Verdict::Crowded,
+        plain::Verdict::Read => wuraketozo::Verdict::Read,
+        plain::Verdict::Piece(fragment) => wuraketozo::Verdict::Piece(wuraketozo::Fragment {
+            identification: fragment.identification,
+            place: fragment.place,
+            bytes: fragment.from..fragment.to,
+            last: fragment.last,
+            option_start: fragment.option_start,
+        }),
+    };
+    wuraketozo::Reading {
+        user: reading.user.from..reading.user.to,
+        verdict,
+        options: reading.options_from..reading.options_to,
+        count: reading.count,
+        fill: reading.fill,
+        apc: match reading.apc {
+            plain::Apc::None => wuraketozo::Apc::None,
+            plain::Apc::Right => wuraketozo::Apc::Right,
+            plain::Apc::Wrong => wuraketozo::Apc::Wrong,
+        },
+    }
+}
+
+/// An option as a list has it: APC without its field.
+pub fn entry<'a>(option: &plain::ReadOption<'a>) -> wuraketozo::Entry<'a> {
+    let value = match option.fields {
+        _ if option.kind == 2 => wuraketozo::Value::None,
+        plain::Fields::None => wuraketozo::Value::None,
+        plain::Fields::One(a) => wuraketozo::Value::One(a),
+        plain::Fields::Two(a, b) => wuraketozo::Value::Two(a, b),
+        plain::Fields::Body(body) => wuraketozo::Value::Body(body),
+    };
+    wuraketozo::Entry {
+        kind: option.kind,
+        value,
+    }
+}
+
+pub fn flow(flow: &plain::Flow) -> Flow {
+    Flow {
+        source: flow.source,
+        destination: flow.destination,
+        source_port: flow.source_port,
+        destination_port: flow.destination_port,
+    }
+}
+
+pub fn client(record: &plain::Record) -> Client {
+    Client {
+        time: record.time,
+        offered: record.offered,
+        held: record.held,
+        delivered: record.delivered,
+        expired: record.expired,
+        conflicted: record.clashed,
+        repeated: record.repeated,
+        rejected: record.turned_away,
+        assemblies: record.assemblies.map(|assembly| Assembly {
+            flow: flow(&assembly.flow),
+            identification: assembly.identification,
+            opened: assembly.opened,
+            count: assembly.count,
+            fragments: assembly.pieces.map(|slot| Held {
+                offset: slot.offset,
+                length: slot.length,
+                option_start: slot.option_start,
+                last: slot.last,
+            }),
+        }),
+    }
+}
+
+fn account(account: &plain::Account) -> Account {
+    Account {
+        offered: account.offered,
+        held: account.held,
+        delivered: account.delivered,
+        expired: account.expired,
+        conflicted: account.clashed,
+        repeated: account.repeated,
+        rejected: account.turned_away,
+    }
+}
+
+/// The C struct of an answer.
+pub fn answer(answer: &plain::Answer) -> raw::Answer {
+    let mut expected = raw::Answer::default();
+    match answer {
+        plain::Answer::Refused(number) => expected.refusal = *number,
+        plain::Answer::SetUp => expected.outcome = 1,
+        plain::Answer::Stored => expected.outcome = 2,
+        plain::Answer::Repeated => expected.outcome = 3,
+        plain::Answer::Clash => expected.outcome = 4,
+        plain::Answer::Delivered { t, r } => {
+            expected.outcome = 5;
+            expected.length = *t;
+            expected.option_start = *r;
+        }
+        plain::Answer::Clocked => expected.outcome = 6,
+        plain::Answer::Billed(figures) => {
+            expected.outcome = 7;
+            expected.figures = account(figures);
+        }
+    }
+    expected
+}
+
+/// The answer's word for the counts.
+pub fn answer_word(answer: &plain::Answer) -> String {
+    match answer {
+        plain::Answer::Refused(number) => number.to_string(),
+        plain::Answer::Stored => "stored".into(),
+        plain::Answer::Repeated => "repeated".into(),
+        plain::Answer::Clash => "conflict".into(),
+        plain::Answer::Delivered { .. } => "delivered".into(),
+        plain::Answer::SetUp | plain::Answer::Clocked | plain::Answer::Billed(_) => "taken".into(),
+    }
+}
+
+/// What the wrapper answered, as a C struct: an answer of each of its calls.
+pub trait Raw {
+    fn raw(&self) -> raw::Answer;
+}
+
+fn refused(refusal: &wuraketozo::Refusal) -> raw::Answer {
+    raw::Answer {
+        refusal: refusal.number(),
+        // A refusal that the wrapper does not know is a difference.
+        outcome: if refusal.number() == 0 { 99 } else { 0 },
+        ..raw::Answer::default()
+    }
+}
+
+impl Raw for Result<wuraketozo::Answer, wuraketozo::Refusal> {
+    fn raw(&self) -> raw::Answer {
+        let mut expected = raw::Answer::default();
+        match self {
+            Err(refusal) => return refused(refusal),
+            Ok(wuraketozo::Answer::Stored) => expected.outcome = 2,
+            Ok(wuraketozo::Answer::Repeated) => expected.outcome = 3,
+            Ok(wuraketozo::Answer::Conflict) => expected.outcome = 4,
+            Ok(wuraketozo::Answer::Delivered {
+                length,
+                option_start,
+            }) => {
+                expected.outcome = 5;
+                expected.length = *length;
+                expected.option_start = *option_start;
+            }
+        }
+        expected
+    }
+}
+
+impl Raw for Result<Account, wuraketozo::Refusal> {
+    fn raw(&self) -> raw::Answer {
+        match self {
+            Err(refusal) => refused(refusal),
+            Ok(account) => raw::Answer {
+                outcome: 7,
+                figures: *account,
+                ..raw::Answer::default()
+            },
+        }
+    }
+}
+
+/// A call that answers nothing but that it was taken.
+pub fn taken(result: Result<(), wuraketozo::Refusal>, outcome: u32) -> raw::Answer {
+    match result {
+        Err(refusal) => refused(&refusal),
+        Ok(()) => raw::Answer {
+            outcome,
+            ..raw::Answer::default()
+        },
+    }
+}

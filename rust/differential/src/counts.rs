@@ -1,0 +1,90 @@
+//! How often each verdict, refusal and answer came.
+
+use std::collections::BTreeMap;
+
+/// What must be reached, in the order of the table that is printed.
+fn wanted() -> Vec<String> {
+    let mut names = Vec::new();
+    let mut add = |call: &str, results: &[&str]| {
+        names.extend(results.iter().map(|result| format!("{call}: {result}")));
+    };
+    add("read", &["1", "2", "3", "4"]);
+    add("read", &["none", "short", "pad", "unsummed", "badsum"]);
+    add("read", &["malformed", "unsafe", "fragdata", "crowded"]);
+    add("read", &["read", "piece"]);
+    add("read", &["APC none", "APC right", "APC wrong"]);
+    add("reread", &["2", "5", "6"]);
+    add("reread", &["none", "short", "pad", "badsum", "malformed"]);
+    add("reread", &["crowded", "read"]);
+    add("reread", &["APC none", "APC right", "APC wrong"]);
+    add("list", &["taken", "8"]);
+    add("list of a made-up reading", &["no option", "options", "8"]);
+    add("write", &["taken", "7", "8", "9"]);
+    add("reset", &["taken", "20"]);
+    add("offer", &["stored", "repeated", "conflict", "delivered"]);
+    let numbers: Vec<String> = (20..=30).map(|number| number.to_string()).collect();
+    let numbers: Vec<&str> = numbers.iter().map(String::as_str).collect();
+    add("offer", &numbers);
+    add("advance", &["taken", "20", "21", "22", "27"]);
+    add("account", &["taken", "20", "21", "22"]);
+    add("receive", &["datagram", "1", "2", "3", "4"]);
+    add("receive", &["stored", "repeated", "conflict", "delivered"]);
+    add("receive", &numbers);
+    add("forged record", &["sound", "damaged"]);
+    names
+}
+
+/// The counts of one run.
+pub struct Counts {
+    order: Vec<String>,
+    seen: BTreeMap<String, u64>,
+}
+
+impl Counts {
+    pub fn new() -> Counts {
+        Counts {
+            order: wanted(),
+            seen: BTreeMap::new(),
+        }
+    }
+
+    pub fn add(&mut self, call: &str, result: &str) {
+        *self.seen.entry(format!("{call}: {result}")).or_insert(0) += 1;
+    }
+
+    fn of(&self, name: &str) -> u64 {
+        self.seen.get(name).copied().unwrap_or(0)
+    }
+
+    /// Prints the table, a line for each call; the names never reached.
+    pub fn print(&self) -> Vec<String> {
+        let mut line = String::new();
+        let mut current = "";
+        for name in &self.order {
+            let (call, result) = name.split_once(": ").unwrap_or((name, ""));
+            if call != current {
+                println!("{line}");
+                line = format!("{call}:");
+                current = call;
+            } else if line.len() > 100 {
+                println!("{line}");
+                line = String::from("   ");
+            }
+            line += &format!("  {result} = {}", self.of(name));
+        }
+        println!("{line}");
+        let mut missing: Vec<String> = Vec::new();
+        for name in &self.order {
+            if self.of(name) == 0 {
+                missing.push(name.clone());
+            }
+        }
+        // A result that stands in no list would be a fault of this program.
+        for name in self.seen.keys() {
+            if !self.order.contains(name) {
+                missing.push(format!("{name} (not expected)"));
+            }
+        }
+        missing
+    }
+}

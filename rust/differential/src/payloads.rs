@@ -1,0 +1,495 @@
+//! Reading, rereading, listing and writing: the library against the
+//! reference, every field and every byte lent.
+
+use crate::convert::{as_reading, entry, hex, reading, wrapped};
+use crate::counts::Counts;
+use reference as plain;
+use reference::generate::{self, Datagram, Random};
+use wuraketozo::raw;
+
+/// A difference, told in words.
+pub type Check = Result<(), String>;
+
+/// One round: a payload, an original and a writing.
+pub fn round(random: &mut Random, counts: &mut Counts) -> Check {
+    let datagram = payload(random);
+    read(random, counts, &datagram)?;
+    let (original, option_start) = generate::original(random);
+    reread(random, counts, &original, option_start)?;
+    made_up(random, counts, &datagram.payload)?;
+    write(random, counts)
+}
+
+/// A payload of any sort: mostly the reference's, some long, some written
+/// and then damaged.
+fn payload(random: &mut Random) -> Datagram {
+    match random.below(40) {
+        0 => long(random),
+        1..=4 => {
+            let mut datagram = written(random);
+            damage(random, &mut datagram.payload);
+            datagram
+        }
+        5 => written(random),
+        _ => generate::datagram(random),
+    }
+}
+
+/// A payload that the reference's writer takes.
+fn written(random: &mut Random) -> Datagram {
+    let user_length = random.below(300);
+    let user = random.bytes(user_length);
+    let list = generate::docket(random);
+    let fill = random.pick(&[0, 0, 1, 255]);
+    compose(random, &user, &list, fill)
+}
+
+/// Writes with the reference; an empty payload where it refuses.
+fn compose(random: &mut Random, user: &[u8], list: &[u8], fill: u8) -> Datagram {
+    let (source, destination) = (random.four(), random.four());
+    let mut payload = vec![0; 70_000];
+    let result = plain::write(
+        source,
+        destination,
+        random.draw() as u16,
+        random.draw() as u16,
+        user,
+        list,
+        fill,
+        &mut payload,
+    );
+    payload.truncate(result.unwrap_or(0));
+    Datagram {
+        source,
+        destination,
+        payload,
+    }
+}
+
+/// A long payload: much user data, or bodies of any length up to the limit.
+fn long(random: &mut Random) -> Datagram {
+    let user_length = random.pick(&[0, 1, 1_400, 1_472, 4_096, 9_000, 30_000, 64_000]);
+    let user = random.bytes(user_length);
+    let mut room = 65_515 - 8 - user_length - user_length % 2 - 2;
+    let mut bodies = Vec::new();
+    for _ in 0..random.below(4) {
+        let length = match random.below(4) {
+            0 => room.saturating_sub(4),
+            1 => random.pick(&[251, 252, 253, 254, 255]),
+            _ => random.below(20_000),
+        };
+        if length + 4 > room {
+            break;
+        }
+        room -= length + 4;
+        bodies.push(random.bytes(length));
+    }
+    let mut options: Vec<plain::ReadOption> = bodies
+        .iter()
+        .map(|body| plain::ReadOption {
+            kind: random.pick(&[9, 100, 127, 191]),
+            fields: plain::Fields::Body(body),
+        })
+        .collect();
+    if room >= 6 && random.one_in(2) {
+        options.push(plain::ReadOption {
+            kind: 2,
+            fields: plain::Fields::None,
+        });
+    }
+    let list = plain::encode(&options);
+    let mut datagram = compose(random, &user, &list, 0);
+    if random.one_in(3) {
+        damage(random, &mut datagram.payload);
+    }
+    datagram
+}
+
+/// Changes a payload in one place. With both checksums 0 nothing is summed,
+/// so that the change is looked at.
+fn damage(random: &mut Random, payload: &mut Vec<u8>) {
+    let length = payload.len();
+    if length < 10 {
+        return;
+    }
+    let user_end = usize::from(u16::from_be_bytes([payload[4], payload[5]]));
+    let sum_at = user_end + user_end % 2;
+    if random.one_in(2) && sum_at + 2 <= length {
+        payload[6..8].fill(0);
+        payload[sum_at..sum_at + 2].fill(0);
+    }
+    // Mostly in the options, which are few bytes of many.
+    let at = if random.one_in(3) || sum_at + 2 >= length {
+        random.below(length)
+    } else {
+        sum_at + random.below((length - sum_at).min(60))
+    };
+    match random.below(5) {
+        0 => payload[at] ^= 1 << random.below(8),
+        1 => payload[at] = random.byte(),
+        2 => payload.truncate(at),
+        3 => payload.insert(at, 1),
+        _ => {
+            payload.remove(at);
+        }
+    }
+}
+
+/// What the reader, the listing and the options say of a payload.
+fn read(random: &mut Random, counts: &mut Counts, datagram: &Datagram) -> Check {
+    let Datagram {
+        source,
+        destination,
+        payload,
+    } = datagram;
+    let expected = plain::read(payload, *source, *destination);
+    count_reading(counts, "read", &expected);
+    let shown = || {
+        format!(
+            "read, source {}, destination {}, payload {}",
+            hex(source),
+            hex(destination),
+            hex(payload)
+        )
+    };
+    same(
+        &reading(&expected),
+        &raw::read(payload, *source, *destination),
+        &shown,
+    )?;
+    same(
+        &expected.map(|reading| wrapped(&reading)),
+        &wuraketozo::read(payload, *source, *destination).map_err(|refusal| refusal.number()),
+        &shown,
+    )?;
+    if let Ok(found) = expected {
+        listed(random, counts, payload, &found, &shown)?;
+    }
+    Ok(())
+}
+
+/// The same for an original.
+fn reread(random: &mut Random, counts: &mut Counts, original: &[u8], option_start: usize) -> Check {
+    let expected = plain::reread(original, option_start).map(|rereading| as_reading(&rereading));
+    count_reading(counts, "reread", &expected);
+    let shown = || {
+        format!(
+            "reread, option start {option_start}, original {}",
+            hex(original)
+        )
+    };
+    same(
+        &reading(&expected),
+        &raw::reread(original, option_start),
+        &shown,
+    )?;
+    same(
+        &expected.map(|reading| wrapped(&reading)),
+        &wuraketozo::reread(original, option_start).map_err(|refusal| refusal.number()),
+        &shown,
+    )?;
+    if let Ok(found) = expected {
+        listed(random, counts, original, &found, &shown)?;
+    }
+    Ok(())
+}
+
+fn count_reading(counts: &mut Counts, call: &str, expected: &Result<plain::Reading, u32>) {
+    match expected {
+        Err(number) => counts.add(call, &number.to_string()),
+        Ok(reading) => {
+            counts.add(call, reading.verdict.word());
+            counts.add(
+                call,
+                match reading.apc {
+                    plain::Apc::None => "APC none",
+                    plain::Apc::Right => "APC right",
+                    plain::Apc::Wrong => "APC wrong",
+                },
+            );
+        }
+    }
+}
+
+/// The list of a reading, in a buffer that is too small, just right, or
+/// larger, and each option in it.
+fn listed(
+    random: &mut Random,
+    counts: &mut Counts,
+    bytes: &[u8],
+    found: &plain::Reading,
+    shown: &dyn Fn() -> String,
+) -> Check {
+    let mut whole = vec![0; bytes.len() + 200];
+    let size = plain::list_options(bytes, found, &mut whole)
+        .map(|listing| listing.length)
+        .map_err(|number| format!("{}: the reference lists {number}", shown()))?;
+    let room = match random.below(5) {
+        0 => size - 1,
+        1 => random.below(size + 2),
+        2 => size + 1 + random.below(40),
+        _ => size,
+    };
+    let before = random.byte();
+    let mut left = vec![before; room];
+    let mut right = left.clone();
+    let expected = plain::list_options(bytes, found, &mut left);
+    let shown = || format!("{}, listed into {room} bytes of {before:02x}", shown());
+    match expected {
+        Ok(_) => counts.add("list", "taken"),
+        Err(number) => counts.add("list", &number.to_string()),
+    }
+    // By the C struct or by the wrapper.
+    let answer = if random.one_in(2) {
+        raw::list(
+            bytes,
+            reading(&Ok(*found)).verdict,
+            found.options_from,
+            found.options_to,
+            &mut right,
+        )
+    } else {
+        as_raw(wuraketozo::list(bytes, &wrapped(found), &mut right))
+    };
+    same(&listing(&expected), &answer, &shown)?;
+    same_bytes(&left, &right, &shown)?;
+    if expected.is_ok() {
+        let options: Vec<wuraketozo::Entry> =
+            found.options(bytes).map(|option| entry(&option)).collect();
+        let entries: Vec<wuraketozo::Entry> = wuraketozo::entries(&right).collect();
+        same(&options, &entries, &shown)?;
+    }
+    Ok(())
+}
+
+fn listing(result: &Result<plain::Listing, u32>) -> raw::Listing {
+    match result {
+        Ok(listing) => raw::Listing {
+            refusal: 0,
+            size: listing.length,
+            fill: listing.fill,
+        },
+        Err(number) => raw::Listing {
+            refusal: *number,
+            ..raw::Listing::default()
+        },
+    }
+}
+
+fn as_raw(result: Result<wuraketozo::Listing, wuraketozo::Refusal>) -> raw::Listing {
+    match result {
+        Ok(listing) => raw::Listing {
+            refusal: 0,
+            size: listing.size,
+            fill: listing.fill,
+        },
+        Err(refusal) => raw::Listing {
+            refusal: refusal.number(),
+            ..raw::Listing::default()
+        },
+    }
+}
+
+/// The list of a reading that no reader gave: the options of the range if
+/// the verdict is "read" and the range lies in the bytes and holds a sound
+/// list; else none. A sound list is what an original may have, so the
+/// reference reads the range as one behind an option checksum of 0.
+fn made_up(random: &mut Random, counts: &mut Counts, bytes: &[u8]) -> Check {
+    // Longer ones would be too long for an original.
+    let bytes = bytes.get(..65_505).unwrap_or(bytes);
+    let length = bytes.len();
+    let verdict = random.pick(&[9, 9, 9, 9, 0, 5, 8, 10, 11, u32::MAX]);
+    let mut ends = [random.below(length + 1), random.below(length + 1)];
+    ends.sort_unstable();
+    let [mut from, mut to] = ends;
+    match random.below(12) {
+        0 => (from, to) = (to, from),
+        1 => to = length + 1,
+        2 => to = usize::MAX,
+        3 => (from, to) = (usize::MAX, usize::MAX),
+        4 => (from, to) = (usize::MAX, 0),
+        5..=8 => (from, to) = (length.min(10), length),
+        _ => {}
+    }
+    let mut original = vec![0, 0];
+    if verdict == 9 && from <= to {
+        original.extend(bytes.get(from..to).unwrap_or(&[]));
+    }
+    let none = plain::Rereading {
+        user: plain::Range { from: 0, to: 0 },
+        verdict: plain::Verdict::None,
+        options_from: 0,
+        options_to: 0,
+        count: 0,
+        fill: 0,
+        apc: plain::Apc::None,
+    };
+    let found = match plain::reread(&original, 0) {
+        Ok(found) if found.verdict == plain::Verdict::Read => found,
+        _ => none,
+    };
+    let room = random.pick(&[0, 1, 2, 8, 200, length + 8, length + 8, length + 8]);
+    let mut left = vec![0x77; room];
+    let mut right = left.clone();
+    let expected = plain::list_reread(&original, &found, &mut left);
+    let call = "list of a made-up reading";
+    match expected {
+        Ok(_) if found.count == 0 => counts.add(call, "no option"),
+        Ok(_) => counts.add(call, "options"),
+        Err(number) => counts.add(call, &number.to_string()),
+    }
+    let answer = raw::list(bytes, verdict, from, to, &mut right);
+    let shown = || {
+        format!(
+            "list, verdict {verdict}, options {from} to {to}, {room} bytes of 77, of {}",
+            hex(bytes)
+        )
+    };
+    same(&listing(&expected), &answer, &shown)?;
+    same_bytes(&left, &right, &shown)
+}
+
+/// The writer, on the whole buffer lent, and what was written read again.
+fn write(random: &mut Random, counts: &mut Counts) -> Check {
+    let writing = generate::writing(random);
+    let before = random.byte();
+    let mut left = vec![before; writing.buffer];
+    let mut right = left.clone();
+    let expected = writing.run(&mut left);
+    match expected {
+        Ok(_) => counts.add("write", "taken"),
+        Err(number) => counts.add("write", &number.to_string()),
+    }
+    let answer = if random.one_in(2) {
+        raw::write(
+            writing.source,
+            writing.destination,
+            writing.source_port,
+            writing.destination_port,
+            &writing.user,
+            &writing.docket,
+            writing.fill,
+            &mut right,
+        )
+    } else {
+        let flow = wuraketozo::Flow {
+            source: writing.source,
+            destination: writing.destination,
+            source_port: writing.source_port,
+            destination_port: writing.destination_port,
+        };
+        let result = wuraketozo::write(
+            &flow,
+            &writing.user,
+            &writing.docket,
+            writing.fill,
+            &mut right,
+        );
+        written_raw(result.map_err(|refusal| refusal.number()))
+    };
+    let shown = || {
+        format!(
+            "write, source {}, destination {}, ports {} and {}, list {}, fill {}, {} bytes of {before:02x}, user {}",
+            hex(&writing.source),
+            hex(&writing.destination),
+            writing.source_port,
+            writing.destination_port,
+            hex(&writing.docket),
+            writing.fill,
+            writing.buffer,
+            hex(&writing.user)
+        )
+    };
+    same(&written_raw(expected), &answer, &shown)?;
+    same_bytes(&left, &right, &shown)?;
+    if let Ok(length) = expected {
+        let datagram = Datagram {
+            source: writing.source,
+            destination: writing.destination,
+            payload: right[..length].to_vec(),
+        };
+        read(random, counts, &datagram)?;
+    }
+    Ok(())
+}
+
+fn written_raw(result: Result<usize, u32>) -> raw::Written {
+    match result {
+        Ok(size) => raw::Written { refusal: 0, size },
+        Err(number) => raw::Written {
+            refusal: number,
+            size: 0,
+        },
+    }
+}
+
+/// Every kind with every length byte, alone and behind another option, and
+/// every short payload with every short UDP length. Counts the payloads.
+pub fn sweep(random: &mut Random, counts: &mut Counts) -> Result<u64, String> {
+    let mut payloads = 0;
+    let mut look = |random: &mut Random, payload: Vec<u8>| {
+        payloads += 1;
+        let datagram = Datagram {
+            source: [192, 0, 2, 1],
+            destination: [198, 51, 100, 7],
+            payload,
+        };
+        read(random, counts, &datagram)
+    };
+    for kind in 0..=255 {
+        for length in 0..=255 {
+            // Without checksums; FRAG's start is 22 and its offsets are 9.
+            let mut payload = vec![1, 2, 3, 4, 0, 8, 0, 0, 0, 0, kind, length, 0, 22];
+            payload.extend([0, 0, 0, 5, 0, 9, 0, 9, 1, 1]);
+            if length > 100 {
+                payload.extend([9, 2].repeat(140));
+            }
+            look(random, payload)?;
+        }
+    }
+    for size in 0..24 {
+        for length in 0..30 {
+            for fill in [0, 1, 4, 192] {
+                let mut payload = vec![fill; size];
+                if let Some(field) = payload.get_mut(4..8) {
+                    field.copy_from_slice(&[0, length, 0, 0]);
+                }
+                look(random, payload)?;
+            }
+        }
+    }
+    Ok(payloads)
+}
+
+/// Compares two answers.
+pub fn same<T: PartialEq + std::fmt::Debug>(
+    expected: &T,
+    found: &T,
+    shown: &dyn Fn() -> String,
+) -> Check {
+    if expected == found {
+        return Ok(());
+    }
+    Err(format!(
+        "{}\n  reference: {expected:?}\n  library:   {found:?}",
+        shown()
+    ))
+}
+
+/// Compares two buffers and shows the first byte that differs.
+pub fn same_bytes(expected: &[u8], found: &[u8], shown: &dyn Fn() -> String) -> Check {
+    if expected == found {
+        return Ok(());
+    }
+    let at = expected
+        .iter()
+        .zip(found)
+        .position(|(left, right)| left != right);
+    let at = at.unwrap_or(expected.len().min(found.len()));
+    Err(format!(
+        "{}\n  byte {at} is {:02x?} in the reference and {:02x?} in the library",
+        shown(),
+        expected.get(at),
+        found.get(at)
+    ))
+}

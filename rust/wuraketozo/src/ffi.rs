@@ -1,0 +1,440 @@
+//! The C surface, as `include/wuraketozo.h` declares it, and safe calls of
+//! it. All unsafe code of this crate is here.
+//!
+//! What the header asks of a caller, and why every call here meets it:
+//! - pointers lead to as many bytes or records as the length says and are
+//!   not null: they come from slices, whose pointers are never null;
+//! - what may be written does not overlap anything else that is lent, and no
+//!   other thread uses it: it comes from a `&mut`;
+//! - each `bool` in a record is 0 or 1: it is a Rust `bool`.
+
+use crate::record::{Account, Client, Flow};
+use core::mem::{align_of, offset_of, size_of};
+
+#[repr(C)]
+#[derive(Clone, Copy)]
+struct Address {
+    octets: [u8; 4],
+}
+
+impl Address {
+    fn of(octets: [u8; 4]) -> Address {
+        Address { octets }
+    }
+}
+
+/// `wuraketozo_reading`
+#[repr(C)]
+#[derive(Clone, Copy, Debug, Default, PartialEq, Eq)]
+pub struct Reading {
+    pub refusal: u32,
+    pub verdict: u32,
+    pub user_from: usize,
+    pub user_to: usize,
+    pub options_from: usize,
+    pub options_to: usize,
+    pub count: usize,
+    pub fill: usize,
+    pub apc: u32,
+    pub identification: u32,
+    pub place: usize,
+    pub start: usize,
+    pub end: usize,
+    pub option_start: usize,
+    pub last: u32,
+}
+
+/// `wuraketozo_listing`
+#[repr(C)]
+#[derive(Clone, Copy, Debug, Default, PartialEq, Eq)]
+pub struct Listing {
+    pub refusal: u32,
+    pub size: usize,
+    pub fill: usize,
+}
+
+/// `wuraketozo_written`
+#[repr(C)]
+#[derive(Clone, Copy, Debug, Default, PartialEq, Eq)]
+pub struct Written {
+    pub refusal: u32,
+    pub size: usize,
+}
+
+/// `wuraketozo_answer`
+#[repr(C)]
+#[derive(Clone, Copy, Debug, Default, PartialEq, Eq)]
+pub struct Answer {
+    pub refusal: u32,
+    pub outcome: u32,
+    pub length: usize,
+    pub option_start: usize,
+    pub figures: Account,
+}
+
+/// `wuraketozo_fragment`
+#[repr(C)]
+#[derive(Clone, Copy, Debug, Default, PartialEq, Eq)]
+pub struct Fragment {
+    pub time: u64,
+    pub flow: Flow,
+    pub identification: u32,
+    pub place: usize,
+    pub option_start: usize,
+    pub last: u32,
+}
+
+/// `wuraketozo_received`
+#[repr(C)]
+#[derive(Clone, Copy, Debug, Default, PartialEq, Eq)]
+pub struct Received {
+    pub what: u32,
+    pub reading: Reading,
+    pub answer: Answer,
+}
+
+mod c {
+    use super::{Address, Answer, Client, Fragment, Listing, Reading, Received, Written};
+
+    extern "C" {
+        pub fn wuraketozo_read(
+            payload: *const u8,
+            length: usize,
+            source: Address,
+            destination: Address,
+        ) -> Reading;
+        pub fn wuraketozo_reread(
+            original: *const u8,
+            length: usize,
+            option_start: usize,
+        ) -> Reading;
+        pub fn wuraketozo_list(
+            bytes: *const u8,
+            length: usize,
+            verdict: u32,
+            options_from: usize,
+            options_to: usize,
+            buffer: *mut u8,
+            room: usize,
+        ) -> Listing;
+        pub fn wuraketozo_write(
+            source: Address,
+            destination: Address,
+            source_port: u16,
+            destination_port: u16,
+            user: *const u8,
+            user_length: usize,
+            list: *const u8,
+            list_length: usize,
+            fill: u8,
+            buffer: *mut u8,
+            room: usize,
+        ) -> Written;
+        pub fn wuraketozo_record_size() -> usize;
+        pub fn wuraketozo_share_size() -> usize;
+        pub fn wuraketozo_out_size() -> usize;
+        pub fn wuraketozo_client_limit() -> usize;
+        pub fn wuraketozo_reset(
+            records: *mut Client,
+            count: usize,
+            store: *const u8,
+            store_length: usize,
+        ) -> Answer;
+        pub fn wuraketozo_offer(
+            records: *mut Client,
+            count: usize,
+            store: *mut u8,
+            store_length: usize,
+            k: usize,
+            fragment: Fragment,
+            bytes: *const u8,
+            length: usize,
+            out: *mut u8,
+            room: usize,
+        ) -> Answer;
+        pub fn wuraketozo_advance(
+            records: *mut Client,
+            count: usize,
+            store: *const u8,
+            store_length: usize,
+            k: usize,
+            time: u64,
+        ) -> Answer;
+        pub fn wuraketozo_account(
+            records: *const Client,
+            count: usize,
+            store: *const u8,
+            store_length: usize,
+            k: usize,
+        ) -> Answer;
+        pub fn wuraketozo_receive(
+            records: *mut Client,
+            count: usize,
+            store: *mut u8,
+            store_length: usize,
+            k: usize,
+            time: u64,
+            source: Address,
+            destination: Address,
+            payload: *const u8,
+            length: usize,
+            out: *mut u8,
+            room: usize,
+        ) -> Received;
+    }
+}
+
+pub fn read(payload: &[u8], source: [u8; 4], destination: [u8; 4]) -> Reading {
+    // SAFETY: see the head of this file.
+    unsafe {
+        c::wuraketozo_read(
+            payload.as_ptr(),
+            payload.len(),
+            Address::of(source),
+            Address::of(destination),
+        )
+    }
+}
+
+pub fn reread(original: &[u8], option_start: usize) -> Reading {
+    // SAFETY: see the head of this file.
+    unsafe { c::wuraketozo_reread(original.as_ptr(), original.len(), option_start) }
+}
+
+pub fn list(
+    bytes: &[u8],
+    verdict: u32,
+    options_from: usize,
+    options_to: usize,
+    buffer: &mut [u8],
+) -> Listing {
+    // SAFETY: see the head of this file.
+    unsafe {
+        c::wuraketozo_list(
+            bytes.as_ptr(),
+            bytes.len(),
+            verdict,
+            options_from,
+            options_to,
+            buffer.as_mut_ptr(),
+            buffer.len(),
+        )
+    }
+}
+
+#[allow(clippy::too_many_arguments)]
+pub fn write(
+    source: [u8; 4],
+    destination: [u8; 4],
+    source_port: u16,
+    destination_port: u16,
+    user: &[u8],
+    list: &[u8],
+    fill: u8,
+    buffer: &mut [u8],
+) -> Written {
+    // SAFETY: see the head of this file.
+    unsafe {
+        c::wuraketozo_write(
+            Address::of(source),
+            Address::of(destination),
+            source_port,
+            destination_port,
+            user.as_ptr(),
+            user.len(),
+            list.as_ptr(),
+            list.len(),
+            fill,
+            buffer.as_mut_ptr(),
+            buffer.len(),
+        )
+    }
+}
+
+/// The sizes that the library was built with: of a record, of a share of
+/// the store, of the smallest out buffer, and the most clients.
+pub fn sizes() -> [usize; 4] {
+    // SAFETY: these take nothing and touch nothing.
+    unsafe {
+        [
+            c::wuraketozo_record_size(),
+            c::wuraketozo_share_size(),
+            c::wuraketozo_out_size(),
+            c::wuraketozo_client_limit(),
+        ]
+    }
+}
+
+pub fn reset(records: &mut [Client], store: &[u8]) -> Answer {
+    // SAFETY: see the head of this file.
+    unsafe {
+        c::wuraketozo_reset(
+            records.as_mut_ptr(),
+            records.len(),
+            store.as_ptr(),
+            store.len(),
+        )
+    }
+}
+
+pub fn offer(
+    records: &mut [Client],
+    store: &mut [u8],
+    k: usize,
+    fragment: Fragment,
+    bytes: &[u8],
+    out: &mut [u8],
+) -> Answer {
+    // SAFETY: see the head of this file.
+    unsafe {
+        c::wuraketozo_offer(
+            records.as_mut_ptr(),
+            records.len(),
+            store.as_mut_ptr(),
+            store.len(),
+            k,
+            fragment,
+            bytes.as_ptr(),
+            bytes.len(),
+            out.as_mut_ptr(),
+            out.len(),
+        )
+    }
+}
+
+pub fn advance(records: &mut [Client], store: &[u8], k: usize, time: u64) -> Answer {
+    // SAFETY: see the head of this file.
+    unsafe {
+        c::wuraketozo_advance(
+            records.as_mut_ptr(),
+            records.len(),
+            store.as_ptr(),
+            store.len(),
+            k,
+            time,
+        )
+    }
+}
+
+pub fn account(records: &[Client], store: &[u8], k: usize) -> Answer {
+    // SAFETY: see the head of this file.
+    unsafe {
+        c::wuraketozo_account(
+            records.as_ptr(),
+            records.len(),
+            store.as_ptr(),
+            store.len(),
+            k,
+        )
+    }
+}
+
+#[allow(clippy::too_many_arguments)]
+pub fn receive(
+    records: &mut [Client],
+    store: &mut [u8],
+    k: usize,
+    time: u64,
+    source: [u8; 4],
+    destination: [u8; 4],
+    payload: &[u8],
+    out: &mut [u8],
+) -> Received {
+    // SAFETY: see the head of this file.
+    unsafe {
+        c::wuraketozo_receive(
+            records.as_mut_ptr(),
+            records.len(),
+            store.as_mut_ptr(),
+            store.len(),
+            k,
+            time,
+            Address::of(source),
+            Address::of(destination),
+            payload.as_ptr(),
+            payload.len(),
+            out.as_mut_ptr(),
+            out.len(),
+        )
+    }
+}
+
+/// A struct's name in C, its size, and where its fields stand.
+#[cfg(test)]
+type Layout = (&'static str, usize, &'static [(&'static str, usize)]);
+
+/// States the size and alignment of each struct and where its fields stand,
+/// as C lays the header's structs out on x86-64.
+macro_rules! layouts {
+    ($($name:ident $c:literal $size:literal $align:literal: $($field:ident $at:literal),+;)+) => {
+        $(const _: () = {
+            assert!(size_of::<$name>() == $size);
+            assert!(align_of::<$name>() == $align);
+            $(assert!(offset_of!($name, $field) == $at);)+
+        };)+
+
+        #[cfg(test)]
+        const LAYOUTS: &[Layout] = &[
+            $(($c, $size, &[$((stringify!($field), $at)),+])),+
+        ];
+    };
+}
+
+use crate::record::{Assembly, Held};
+
+layouts! {
+    Address "wuraketozo_address" 4 1: octets 0;
+    Flow "wuraketozo_flow" 12 2: source 0, destination 4, source_port 8, destination_port 10;
+    Held "wuraketozo_held" 8 2: offset 0, length 2, option_start 4, last 6;
+    Assembly "wuraketozo_assembly" 160 8:
+        flow 0, identification 12, opened 16, count 24, fragments 26;
+    Client "wuraketozo_client" 704 8:
+        time 0, offered 8, held 16, delivered 24, expired 32, conflicted 40, repeated 48,
+        rejected 56, assemblies 64;
+    Account "wuraketozo_figures" 56 8:
+        offered 0, held 8, delivered 16, expired 24, conflicted 32, repeated 40, rejected 48;
+    Reading "wuraketozo_reading" 104 8:
+        refusal 0, verdict 4, user_from 8, user_to 16, options_from 24, options_to 32, count 40,
+        fill 48, apc 56, identification 60, place 64, start 72, end 80, option_start 88, last 96;
+    Listing "wuraketozo_listing" 24 8: refusal 0, size 8, fill 16;
+    Written "wuraketozo_written" 16 8: refusal 0, size 8;
+    Answer "wuraketozo_answer" 80 8:
+        refusal 0, outcome 4, length 8, option_start 16, figures 24;
+    Fragment "wuraketozo_fragment" 48 8:
+        time 0, flow 8, identification 20, place 24, option_start 32, last 40;
+    Received "wuraketozo_received" 192 8: what 0, reading 8, answer 112;
+}
+
+#[cfg(test)]
+mod tests {
+    use super::LAYOUTS;
+    use std::io::Write;
+    use std::process::{Command, Stdio};
+
+    /// The header has these layouts too: gcc is asked, where there is one.
+    #[test]
+    fn the_header_agrees() {
+        let mut text = String::from("#include \"wuraketozo.h\"\n");
+        for (name, size, fields) in LAYOUTS {
+            text += &format!("_Static_assert(sizeof({name}) == {size}, \"{name}\");\n");
+            for (field, at) in *fields {
+                text += &format!(
+                    "_Static_assert(offsetof({name}, {field}) == {at}, \"{name}.{field}\");\n"
+                );
+            }
+        }
+        let include = concat!(env!("CARGO_MANIFEST_DIR"), "/../../include");
+        let spawned = Command::new("gcc")
+            .args(["-std=c11", "-Wall", "-Wextra", "-Werror", "-I", include])
+            .args(["-fsyntax-only", "-x", "c", "-"])
+            .stdin(Stdio::piped())
+            .spawn();
+        let Ok(mut gcc) = spawned else {
+            println!("gcc is missing, so the header is not looked at");
+            return;
+        };
+        let written = gcc.stdin.take().map(|mut to| to.write_all(text.as_bytes()));
+        assert!(matches!(written, Some(Ok(()))));
+        assert!(gcc.wait().unwrap().success());
+    }
+}

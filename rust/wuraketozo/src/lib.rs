@@ -1,0 +1,44 @@
+//! Safe Rust over the proved library for UDP datagrams with the options of
+//! RFC 9868: a reader, a writer, and reassembly for up to 12 clients that do
+//! not show in each other's accounts.
+//!
+//! Every call takes any input: what can't be taken is refused, and nothing
+//! panics. What the library answers and what it leaves in each buffer and
+//! record is proved; this crate only passes it on.
+#![deny(unsafe_code)]
+#![warn(missing_docs)]
+
+#[allow(unsafe_code, missing_docs)]
+mod ffi;
+mod options;
+mod reading;
+mod record;
+mod refusal;
+mod table;
+mod writing;
+
+pub use options::{entries, list, Entries, Entry, Listing, Value};
+pub use reading::{read, reread, Apc, Fragment, Reading, Verdict};
+pub use record::{Account, Assembly, Client, Flow, Held, CLIENT_LIMIT, ORIGINAL_LIMIT, SHARE};
+pub use refusal::Refusal;
+pub use table::{Answer, Arrival, Received, Table};
+pub use writing::write;
+
+/// Whether the library linked has the sizes that this crate was written for.
+///
+/// ```
+/// assert!(wuraketozo::fits());
+/// ```
+pub fn fits() -> bool {
+    let record = core::mem::size_of::<Client>();
+    ffi::sizes() == [record, SHARE, ORIGINAL_LIMIT, CLIENT_LIMIT]
+}
+
+/// The C structs as the library filled them, for tests.
+#[cfg(feature = "raw")]
+pub mod raw {
+    pub use crate::ffi::{
+        account, advance, list, offer, read, receive, reread, reset, write, Answer, Fragment,
+        Listing, Reading, Received, Written,
+    };
+}

@@ -1,0 +1,99 @@
+//! A client's record, as C and Rust share it.
+
+/// The longest original that is put together, the smallest out buffer, and
+/// the bytes of the store for one assembly.
+pub const ORIGINAL_LIMIT: usize = 4_096;
+/// The bytes of the store for one client: four assemblies.
+pub const SHARE: usize = 16_384;
+/// The most clients of a table.
+pub const CLIENT_LIMIT: usize = 12;
+
+/// Where a datagram comes from and goes to.
+#[repr(C)]
+#[derive(Clone, Copy, Debug, Default, PartialEq, Eq, Hash)]
+pub struct Flow {
+    /// IPv4, first byte first.
+    pub source: [u8; 4],
+    /// IPv4, first byte first.
+    pub destination: [u8; 4],
+    /// UDP source port.
+    pub source_port: u16,
+    /// UDP destination port.
+    pub destination_port: u16,
+}
+
+/// A fragment that is held.
+#[repr(C)]
+#[derive(Clone, Copy, Debug, Default, PartialEq, Eq)]
+pub struct Held {
+    /// Its first byte's place in the original.
+    pub offset: u16,
+    /// Its bytes.
+    pub length: u16,
+    /// Where the original's options start; counts only if it is the last.
+    pub option_start: u16,
+    /// Whether it is the original's last.
+    pub last: bool,
+}
+
+/// An original that is being put together. It is live if its count is not 0.
+#[repr(C)]
+#[derive(Clone, Copy, Debug, Default, PartialEq, Eq)]
+pub struct Assembly {
+    /// With the identification, the key.
+    pub flow: Flow,
+    /// FRAG's identification.
+    pub identification: u32,
+    /// When its first fragment came, in ms.
+    pub opened: u64,
+    /// Fragments held.
+    pub count: u8,
+    /// The first `count` of them are in use, in order of arrival.
+    pub fragments: [Held; 16],
+}
+
+/// One client's record. `Client::default()` is a fresh one. A host need not
+/// look inside; a record with values that no call left is refused with 22
+/// ([`Refusal::UnsoundRecord`](crate::Refusal::UnsoundRecord)).
+#[repr(C)]
+#[derive(Clone, Copy, Debug, Default, PartialEq, Eq)]
+pub struct Client {
+    /// The time of the last call taken, in ms.
+    pub time: u64,
+    /// Bytes offered, the sum of the six figures below.
+    pub offered: u64,
+    /// Bytes of fragments that wait for the rest of their original.
+    pub held: u64,
+    /// Bytes handed out.
+    pub delivered: u64,
+    /// Bytes dropped because their original took 120,000 ms or more.
+    pub expired: u64,
+    /// Bytes dropped in conflicts.
+    pub conflicted: u64,
+    /// Bytes that came again.
+    pub repeated: u64,
+    /// Bytes turned away (refusals 29 and 30).
+    pub rejected: u64,
+    /// What is being put together.
+    pub assemblies: [Assembly; 4],
+}
+
+/// A client's account: what became of every byte it was offered.
+#[repr(C)]
+#[derive(Clone, Copy, Debug, Default, PartialEq, Eq)]
+pub struct Account {
+    /// Bytes offered, the sum of the six figures below.
+    pub offered: u64,
+    /// Bytes of fragments that wait for the rest of their original.
+    pub held: u64,
+    /// Bytes handed out.
+    pub delivered: u64,
+    /// Bytes dropped because their original took 120,000 ms or more.
+    pub expired: u64,
+    /// Bytes dropped in conflicts.
+    pub conflicted: u64,
+    /// Bytes that came again.
+    pub repeated: u64,
+    /// Bytes turned away (refusals 29 and 30).
+    pub rejected: u64,
+}

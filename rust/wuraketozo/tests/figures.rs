@@ -1,0 +1,280 @@
+//! Document 01, "Figures to check by hand", on the proved library.
+
+use wuraketozo::*;
+
+const FLOW: Flow = Flow {
+    source: [192, 0, 2, 1],
+    destination: [198, 51, 100, 7],
+    source_port: 4_660,
+    destination_port: 53,
+};
+
+/// The surplus area that the writer makes.
+fn area(user: &[u8], list: &[u8], fill: u8) -> Vec<u8> {
+    let mut buffer = [0xEE; 400];
+    let length = write(&FLOW, user, list, fill, &mut buffer).unwrap();
+    assert!(buffer[length..].iter().all(|&byte| byte == 0xEE));
+    buffer[8 + user.len()..length].to_vec()
+}
+
+/// The verdict on an area behind user data, with UDP checksum 0.
+fn verdict(user: &[u8], area: &[u8]) -> Verdict {
+    let length = (8 + user.len()) as u16;
+    let mut payload = vec![0, 1, 0, 2];
+    payload.extend(length.to_be_bytes());
+    payload.extend([0, 0]);
+    payload.extend(user);
+    payload.extend(area);
+    read(&payload, FLOW.source, FLOW.destination)
+        .unwrap()
+        .verdict
+}
+
+/// A table of one client, and calls with fewer words.
+struct One {
+    records: Vec<Client>,
+    store: Vec<u8>,
+    out: Vec<u8>,
+}
+
+impl One {
+    fn new() -> One {
+        let mut one = One {
+            records: vec![Client::default()],
+            store: vec![0x5A; SHARE],
+            out: vec![0xEE; ORIGINAL_LIMIT],
+        };
+        one.table().reset().unwrap();
+        one
+    }
+
+    fn table(&mut self) -> Table<'_> {
+        Table::new(&mut self.records, &mut self.store)
+    }
+
+    fn offer(
+        &mut self,
+        time: u64,
+        identification: u32,
+        place: usize,
+        bytes: &[u8],
+        last: bool,
+    ) -> Result<Answer, Refusal> {
+        let arrival = Arrival {
+            time,
+            flow: FLOW,
+            identification,
+            place,
+            last,
+            option_start: 0,
+        };
+        let mut table = Table::new(&mut self.records, &mut self.store);
+        table.offer(0, &arrival, bytes, &mut self.out)
+    }
+
+    fn account(&mut self) -> Account {
+        self.table().account(0).unwrap()
+    }
+}
+
+#[test]
+fn figures_1_to_4_areas_written() {
+    let token = [1, 6, 0xAC, 2];
+    assert_eq!(area(&[], &token, 0), [0xF8, 0xC5, 6, 6, 0, 0, 1, 0x2C]);
+    assert_eq!(area(&[7], &token, 0), [0, 0xF8, 0xC4, 6, 6, 0, 0, 1, 0x2C]);
+    assert_eq!(area(&[], &[0], 0), [0xFF, 0xFD]);
+    // 63,985 as a seven-bit number is F1 F3 03.
+    let area = area(&[], &[1, 6, 0xF1, 0xF3, 3], 0);
+    assert_eq!(area[..2], [0xFF, 0xFF]);
+    assert_eq!(verdict(&[], &area), Verdict::Read);
+}
+
+#[test]
+fn figures_5_to_7_verdicts() {
+    assert_eq!(verdict(&[], &[0]), Verdict::Short);
+    assert_eq!(verdict(&[7], &[1, 0xFF, 0xFD]), Verdict::Pad);
+    let malformed = [0, 0, 6, 5, 0, 0, 0];
+    assert_eq!(verdict(&[], &malformed), Verdict::Malformed);
+}
+
+#[test]
+fn figure_8_list_not_in_shortest_form() {
+    let mut buffer = [0xEE; 64];
+    let refused = write(&FLOW, &[], &[1, 6, 0x80, 0], 0, &mut buffer);
+    assert_eq!(refused, Err(Refusal::UnreadableList));
+    assert_eq!(refused.unwrap_err().number(), 7);
+    assert_eq!(buffer, [0xEE; 64]);
+}
+
+#[test]
+fn figure_9_either_order() {
+    let delivered = Ok(Answer::Delivered {
+        length: 12,
+        option_start: 0,
+    });
+    let mut one = One::new();
+    assert_eq!(one.offer(0, 7, 0, b"01234567", false), Ok(Answer::Stored));
+    assert_eq!(one.offer(0, 7, 8, b"89ab", true), delivered);
+    assert_eq!(&one.out[..12], b"0123456789ab");
+    assert!(one.out[12..].iter().all(|&byte| byte == 0xEE));
+    let mut one = One::new();
+    assert_eq!(one.offer(0, 7, 8, b"89ab", true), Ok(Answer::Stored));
+    assert_eq!(one.offer(0, 7, 0, b"01234567", false), delivered);
+    assert_eq!(&one.out[..12], b"0123456789ab");
+    assert_eq!(one.account().delivered, 12);
+}
+
+#[test]
+fn figure_10_conflict() {
+    let mut one = One::new();
+    assert_eq!(one.offer(0, 7, 0, b"01234567", false), Ok(Answer::Stored));
+    assert_eq!(one.offer(0, 7, 7, b"78", false), Ok(Answer::Conflict));
+    let account = one.account();
+    assert_eq!((account.offered, account.conflicted), (10, 10));
+}
+
+#[test]
+fn figure_11_expiry() {
+    let mut one = One::new();
+    assert_eq!(one.offer(0, 7, 0, b"01234567", false), Ok(Answer::Stored));
+    assert_eq!(one.table().advance(0, 119_999), Ok(()));
+    assert_eq!(one.account().held, 8);
+    assert_eq!(one.table().advance(0, 120_000), Ok(()));
+    let account = one.account();
+    assert_eq!((account.held, account.expired), (0, 8));
+    assert_eq!(
+        one.table().advance(0, 119_999),
+        Err(Refusal::TimeBeforeLast)
+    );
+}
+
+#[test]
+fn figure_12_fifth_key() {
+    let mut one = One::new();
+    assert_eq!(one.offer(0, 0, 0, b"x", false), Ok(Answer::Stored));
+    for identification in 1..4 {
+        let answer = one.offer(10, identification, 0, b"x", false);
+        assert_eq!(answer, Ok(Answer::Stored));
+    }
+    assert_eq!(
+        one.offer(11, 4, 0, b"x", false),
+        Err(Refusal::NoFreeAssembly)
+    );
+    assert_eq!(one.offer(120_000, 4, 0, b"x", false), Ok(Answer::Stored));
+    let account = one.account();
+    assert_eq!((account.rejected, account.expired), (1, 1));
+}
+
+#[test]
+fn figure_13_limits() {
+    let mut one = One::new();
+    assert_eq!(one.offer(0, 1, 4_095, b"x", false), Ok(Answer::Stored));
+    assert_eq!(
+        one.offer(0, 1, 4_096, b"x", false),
+        Err(Refusal::EndPastLimit)
+    );
+    for number in 0..16 {
+        assert_eq!(one.offer(0, 2, 2 * number, b"x", false), Ok(Answer::Stored));
+    }
+    assert_eq!(one.offer(0, 2, 32, b"x", false), Err(Refusal::AssemblyFull));
+    let mut options = vec![0, 0];
+    options.extend([9, 2].repeat(32));
+    assert_eq!(verdict(&[], &options), Verdict::Read);
+    options.extend([9, 2]);
+    assert_eq!(verdict(&[], &options), Verdict::Crowded);
+}
+
+#[test]
+fn written_read_and_listed() {
+    let list_in = [3, 2, 6, 0xAC, 2, 9, 2, 0xCA, 0xFE];
+    let mut payload = [0xEE; 64];
+    let length = write(&FLOW, b"level 412 cm", &list_in, 1, &mut payload).unwrap();
+    let payload = &payload[..length];
+    let reading = read(payload, FLOW.source, FLOW.destination).unwrap();
+    assert_eq!(reading.user_data(payload), b"level 412 cm");
+    assert_eq!(reading.verdict, Verdict::Read);
+    assert_eq!((reading.count, reading.fill), (3, 1));
+    assert_eq!(reading.apc, Apc::Right);
+    let mut buffer = [0xEE; 20];
+    let listing = list(payload, &reading, &mut buffer).unwrap();
+    assert_eq!(buffer[..listing.size], list_in);
+    assert_eq!(listing.fill, 1);
+    let short = list(payload, &reading, &mut buffer[..8]);
+    assert_eq!(short, Err(Refusal::TooLarge));
+    let kinds: Vec<u8> = entries(&list_in).map(|entry| entry.kind).collect();
+    assert_eq!(kinds, [2, 6, 9]);
+}
+
+#[test]
+fn one_call_for_each_datagram() {
+    // Two fragments of "level 412 cm", made by hand, both without sums.
+    let head = [0x12, 0x34, 0, 53, 0, 8, 0, 0, 0, 0];
+    let first = [&head[..], &[3, 10, 0, 20, 0, 0, 0, 7, 0, 8], b"level "].concat();
+    let last = [
+        &head[..],
+        &[3, 12, 0, 22, 0, 0, 0, 7, 0, 14, 0, 20],
+        b"412 cm",
+    ]
+    .concat();
+    let mut one = One::new();
+    let mut out = [0; ORIGINAL_LIMIT];
+    let mut table = one.table();
+    let mut receive =
+        |payload: &[u8]| table.receive(0, 5, FLOW.source, FLOW.destination, payload, &mut out);
+    assert_eq!(receive(&last), Received::Fragment(Ok(Answer::Stored)));
+    assert_eq!(receive(&last), Received::Fragment(Ok(Answer::Repeated)));
+    let delivered = Answer::Delivered {
+        length: 12,
+        option_start: 12,
+    };
+    assert_eq!(receive(&first), Received::Fragment(Ok(delivered)));
+    assert_eq!(
+        receive(&first[..7]),
+        Received::Unread(Refusal::PayloadTooShort)
+    );
+    let Received::Datagram(reading) = receive(&head[..8]) else {
+        panic!("no datagram");
+    };
+    assert_eq!(reading.verdict, Verdict::Bare);
+    assert_eq!(&out[..12], b"level 412 cm");
+}
+
+#[test]
+fn empty_slices_and_misfits_are_refused() {
+    assert_eq!(
+        read(&[], FLOW.source, FLOW.destination),
+        Err(Refusal::PayloadTooShort)
+    );
+    assert_eq!(reread(&[], 0).unwrap().verdict, Verdict::Bare);
+    let empty = write(&FLOW, &[], &[], 0, &mut []);
+    assert_eq!(empty, Err(Refusal::UnreadableList));
+    let mut table = Table::new(&mut [], &mut []);
+    assert_eq!(table.reset(), Err(Refusal::TableMisfit));
+    assert_eq!(table.account(0), Err(Refusal::TableMisfit));
+    let mut one = One::new();
+    assert_eq!(one.offer(0, 1, 0, &[], false), Err(Refusal::EmptyFragment));
+    assert_eq!(one.table().account(1), Err(Refusal::NoSuchClient));
+}
+
+#[test]
+fn forged_records_are_refused() {
+    let mut one = One::new();
+    one.records[0].held = 1;
+    assert_eq!(one.table().account(0), Err(Refusal::UnsoundRecord));
+    one.records[0] = Client::default();
+    assert_eq!(one.account(), Account::default());
+}
+
+#[test]
+fn numbers_of_refusals() {
+    let numbers: Vec<u32> = Refusal::ALL
+        .iter()
+        .map(|refusal| refusal.number())
+        .collect();
+    let expected: Vec<u32> = (1..=9).chain(20..=30).collect();
+    assert_eq!(numbers, expected);
+    assert_eq!(
+        Refusal::ChecksumWrong.to_string(),
+        "refused 4: the UDP checksum is wrong"
+    );
+}
