@@ -1,5 +1,5 @@
 #!/bin/sh
-# Instructions per call, counted by valgrind's callgrind: what 20 more runs of a case add to what 20 runs take. Prints a table, and
+# Instructions per call, counted by valgrind's callgrind: what four more runs of a case add to what four runs take. Prints a table, and
 # with a file puts it between the marks there. Build the benchmark first (make bench).
 set -eu
 cd "$(dirname "$0")/.."
@@ -13,9 +13,9 @@ total() {
 
 # each CASE SIDE CALLS: instructions of one call.
 each() {
-    few=$(total "$1" "$2" 20)
-    many=$(total "$1" "$2" 40)
-    echo $(((many - few) / (20 * $3)))
+    few=$(total "$1" "$2" 4)
+    many=$(total "$1" "$2" 8)
+    echo $(((many - few) / (4 * $3)))
 }
 
 {

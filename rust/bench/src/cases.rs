@@ -10,12 +10,15 @@ pub trait Side {
     fn run(&mut self);
 }
 
+/// Makes one side of a case.
+pub type Make = Box<dyn Fn() -> Box<dyn Side>>;
+
 /// A case: its name, the calls of one `run`, and both sides.
 pub struct Case {
     pub name: String,
     pub calls: usize,
-    pub library: Box<dyn Side>,
-    pub reference: Box<dyn Side>,
+    pub library: Make,
+    pub reference: Make,
 }
 
 const FLOW: Flow = Flow {
@@ -100,51 +103,58 @@ fn with_apc(apc: bool) -> &'static str {
 }
 
 fn read(size: usize, apc: bool) -> Case {
-    let (left, _) = payload(size, apc);
-    let right = left.clone();
     let calls = times(size);
     Case {
         name: format!("read {size} bytes, {}", with_apc(apc)),
         calls,
-        library: repeated(calls, move || {
-            let reading = wuraketozo::read(black_box(&left), FLOW.source, FLOW.destination);
-            let _ = black_box(reading);
+        library: Box::new(move || {
+            let (payload, _) = payload(size, apc);
+            repeated(calls, move || {
+                let reading = wuraketozo::read(black_box(&payload), FLOW.source, FLOW.destination);
+                let _ = black_box(reading);
+            })
         }),
-        reference: repeated(calls, move || {
-            let reading = plain::read(black_box(&right), FLOW.source, FLOW.destination);
-            let _ = black_box(reading);
+        reference: Box::new(move || {
+            let (payload, _) = payload(size, apc);
+            repeated(calls, move || {
+                let reading = plain::read(black_box(&payload), FLOW.source, FLOW.destination);
+                let _ = black_box(reading);
+            })
         }),
     }
 }
 
 fn write(size: usize, apc: bool) -> Case {
-    let (_, left) = payload(size, apc);
-    let right = left.clone();
-    let (list, _) = options(apc);
-    let other = list.clone();
-    let (mut one, mut two) = (vec![0; size], vec![0; size]);
     let calls = times(size);
     Case {
         name: format!("write {size} bytes, {}", with_apc(apc)),
         calls,
-        library: repeated(calls, move || {
-            let length = wuraketozo::write(&FLOW, black_box(&left), &list, 0, &mut one);
-            let _ = black_box(length);
-            black_box(&one);
+        library: Box::new(move || {
+            let (mut buffer, user) = payload(size, apc);
+            let (list, _) = options(apc);
+            repeated(calls, move || {
+                let length = wuraketozo::write(&FLOW, black_box(&user), &list, 0, &mut buffer);
+                let _ = black_box(length);
+                black_box(&buffer);
+            })
         }),
-        reference: repeated(calls, move || {
-            let length = plain::write(
-                FLOW.source,
-                FLOW.destination,
-                FLOW.source_port,
-                FLOW.destination_port,
-                black_box(&right),
-                &other,
-                0,
-                &mut two,
-            );
-            let _ = black_box(length);
-            black_box(&two);
+        reference: Box::new(move || {
+            let (mut buffer, user) = payload(size, apc);
+            let (list, _) = options(apc);
+            repeated(calls, move || {
+                let length = plain::write(
+                    FLOW.source,
+                    FLOW.destination,
+                    FLOW.source_port,
+                    FLOW.destination_port,
+                    black_box(&user),
+                    &list,
+                    0,
+                    &mut buffer,
+                );
+                let _ = black_box(length);
+                black_box(&buffer);
+            })
         }),
     }
 }
@@ -336,11 +346,13 @@ impl Side for Reference {
 }
 
 fn table(name: &str, before: &[Piece], work: Work) -> Case {
+    let (left, right) = (before.to_vec(), before.to_vec());
+    let other = work.clone();
     Case {
         name: name.into(),
         calls: work.calls(),
-        library: Box::new(Library::new(before, work.clone())),
-        reference: Box::new(Reference::new(before, work)),
+        library: Box::new(move || Box::new(Library::new(&left, work.clone()))),
+        reference: Box::new(move || Box::new(Reference::new(&right, other.clone()))),
     }
 }
 

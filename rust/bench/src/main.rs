@@ -40,16 +40,17 @@ struct Result {
 }
 
 /// Batches of both sides in turns, the first side changing each round.
-fn measure(case: &mut Case) -> Result {
+fn measure(case: &Case) -> Result {
+    let (mut one, mut two) = ((case.library)(), (case.reference)());
     let (mut library, mut reference, mut ratios) = (Vec::new(), Vec::new(), Vec::new());
     for round in 0..WARM_UP + ROUNDS {
         let (left, right);
         if round % 2 == 0 {
-            left = time(case.library.as_mut(), case.calls);
-            right = time(case.reference.as_mut(), case.calls);
+            left = time(one.as_mut(), case.calls);
+            right = time(two.as_mut(), case.calls);
         } else {
-            right = time(case.reference.as_mut(), case.calls);
-            left = time(case.library.as_mut(), case.calls);
+            right = time(two.as_mut(), case.calls);
+            left = time(one.as_mut(), case.calls);
         }
         if round >= WARM_UP {
             library.push(left);
@@ -95,11 +96,11 @@ fn count(words: &[String]) -> Option<()> {
     let [number, side, times] = words else {
         return None;
     };
-    let mut cases = cases::all();
-    let case = cases.get_mut(number.parse::<usize>().ok()?)?;
-    let side = match side.as_str() {
-        "library" => case.library.as_mut(),
-        "reference" => case.reference.as_mut(),
+    let cases = cases::all();
+    let case = cases.get(number.parse::<usize>().ok()?)?;
+    let mut side = match side.as_str() {
+        "library" => (case.library)(),
+        "reference" => (case.reference)(),
         _ => return None,
     };
     for _ in 0..times.parse::<usize>().ok()? {
@@ -130,7 +131,7 @@ fn main() -> ExitCode {
     println!(
         "The figures are medians over the rounds; the ratio is the median of the rounds' ratios.\n"
     );
-    let results: Vec<Result> = cases::all().iter_mut().map(measure).collect();
+    let results: Vec<Result> = cases::all().iter().map(measure).collect();
     let table = table(&results);
     print!("{table}");
     match words.first().map(|path| (path, update(path, &table))) {
