@@ -5,3 +5,4 @@ pub mod Steps
 pub mod Lists
 pub mod Isolation
 pub mod Demand3
+pub mod Corollaries
