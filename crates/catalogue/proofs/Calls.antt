@@ -17,7 +17,8 @@ use Rattle.compose.specs.Payload.{Datagram, payloadOf}
 use Rattle.compose.specs.declared.Written.the-variants.{Payload}
 use Rattle.compose.proofs.ReadBack.{backOf}
 use Rattle.compose.proofs.Claims.{write-reads-back}
-use Rattle.catalogue.proofs.Claims.{walkOf, written-lists-back, GivesList, listed-back}
+use Rattle.catalogue.specs.Back.{GivesList}
+use Rattle.catalogue.proofs.Claims.{walkOf, written-lists-back, listed-back}
 
 -- `exit` is what `write` leaves, `r` its reading, and `answer` and `left` what `list_reading` answers and leaves of `buffer`, which has room for the list
 pub call-lists-back : (source destination : List ℕ) (sourcePort destinationPort : ℕ) (user : List ℕ) (fill : ℕ) (list entry exit : List ℕ) (n : ℕ)
