@@ -1,4 +1,6 @@
 pub mod Puts
+pub mod Sizes
+pub mod Inputs
 pub mod Decimals
 pub mod Hexes
 pub mod Fields
