@@ -1,13 +1,13 @@
-// Reads 8 address bytes, source and then destination, and a payload from standard input, and writes the report on the payload.
+// Reads 8 address bytes, source and then destination, and a payload from standard input, and writes the text that `printout` makes of them.
 use libc::STDIN_FILENO;
 use libc::STDOUT_FILENO;
-use report::INPUT_LIMIT;
-use report::TEXT_LIMIT;
+use printout::INPUT_LIMIT;
+use printout::TEXT_LIMIT;
 
 fn main() {
     let mut input = [0u8; INPUT_LIMIT];
     let got = io::read_full(STDIN_FILENO, &mut input);
     let mut text = [0u8; TEXT_LIMIT];
-    let end = report::report_input(&input[..got], &mut text);
+    let end = printout::print(&input[..got], &mut text);
     io::write_all(STDOUT_FILENO, &text[..end]);
 }

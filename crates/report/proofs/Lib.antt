@@ -1,6 +1,4 @@
 pub mod Puts
-pub mod Sizes
-pub mod Inputs
 pub mod Decimals
 pub mod Hexes
 pub mod Fields

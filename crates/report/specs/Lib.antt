@@ -1,6 +1,5 @@
 pub mod Digits
 pub mod Words
 pub mod Report
-pub mod Input
 pub mod Put
 pub mod Sound

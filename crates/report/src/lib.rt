@@ -13,31 +13,9 @@ ghost use Prim.Native.Nat.{_≤_};
 ghost use lib.ListN.{length};
 ghost use Rattle.datagram.specs.Reading.{refusalNumber};
 ghost use Rattle.report.specs.Words.{wordOf};
-ghost use Rattle.report.specs.Input.{reportOfInput, Holds};
 ghost use Rattle.report.specs.Put.{Put};
 ghost use Rattle.report.specs.Report.{listingOf, readingText, reportOf, verdictLine};
 ghost use Rattle.report.specs.Sound.{Listable, Sound};
-
-// Both addresses.
-const ADDRESSES: usize = 8;
-
-// The addresses, and one byte more than a payload may have.
-pub const INPUT_LIMIT: usize = 65524;
-
-// No report is longer.
-pub const TEXT_LIMIT: usize = 140000;
-
-// The program's text for its whole input: source, destination and payload. Missing bytes are refusal 1.
-pub fn report_input(input: &[u8], text: &mut [u8; TEXT_LIMIT]) -> usize
-    ensures { λ r. ⌜ Holds (now (text .entry)) (reportOfInput (now (input .entry))) r (now (text .exit)) ⌝ }
-{
-    if input.len() < ADDRESSES {
-        return text::put_line(b"refused ", number_of(Refusal::PayloadTooShort), text, 0);
-    }
-    let source = [input[0], input[1], input[2], input[3]];
-    let destination = [input[4], input[5], input[6], input[7]];
-    report(&input[ADDRESSES..], source, destination, text)
-}
 
 // Writes what fits of the report to the front of `text`, and answers where it ends.
 pub fn report(payload: &[u8], source: [u8; 4], destination: [u8; 4], text: &mut [u8]) -> usize

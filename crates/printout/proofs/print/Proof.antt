@@ -1,19 +1,14 @@
--- `report::report_input` meets its contract: the input's length decides the text, and the lent text has room for it.
+-- `printout::print` meets its contract: the input's length decides the text, and the lent text has room for it.
 -- Assumes nothing.
-use mathlib.Core.Path.{ap, _∙_}
-use Rattle.report.specs.Input.{textLimit}
+use Rattle.printout.specs.Input.{textLimit}
 use Rattle.report.specs.Report.{numberLine}
-use Rattle.report.specs.Words.{refusedWord}
-use Rattle.report.proofs.Inputs.{input-holds, input-short, input-long}
+use Rattle.printout.proofs.Inputs.{input-holds, input-short, input-long}
 use borrow.Author.Needs.{needs}
-use Rattle.report.proofs.report_input.Statement.{statement}
-use Rattle.report.proofs.report_input.Tie as tie
+use Rattle.printout.proofs.print.Statement.{statement}
+use Rattle.printout.proofs.print.Tie as tie
 
 slice-aggregate-put-line : tie.Need-slice-aggregate-put-line
 slice-aggregate-put-line c = search needs
-
-number-of-requires : tie.Need-number-of-requires
-number-of-requires c κs = search needs
 
 put-line-requires : tie.Need-put-line-requires
 put-line-requires c κs = search needs
@@ -21,11 +16,12 @@ put-line-requires c κs = search needs
 returns : tie.Need-returns
 unfolding numberLine textLimit
 returns c =
-    let number = c .before .before in
-    let short = number .before .before in
+    let short = c .before .before .before in
     let a = short .before .before .args in
-    input-holds (a .input .now) (c .before .put-line-arg2 .given .0 .1) (ap (numberLine refusedWord) (number .number-of .ensures) ∙ input-short (a .input .now) (short .if1 .taken))
-    (c .put-line .ensures)
+    input-holds (a .input .now) (c .before .put-line-arg2 .given .0 .1) (input-short (a .input .now) (short .if1 .taken)) (c .put-line .ensures)
+
+shared-slice-read-t13 : tie.Need-shared-slice-read-t13
+shared-slice-read-t13 c = search needs
 
 shared-slice-read-t15 : tie.Need-shared-slice-read-t15
 shared-slice-read-t15 c = search needs
@@ -36,20 +32,17 @@ shared-slice-read-t17 c = search needs
 shared-slice-read-t19 : tie.Need-shared-slice-read-t19
 shared-slice-read-t19 c = search needs
 
-shared-slice-read-t21 : tie.Need-shared-slice-read-t21
-shared-slice-read-t21 c = search needs
-
-shared-slice-read-t15-2 : tie.Need-shared-slice-read-t15-2
-shared-slice-read-t15-2 c = search needs
-
-shared-slice-read-t21-2 : tie.Need-shared-slice-read-t21-2
-shared-slice-read-t21-2 c = search needs
+shared-slice-read-t13-2 : tie.Need-shared-slice-read-t13-2
+shared-slice-read-t13-2 c = search needs
 
 shared-slice-read-t19-2 : tie.Need-shared-slice-read-t19-2
 shared-slice-read-t19-2 c = search needs
 
 shared-slice-read-t17-2 : tie.Need-shared-slice-read-t17-2
 shared-slice-read-t17-2 c = search needs
+
+shared-slice-read-t15-2 : tie.Need-shared-slice-read-t15-2
+shared-slice-read-t15-2 c = search needs
 
 sub-report : tie.Need-sub-report
 sub-report c = search needs
@@ -70,22 +63,21 @@ returns-2 c =
     let a = long .before .before .args in
     input-holds (a .input .now) (c .before .report-arg2 .given .0 .1) (input-long (a .input .now) (long .if1 .left)) (c .report .ensures)
 
-pub report-input-spec : {M : Type 1} → statement M
-report-input-spec =
+pub print-spec : {M : Type 1} → statement M
+print-spec =
     tie.close
     (tie.spec
     slice-aggregate-put-line
-    number-of-requires
     put-line-requires
     returns
+    shared-slice-read-t13
     shared-slice-read-t15
     shared-slice-read-t17
     shared-slice-read-t19
-    shared-slice-read-t21
-    shared-slice-read-t15-2
-    shared-slice-read-t21-2
+    shared-slice-read-t13-2
     shared-slice-read-t19-2
     shared-slice-read-t17-2
+    shared-slice-read-t15-2
     sub-report
     part-report-start
     part-report-end

@@ -24,8 +24,8 @@ unfoldable pub inputLimit : ℕ
 inputLimit = addresses + (payloadLimit + 1)
 
 -- what is printed of an input: source, destination and payload
-unfoldable pub reportOfInput : List ℕ → List ℕ
-reportOfInput input =
+unfoldable pub textOf : List ℕ → List ℕ
+textOf input =
     cond (ltb (length input) addresses)
     (numberLine refusedWord (refusalNumber PayloadTooShort))
     (reportOf (drop addresses input) (take addressSize input) (part addressSize addressSize input))

@@ -37,7 +37,7 @@ use Rattle.report.specs.Report.{
   answerText,
   reportOf,
 }
-use Rattle.report.specs.Input.{addressSize, addresses, reportOfInput, textLimit}
+use Rattle.printout.specs.Input.{addressSize, addresses, textOf, textLimit}
 
 -- ---- numbers and bytes
 
@@ -209,8 +209,8 @@ report-size payload source destination = go (reading payload source destination)
     go (reads r) e =
         let limit = read-limit payload source destination r e in omega (arith, reading-size payload r)
 
-pub input-fits : (input : List ℕ) → length (reportOfInput input) ≤ textLimit
-unfolding reportOfInput textLimit
+pub input-fits : (input : List ℕ) → length (textOf input) ≤ textLimit
+unfolding textOf textLimit
 input-fits input = go (ltb (length input) addresses)
   where
     short : List ℕ

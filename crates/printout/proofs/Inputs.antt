@@ -15,12 +15,12 @@ use Rattle.octets.specs.Octets.{part}
 use Rattle.offsets.specs.Offsets.{udpHeader}
 use Rattle.datagram.specs.Reading.{payloadLimit}
 use Rattle.datagram.proofs.Refusals.{refused-long}
 use Rattle.report.specs.Words.{refusedWord}
 use Rattle.report.specs.Report.{numberLine, answerText, reportOf}
 use Rattle.report.specs.Put.{fitting, Put}
-use Rattle.report.specs.Input.{addressSize, addresses, inputLimit, reportOfInput, textLimit, Holds}
+use Rattle.printout.specs.Input.{addressSize, addresses, inputLimit, textOf, textLimit, Holds}
 use Rattle.report.proofs.Puts.{put-as}
-use Rattle.report.proofs.Sizes.{input-fits}
+use Rattle.printout.proofs.Sizes.{input-fits}
 
 -- what is put at the front of a buffer that has room for it stands there whole
 put-holds : {t s : List ℕ} {r : ℕ} {left : List ℕ} → length s ≤ length t → Put t 0 s r left → Holds t s r left
@@ -38,16 +38,16 @@ holds-room {t} {s} {r} {left} h =
     omega (arith, h .ends, length-append s (drop (length s) t))
 
 -- the program's text has room for every report
-pub input-holds : (input : List ℕ) {t s : List ℕ} {r : ℕ} {left : List ℕ} → length t ≡ textLimit → s ≡ reportOfInput input → Put t 0 s r left
-    → Holds t (reportOfInput input) r left
+pub input-holds : (input : List ℕ) {t s : List ℕ} {r : ℕ} {left : List ℕ} → length t ≡ textLimit → s ≡ textOf input → Put t 0 s r left
+    → Holds t (textOf input) r left
 input-holds input {t} {s} {r} {left} n e p =
-    let h : length (reportOfInput input) ≤ length t = omega (arith, input-fits input) in
+    let h : length (textOf input) ≤ length t = omega (arith, input-fits input) in
     put-holds h (put-as e p)
 
 -- ---- by the input's length
 
-pub input-short : (input : List ℕ) → length input < addresses → numberLine refusedWord 1 ≡ reportOfInput input
-unfolding reportOfInput
+pub input-short : (input : List ℕ) → length input < addresses → numberLine refusedWord 1 ≡ textOf input
+unfolding textOf
 input-short input h = simp (lt-ltb (length input) addresses h)
 
 source-bytes : (l : List ℕ) → addresses ≤ length l → getD l 0 0 ∷ getD l 1 0 ∷ getD l 2 0 ∷ getD l 3 0 ∷ [] ≡ take addressSize l
@@ -73,8 +73,8 @@ destination-bytes (a ∷ b ∷ c ∷ d ∷ e ∷ f ∷ g ∷ i ∷ l) h = refl
 pub input-long : (l : List ℕ) → addresses ≤ length l
     → reportOf (part addresses (length l - addresses) l) (getD l 0 0 ∷ getD l 1 0 ∷ getD l 2 0 ∷ getD l 3 0 ∷ [])
     (getD l 4 0 ∷ getD l 5 0 ∷ getD l 6 0 ∷ getD l 7 0 ∷ [])
-    ≡ reportOfInput l
-unfolding reportOfInput
+    ≡ textOf l
+unfolding textOf
 input-long l h =
     let all : part addresses (length l - addresses) l ≡ drop addresses l =
     take-all (length l - addresses) (drop addresses l) (simp length-drop (omega arith)) in
@@ -91,8 +91,8 @@ too-long : (payload source destination : List ℕ) → udpHeader ≤ length payl
 unfolding reportOf
 too-long payload source destination g h = ap (answerText payload) (refused-long payload source destination g h)
 
-long-input : (l : List ℕ) → inputLimit ≤ length l → reportOfInput l ≡ numberLine refusedWord 2
-unfolding reportOfInput inputLimit udpHeader payloadLimit
+long-input : (l : List ℕ) → inputLimit ≤ length l → textOf l ≡ numberLine refusedWord 2
+unfolding textOf inputLimit udpHeader payloadLimit
 long-input l h =
     let whole : List ℕ = reportOf (drop addresses l) (take addressSize l) (part addressSize addressSize l) in
     let some : addresses ≤ length l = omega arith in
@@ -100,11 +100,11 @@ long-input l h =
     ∙ too-long (drop addresses l) (take addressSize l) (part addressSize addressSize l) (simp length-drop (omega arith)) (simp length-drop (omega arith))
 
 -- The bytes behind one more than a payload may have change nothing: it is too long whatever they are, or there are none.
-pub input-cut : (l : List ℕ) → reportOfInput (take inputLimit l) ≡ reportOfInput l
+pub input-cut : (l : List ℕ) → textOf (take inputLimit l) ≡ textOf l
 input-cut l = go (ltb inputLimit (length l)) refl
   where
-    go : (t : Bool) → ltb inputLimit (length l) ≡ t → reportOfInput (take inputLimit l) ≡ reportOfInput l
-    go false e = ap reportOfInput (take-all inputLimit l (ltb-false inputLimit (length l) e))
+    go : (t : Bool) → ltb inputLimit (length l) ≡ t → textOf (take inputLimit l) ≡ textOf l
+    go false e = ap textOf (take-all inputLimit l (ltb-false inputLimit (length l) e))
     go true e =
         let long : inputLimit < length l = ltb-true inputLimit (length l) e in
         let exact : length (take inputLimit l) ≡ inputLimit = length-take-le inputLimit l (omega arith) in
