@@ -17,7 +17,7 @@ use Rattle.reassembly.specs.Answer.{refused, ready}
 use Rattle.reassembly.proofs.Lasting.{shaped, fresh-client-sound, fresh-client-shaped}
 use Rattle.ledger.specs.Shapes.{slotted, Shaped}
 use Rattle.ledger.specs.History.{Lent, Ask, Given, on}
-use Rattle.table.specs.Table.{Table, lentOf, sized, shareOf, recordOf, After, cleared, resetOn, outLent, askOn}
+use Rattle.table.specs.Table.{Table, lentOf, sized, shareOf, recordOf, After, cleared, resetOn, turned, askOn}
 use Rattle.table.specs.Events.{Lending, current, another, Event, resetting, asking, tableFor, next, final, givenBy, gives, Allowed, Keeps, ownOnly}
 use Rattle.table.specs.Apart.{Sums, Formed, Tested, Same, Apart}
 use Rattle.table.proofs.Facts.{share-length, misfit-is, unknown-is, granted-is, reset-refused, reset-taken}
@@ -126,7 +126,7 @@ module _ (k : ℕ) (t t′ : Table) (f : Formed t) (f′ : Formed t′) (s : Sam
       go true e =
           let there = ltb-true k (length (t .records)) e in
           ap givenBy (granted-is k a t (f .fit) there)
-          ∙ ap₂ (λ (c : Client) (share : List ℕ). record { reply = on c share a .reply; out = on c share a .out }) (s .client) (s .share)
+          ∙ ap₂ (λ (c : Client) (share : List ℕ). givenBy (turned k (on c share a) t)) (s .client) (s .share)
           ∙ sym (ap givenBy (granted-is k a t′ (f′ .fit) (subst (λ (n : ℕ). k < n) same-count there)))
       go false e =
           let out = ltb-false k (length (t .records)) e in

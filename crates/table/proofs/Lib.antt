@@ -8,3 +8,4 @@ pub mod Steps
 pub mod Lists
 pub mod Demand3
 pub mod Corollaries
+pub mod Contracts

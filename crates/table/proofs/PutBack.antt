@@ -66,21 +66,9 @@ module _ (t : Table) (j : ℕ) (o : Outcome) (fit : sized (lentOf t) ≡ true) (
   within : j * shareSize + length (o .share) ≤ length (t .store)
   within = omega (arith, whole, share-fits t j fit there)
 
-  same-sizes : lentOf (putBack j o t) ≡ lentOf t
-  same-sizes =
-      ap₂ (λ (n m : ℕ). record { count = n; bytes = m }) (length-set (t .records) j (o .client)) (length-overlay (t .store) (j * shareSize) (o .share) within)
-
-  own-record : recordOf j (putBack j o t) ≡ o .client
-  own-record = getD-set-same (t .records) j (o .client) freshClient there
-
-  own-share : shareOf j (putBack j o t) ≡ o .share
-  own-share =
-      ap (λ (n : ℕ). part (j * shareSize) n (overlay (t .store) (j * shareSize) (o .share))) (sym whole)
-      ∙ part-overlay (t .store) (j * shareSize) (o .share) within
-
   module _ (k : ℕ) (other : j ≡ k → ⊥) where
     other-record : recordOf k (putBack j o t) ≡ recordOf k t
-    other-record = getD-set-other (t .records) j k (o .client) freshClient (λ e. other (sym e))
+    other-record = getD-set-other (t .records) j k _ freshClient (λ e. other (sym e))
 
     other-share : shareOf k (putBack j o t) ≡ shareOf k t
     other-share = go (ltb j k) refl
@@ -92,6 +80,18 @@ module _ (t : Table) (j : ℕ) (o : Outcome) (fit : sized (lentOf t) ≡ true) (
         go false e =
             let less : k < j = omega (arith, ltb-false j k e, other) in
             part-before (t .store) (j * shareSize) (o .share) (k * shareSize) shareSize within (shares-apart k j less)
+
+  same-sizes : lentOf (putBack j o t) ≡ lentOf t
+  same-sizes =
+      ap₂ (λ (n m : ℕ). record { count = n; bytes = m }) (length-set (t .records) j _) (length-overlay (t .store) (j * shareSize) (o .share) within)
+
+  own-record : recordOf j (putBack j o t) ≡ o .client
+  own-record = getD-set-same (t .records) j (o .client) freshClient there
+
+  own-share : shareOf j (putBack j o t) ≡ o .share
+  own-share =
+      ap (λ (n : ℕ). part (j * shareSize) n (overlay (t .store) (j * shareSize) (o .share))) (sym whole)
+      ∙ part-overlay (t .store) (j * shareSize) (o .share) within
 
 -- ---- a call of client j
 
