@@ -38,20 +38,21 @@ pub book-none : bookOf [] ≡ empty
 unfolding bookOf keeping
 book-none = refl
 
--- ---- the sum
-
-refuse-kept : (out : List ℕ) (b : Book) (n : Option ℕ) (c : Call) → Balanced b → Balanced (refuseOr out b n (call c b) .book)
-refuse-kept out b none c h = call-balanced c b h
-refuse-kept out b (some n) c h = h
-
-own-balanced : (o : Own) (b : Book) → Balanced b → Balanced (answered o b .book)
+-- what holds of the book, and of the book that the call leaves, holds after an own call
+pub own-either : (P : Book → Type 0) (o : Own) (b : Book) → P b → P (call (o .call) b .book) → P (answered o b .book)
 unfolding answered
-own-balanced o b h = refuse-kept (outOf (o .call)) b (firstOf (lentTests (o .lent) (o .client))) (o .call) h
+own-either P o b before after = go (firstOf (lentTests (o .lent) (o .client)))
+  where
+    go : (n : Option ℕ) → P (refuseOr (outOf (o .call)) b n (call (o .call) b) .book)
+    go none = after
+    go (some n) = before
+
+-- ---- the sum
 
 keeping-balanced : (os : List Own) (b : Book) → Balanced b → Balanced (keeping os b)
 unfolding keeping
 keeping-balanced [] b h = h
-keeping-balanced (o ∷ os) b h = keeping-balanced os (answered o b .book) (own-balanced o b h)
+keeping-balanced (o ∷ os) b h = keeping-balanced os (answered o b .book) (own-either Balanced o b h (call-balanced (o .call) b h))
 
 -- every history of a client, refusals 20 and 21 included
 pub book-balanced : (os : List Own) → Balanced (bookOf os)
