@@ -62,7 +62,7 @@ fn key(assembly: Assembly, field: u64, value: u64) -> Assembly {
     match field {
         8 => a.identification = (value % 4294967296) as u32,
         10 => a.opened = value,
-        _ => a.count = (value % 256) as u8,
+        _ => a.count = value,
     }
     a
 }
@@ -83,7 +83,7 @@ fn fragment(before: Fragment, field: u64, value: u64) -> Fragment {
         12 => f.offset = (value % 65536) as u16,
         13 => f.length = (value % 65536) as u16,
         14 => f.option_start = (value % 65536) as u16,
-        _ => f.last = value == 1,
+        _ => f.last = (value % 65536) as u16,
     }
     f
 }
