@@ -1,8 +1,8 @@
 """A table in plain Python, from document 01 alone, beside the plain book of each client.
 
-    table.py calls        what the program `calls` has to print for crates/calls/stdin
-    table.py count        how often each answer stands in that
-    table.py random N     N random lists, the program against this table
+    table.py calls             what has to come of rust/scripts/lists/calls.txt, its calls.expected
+    table.py count             how often each answer stands in that
+    table.py random N PROGRAM  N random lists, `PROGRAM calls` against this table
 """
 import os
 import re
@@ -378,7 +378,7 @@ def predict(script):
 
 
 def stored():
-    with open(os.path.join(ROOT, "crates", "calls", "stdin")) as file:
+    with open(os.path.join(ROOT, "rust", "scripts", "lists", "calls.txt")) as file:
         return file.read()
 
 
@@ -406,7 +406,7 @@ def main():
         for i in range(int(sys.argv[2])):
             script = lists.random_list(i)
             want = predict(script)
-            got = subprocess.run([os.path.join(ROOT, "target", "bin", "calls")], input=script.encode(), stdout=subprocess.PIPE).stdout.decode()
+            got = subprocess.run([sys.argv[3], "calls"], input=script.encode(), stdout=subprocess.PIPE).stdout.decode()
             seen += count(want)
             if got != want:
                 print("differs in list", i, [pair for pair in zip(want.split("\n"), got.split("\n")) if pair[0] != pair[1]][:3])
