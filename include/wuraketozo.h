@@ -8,13 +8,12 @@
  *  - a pointer with a length leads to that many bytes (or records) that can be read, and written where it is not const; it is not
  *    null, also where the length is 0;
  *  - buffers and records that one call is lent do not overlap where it may write to one of them;
- *  - each `bool` in a record is 0 or 1, as C itself has it. Zeroed memory (calloc) is fine, and so is whatever a call left;
+ *  - a record may hold any bytes: it has no padding, and each of its bytes counts. One that fails the record test is refused with 22;
  *  - no other thread uses them during the call. The library keeps no state of its own.
  */
 #ifndef WURAKETOZO_H
 #define WURAKETOZO_H
 
-#include <stdbool.h>
 #include <stddef.h>
 #include <stdint.h>
 
@@ -107,19 +106,19 @@ typedef struct {
     uint16_t destination_port;
 } wuraketozo_flow;
 
-/* A held fragment. */
+/* A held fragment. `last` is 0, or any other number for the last one. */
 typedef struct {
     uint16_t offset;
     uint16_t length;
     uint16_t option_start;
-    bool last;
+    uint16_t last;
 } wuraketozo_held;
 
 typedef struct {
     wuraketozo_flow flow;
     uint32_t identification;
     uint64_t opened;
-    uint8_t count;
+    uint64_t count;
     wuraketozo_held fragments[16];
 } wuraketozo_assembly;
 

@@ -66,6 +66,11 @@ def overlap(p, q):
     return p.place < q.end() and q.place < p.end()
 
 
+def same_end(p, q):
+    """Same last mark (any number but 0 is one), same r; r counts only of a last piece."""
+    return bool(p.last) == bool(q.last) and (not p.last or p.r == q.r)
+
+
 def whole(pieces):
     """T and r, if the last piece is there and the pieces cover 0 to T."""
     for p in pieces:
@@ -154,7 +159,7 @@ class Table:
         a, base = record.assemblies[at[0]], k * SHARE + at[0] * PLACE
         held = a.pieces()
         kept = self.store[base + p.place:base + p.end()]
-        if any((p.place, p.length, p.last, p.last and p.r) == (q.place, q.length, q.last, q.last and q.r) for q in held) and kept == data:
+        if any((p.place, p.length) == (q.place, q.length) and same_end(p, q) for q in held) and kept == data:
             figures["repeated"] += p.length
             return "repeated", None
         if clashes(p, held):
@@ -237,7 +242,7 @@ class Book:
             self.figures["turned"] += len(data)
             raise Refused(29)
         for _, _, q, held in mine:
-            if (p.place, data, bool(p.last)) == (q.place, held, bool(q.last)) and (not p.last or p.r == q.r):
+            if (p.place, data) == (q.place, held) and same_end(p, q):
                 self.figures["repeated"] += len(data)
                 return "repeated", None
         if clashes(p, [o[2] for o in mine]):
@@ -288,12 +293,16 @@ def forge(record, field, place, slot, value):
         record.offered = value
     elif field < 8:
         record.figures[FIGURES[field - 2]] = value
-    elif field == 9:
-        a.flow = a.flow[:2] + (value % 65536,) + a.flow[3:]
+    elif field in (9, 18):
+        at = {9: 2, 18: 3}[field]
+        a.flow = a.flow[:at] + (value % 2**16,) + a.flow[at + 1:]
+    elif field in (16, 17):
+        at = field - 16
+        a.flow = a.flow[:at] + (tuple((value % 2**32).to_bytes(4, "big")),) + a.flow[at + 1:]
     elif field in (8, 10, 11):
-        setattr(a, {8: "identification", 10: "opened", 11: "count"}[field], value % {8: 2**32, 10: 2**64, 11: 256}[field])
+        setattr(a, {8: "identification", 10: "opened", 11: "count"}[field], value % {8: 2**32, 10: 2**64, 11: 2**64}[field])
     else:
-        setattr(p, ("place", "length", "r", "last")[field - 12], value % 65536 if field < 15 else int(value == 1))
+        setattr(p, ("place", "length", "r", "last")[field - 12], value % 2**16)
 
 
 class Run:

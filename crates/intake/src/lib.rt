@@ -68,14 +68,14 @@ fn fragment_of(o: Arrival, n: usize) -> Fragment
             offset: offset,
             length: length,
             option_start: o.option_start.0 as u16,
-            last: true,
+            last: 1,
         };
     }
     Fragment {
         offset: offset,
         length: length,
         option_start: 0,
-        last: false,
+        last: 0,
     }
 }
 

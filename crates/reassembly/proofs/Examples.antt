@@ -12,6 +12,7 @@ use Rattle.record.specs.Record.{
   freshFlow,
   freshAssembly,
   freshClient,
+  isLast,
   end,
   nonEmpty,
   fits,
@@ -108,7 +109,7 @@ start = leaving freshClient (replicate 16 0) out stored
 -- opens what the examples compute with
 computes : ℕ
 unfolding at eight four out after start datagramLimit fragmentLimit assemblyLimit addressSize lifetime offeredLimit sameBytes all any pairs sum
-    freshFragment freshFlow freshAssembly freshClient end nonEmpty fits covers overlaps bothLast outruns conflicts startsOptionsInside soundFragment
+    freshFragment freshFlow freshAssembly freshClient isLast end nonEmpty fits covers overlaps bothLast outruns conflicts startsOptionsInside soundFragment
     isFreshFragment compatible coveredTo lastOf whole live heldFragments spareSlots bytesHeld sameFlow hasKey isFreshAssembly openedWithin soundLive
     soundAssembly sameLiveKey keysDiffer heldRight figureSum sumsTo balanced soundRecord firstOf old expire lost elapse offerTests fragmentOf matches
     firstIndex noRoom placeFor opening assemblyFor alike repeats isConflict isFull added rejecting repeating conflicting storing delivering base handedOut

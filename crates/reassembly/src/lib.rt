@@ -291,8 +291,8 @@ pub fn assembly_for(c: Client, p: usize, o: Arrival) -> Assembly
 fn alike(f: Fragment, g: Fragment) -> bool
     ensures { λ r. ⌜ r ≡ alike f g ⌝ }
 {
-    let marks = record::same_mark(f.last, g.last);
-    let starts = record::either(!f.last, f.option_start == g.option_start);
+    let marks = record::same_mark(record::is_last(f), record::is_last(g));
+    let starts = record::either(!record::is_last(f), f.option_start == g.option_start);
     record::both(
         f.offset == g.offset,
         record::both(f.length == g.length, record::both(marks, starts)),

@@ -7,7 +7,7 @@ ghost use lib.ListN.{length, take};
 ghost use Rattle.record.specs.Limits.{assemblyLimit};
 ghost use Rattle.record.specs.Lists.{sameMark, sameBytes, all, any, sum};
 ghost use Rattle.record.specs.Post.{HeldCount, HeldFront, beyond};
-ghost use Rattle.record.specs.Record.{freshFragment, freshFlow, freshAssembly, freshClient, end, covers, conflicts};
+ghost use Rattle.record.specs.Record.{freshFragment, freshFlow, freshAssembly, freshClient, end, isLast, covers, conflicts};
 ghost use Rattle.record.specs.Record.{soundFragment, isFreshFragment, outruns, overlaps, compatible, coveredTo, lastOf, whole};
 ghost use Rattle.record.specs.Record.{live, heldFragments, spareSlots, bytesHeld, sameFlow, hasKey, isFreshAssembly, openedWithin, soundLive};
 ghost use Rattle.record.specs.Record.{soundAssembly, sameLiveKey, keysDiffer, sumsTo, balanced, soundRecord};
@@ -45,13 +45,14 @@ pub struct Flow {
     pub destination_port: u16,
 }
 
-// A held fragment (document 01's piece): where it stands in the original, and the option start if it is the last one.
+// A held fragment (document 01's piece): where it stands in the original, whether it is the last one, and then the option start.
+// `last` is 0, or any other number for the last one, so that every bit pattern is a fragment.
 #[repr(C)]
 pub struct Fragment {
     pub offset: u16,
     pub length: u16,
     pub option_start: u16,
-    pub last: bool,
+    pub last: u16,
 }
 
 // The fragments of one key. It is live while it holds any: with `count` 0 every other field is as in a fresh record.
@@ -60,7 +61,7 @@ pub struct Assembly {
     pub flow: Flow,
     pub identification: u32,
     pub opened: u64,
-    pub count: u8,
+    pub count: u64,
     pub fragments: [Fragment; FRAGMENT_LIMIT],
 }
 
@@ -87,7 +88,7 @@ pub fn fresh_fragment() -> Fragment
         offset: 0,
         length: 0,
         option_start: 0,
-        last: false,
+        last: 0,
     }
 }
 
@@ -160,6 +161,13 @@ pub fn same_mark(a: bool, b: bool) -> bool
 
 // ---- one fragment, and two
 
+// It is the last one of its original.
+pub fn is_last(f: Fragment) -> bool
+    ensures { λ r. ⌜ r ≡ isLast f ⌝ }
+{
+    f.last != 0
+}
+
 // The first place behind it.
 pub fn end_of(f: Fragment) -> usize
     ensures { λ r. ⌜ r ≡ end f ⌝ }
@@ -181,7 +189,7 @@ fn fresh_slot(f: Fragment) -> bool
 {
     both(
         f.offset == 0,
-        both(f.length == 0, both(f.option_start == 0, !f.last)),
+        both(f.length == 0, both(f.option_start == 0, f.last == 0)),
     )
 }
 
@@ -191,7 +199,7 @@ fn fragment_sound(f: Fragment) -> bool
 {
     let past = end_of(f);
     let options = f.option_start as usize;
-    let inside = either(!f.last, options <= past);
+    let inside = either(!is_last(f), options <= past);
     both(f.length != 0, both(past <= DATAGRAM_LIMIT, inside))
 }
 
@@ -199,7 +207,7 @@ fn fragment_sound(f: Fragment) -> bool
 fn outruns(f: Fragment, g: Fragment) -> bool
     ensures { λ r. ⌜ r ≡ outruns f g ⌝ }
 {
-    both(g.last, end_of(g) < end_of(f))
+    both(is_last(g), end_of(g) < end_of(f))
 }
 
 fn overlaps(f: Fragment, g: Fragment) -> bool
@@ -214,7 +222,7 @@ fn overlaps(f: Fragment, g: Fragment) -> bool
 pub fn conflicts(f: Fragment, g: Fragment) -> bool
     ensures { λ r. ⌜ r ≡ conflicts f g ⌝ }
 {
-    let lasts = both(f.last, g.last);
+    let lasts = both(is_last(f), is_last(g));
     either(
         overlaps(f, g),
         either(lasts, either(outruns(f, g), outruns(g, f))),
@@ -325,7 +333,7 @@ pub fn last_of(a: Assembly) -> Fragment
     let mut i = 0;
     while i < n {
         let f = a.fragments[i];
-        if f.last {
+        if is_last(f) {
             return f;
         }
         i += 1;
@@ -339,7 +347,7 @@ pub fn whole(a: Assembly) -> bool
 {
     let last = last_of(a);
     let past = end_of(last);
-    both(last.last, covered_to(a, past))
+    both(is_last(last), covered_to(a, past))
 }
 
 // The slots behind the held fragments are as in a fresh record.

@@ -24,7 +24,7 @@ fn forge_assembly(assembly: &mut Assembly, field: u64, slot: usize, value: u64) 
         8 => assembly.identification = value as u32,
         9 => assembly.flow.source_port = value as u16,
         10 => assembly.opened = value,
-        11 => assembly.count = value as _,
+        11 => assembly.count = value,
         16 => assembly.flow.source = (value as u32).to_be_bytes(),
         17 => assembly.flow.destination = (value as u32).to_be_bytes(),
         18 => assembly.flow.destination_port = value as u16,
@@ -38,6 +38,6 @@ fn forge_fragment(held: &mut Held, field: u64, value: u64) {
         12 => held.offset = value as u16,
         13 => held.length = value as u16,
         14 => held.option_start = value as u16,
-        _ => held.last = value == 1,
+        _ => held.last = value as u16,
     }
 }

@@ -4,15 +4,12 @@ use Rattle.reassembly.specs.Offer.{added}
 use Rattle.record.specs.Limits.{fragmentLimit}
 use mathlib.Core.Path.{refl}
 use native.Mathlib.Omega.{arith}
-use borrow.Author.Needs.{needs}
 use Rattle.reassembly.proofs.added.Statement.{statement}
 use Rattle.reassembly.proofs.added.Tie as tie
 
-cast-at : tie.Need-cast-at
-cast-at c = search needs
-
 mul-f : tie.Need-mul-f
-mul-f c = search needs
+unfolding fragmentLimit
+mul-f c = omega arith
 
 element-set-from-f : tie.Need-element-set-from-f
 unfolding fragmentLimit
@@ -27,4 +24,4 @@ unfolding added
 returns c = refl
 
 pub added-spec : {M : Type 1} → statement M
-added-spec = tie.close (tie.spec cast-at mul-f element-set-from-f add-b returns)
+added-spec = tie.close (tie.spec mul-f element-set-from-f add-b returns)

@@ -5,8 +5,17 @@ use borrow.Author.Needs.{needs}
 use Rattle.reassembly.proofs.alike.Statement.{statement}
 use Rattle.reassembly.proofs.alike.Tie as tie
 
+is-last-requires : tie.Need-is-last-requires
+is-last-requires c κs = search needs
+
+is-last-requires-2 : tie.Need-is-last-requires-2
+is-last-requires-2 c κs = search needs
+
 same-mark-requires : tie.Need-same-mark-requires
 same-mark-requires c κs = search needs
+
+is-last-requires-3 : tie.Need-is-last-requires-3
+is-last-requires-3 c κs = search needs
 
 either-requires : tie.Need-either-requires
 either-requires c κs = search needs
@@ -28,7 +37,10 @@ pub alike-spec : {M : Type 1} → statement M
 alike-spec =
     tie.close
     (tie.spec
+    is-last-requires
+    is-last-requires-2
     same-mark-requires
+    is-last-requires-3
     either-requires
     both-requires
     both-requires-2

@@ -12,6 +12,9 @@ end-of-requires c κs = search needs
 cast-options : tie.Need-cast-options
 cast-options c = search needs
 
+is-last-requires : tie.Need-is-last-requires
+is-last-requires c κs = search needs
+
 either-requires : tie.Need-either-requires
 either-requires c κs = search needs
 
@@ -28,4 +31,4 @@ returns c = cc
 pub fragment-sound-spec : {M : Type 1} → statement M
 fragment-sound-spec =
     tie.close
-    (tie.spec end-of-requires cast-options either-requires both-requires both-requires-2 returns)
+    (tie.spec end-of-requires cast-options is-last-requires either-requires both-requires both-requires-2 returns)

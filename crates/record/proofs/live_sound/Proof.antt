@@ -13,9 +13,6 @@ use borrow.Author.Needs.{needs}
 use Rattle.record.proofs.live_sound.Statement.{statement}
 use Rattle.record.proofs.live_sound.Tie as tie
 
-cast-count : tie.Need-cast-count
-cast-count c = search needs
-
 returns : tie.Need-returns
 unfolding soundLive fragmentLimit
 returns c = simp (lt-leb _ _ (c .if1 .taken))
@@ -49,7 +46,7 @@ unfolding soundLive fragmentLimit
 returns-2 c =
     let f = c .before .before .before .before .before in
     let s = f .before .before .before .before in
-    let a = s .before .before .args .a in
+    let a = s .before .args .a in
     let t = both-true _ _ (sym (f .before .both .ensures) ∙ f .if2 .taken) in
     let each : all soundFragment (heldFragments a) ≡ true = sym (f .before .before .before .fragments-sound .ensures) ∙ t .0 in
     let two : compatible (heldFragments a) ≡ true = sym (f .before .before .fragments-compatible .ensures) ∙ t .1 in
@@ -59,7 +56,7 @@ returns-3 : tie.Need-returns-3
 unfolding soundLive fragmentLimit
 returns-3 c =
     let s = c .before .before .before .before in
-    let a = s .before .before .args .a in
+    let a = s .before .args .a in
     let e : (all soundFragment (heldFragments a) && compatible (heldFragments a)) ≡ false = cc in
     simp (le-leb _ _ (s .if1 .left)) (sym (front-false (all soundFragment (heldFragments a)) (compatible (heldFragments a)) _ e))
 
@@ -67,7 +64,6 @@ pub live-sound-spec : {M : Type 1} → statement M
 live-sound-spec =
     tie.close
     (tie.spec
-    cast-count
     returns
     fragments-sound-requires
     fragments-compatible-requires
