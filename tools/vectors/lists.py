@@ -1,4 +1,4 @@
-"""lists.py: the lists of calls that the program `calls` runs, as crates/calls/stdin has them. tools/vectors/table.py predicts its answers."""
+"""lists.py: the lists of calls that rust/scripts runs, as its lists/calls.txt has them. tools/vectors/table.py predicts the answers."""
 import random
 import sys
 
