@@ -4,6 +4,7 @@ set -u
 cd "$(dirname "$0")/.." || exit 2
 log=target-test.log
 passed=0 failed=0
+start=$(date +%s)
 
 # report NAME STATUS: counts one test.
 report() {
@@ -51,7 +52,9 @@ report stray-files $?
 { rt ci 2>&1; echo $? >"$log.status"; } | tee "$log" | grep -v '^[0-9]* passed, [0-9]* failed$'
 status=$(cat "$log.status")
 counts=$(tail -n 1 "$log" | sed -n 's/^\([0-9]*\) passed, \([0-9]*\) failed$/\1 \2/p')
-rm -f "$log" "$log.status"
+mv "$log" "$log.ci"
+rm -f "$log.status"
+proved=$(date +%s)
 test "$status" -eq 0
 report rt-ci $?
 if [ -n "$counts" ]; then
@@ -97,6 +100,8 @@ else
     echo "note: cargo is missing, so tests rust-wrapper, readings, writings, calls, rust-reference and differential are skipped"
 fi
 
+hosts=$(date +%s)
+
 # What readers in Python, written from the papers apart from this code, say of the same bytes.
 if command -v python3 >/dev/null 2>&1; then
     PYTHONDONTWRITEBYTECODE=1
@@ -126,5 +131,8 @@ if command -v python3 >/dev/null 2>&1; then
     report random-datagrams $?
 fi
 
+clock="rt ci $((proved - start)), samples and hosts $((hosts - proved)), predictions $(($(date +%s) - hosts))"
+awk -v clock="$clock" -f tools/times.awk "$log.ci"
+rm -f "$log.ci"
 echo "$passed passed, $failed failed"
 [ "$failed" -eq 0 ] && [ "$passed" -gt 0 ]
