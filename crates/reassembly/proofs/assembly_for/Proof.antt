@@ -1,7 +1,7 @@
 -- `reassembly::assembly_for` meets its contract: what stands at the place is live exactly where the key has an assembly (`live-at`).
 -- Assumes nothing.
 use Rattle.reassembly.proofs.Laws.{getD-any}
-use Rattle.record.proofs.Lists.{unmapped}
+use Rattle.record.proofs.Shapes.{places}
 use Rattle.reassembly.proofs.Places.{live-at}
 use Rattle.reassembly.proofs.Laws.{if-yes, if-no}
 use Rattle.reassembly.specs.Offer.{matches, opening, assemblyFor}
@@ -34,7 +34,7 @@ returns c =
     let t = c .before .before .before in
     let s = t .args in
     let xs = s .t1 .assemblies in
-    let len : length xs ≡ assemblyLimit = unmapped _ xs assemblyLimit (t .good .0 .1 .1 .1 .1 .1 .1 .1 .1 .1 .1 .0 .1 .0 .1) in
+    let len : length xs ≡ assemblyLimit = places (t .args .t1) _ (t .good .0) in
     let h : s .p < length xs = omega (arith, t .pre .within) in
     let e : any (matches (s .o)) xs ≡ true = sym (live-at (s .o) xs (s .p) _ (t .pre .place) h) ∙ sym (c .before .live .ensures) ∙ c .if1 .taken in
     getD-any xs (s .p) _ freshAssembly h ∙ sym (if-yes (any (matches (s .o)) xs) (getD xs (s .p) freshAssembly) (opening (s .o)) e)
@@ -48,7 +48,7 @@ returns-2 c =
     let t = c .before .before .before .before in
     let s = t .args in
     let xs = s .t1 .assemblies in
-    let len : length xs ≡ assemblyLimit = unmapped _ xs assemblyLimit (t .good .0 .1 .1 .1 .1 .1 .1 .1 .1 .1 .1 .0 .1 .0 .1) in
+    let len : length xs ≡ assemblyLimit = places (t .args .t1) _ (t .good .0) in
     let h : s .p < length xs = omega (arith, t .pre .within) in
     let e : any (matches (s .o)) xs ≡ false = sym (live-at (s .o) xs (s .p) _ (t .pre .place) h) ∙ sym (c .before .before .live .ensures)
     ∙ c .before .if1 .left in

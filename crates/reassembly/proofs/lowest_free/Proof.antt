@@ -1,6 +1,6 @@
 -- `reassembly::lowest_free` meets its contract: the loop's invariant says that the places before `i` are passed over.
 -- Assumes nothing.
-use Rattle.record.proofs.Lists.{unmapped}
+use Rattle.record.proofs.Shapes.{places}
 use Rattle.reassembly.proofs.Places.{first-here, first-later, first-never}
 use Rattle.record.specs.Record.{live}
 use Rattle.reassembly.specs.Offer.{firstIndex}
@@ -23,7 +23,7 @@ abbrev μ-loop : tie.MeasureT-loop
 
 loop-holds : tie.Need-loop-holds Inv-loop μ-loop
 unfolding assemblyLimit
-loop-holds c = (omega arith, search needs, unmapped _ (c .args .t1 .assemblies) assemblyLimit (c .good .0 .1 .1 .1 .1 .1 .1 .1 .1 .1 .1 .0 .1 .0 .1))
+loop-holds c = (omega arith, search needs, places (c .args .t1) _ (c .good .0))
 
 mul-a : tie.Need-mul-a Inv-loop μ-loop
 unfolding assemblyLimit

@@ -2,7 +2,7 @@
 -- Assumes nothing.
 use Rattle.reassembly.specs.Offer.{firstIndex}
 use Prim.Native.Nat.{_<_, _≤_}
-use Rattle.record.proofs.Lists.{unmapped}
+use Rattle.record.proofs.Shapes.{places}
 use native.Mathlib.Omega.{arith}
 use Rattle.reassembly.proofs.Places.{any-first, place-of-key, place-free}
 use Rattle.reassembly.specs.Offer.{matches}
@@ -24,7 +24,7 @@ unfolding assemblyLimit
 returns c =
     let s = c .before .before in
     let xs = s .args .c .assemblies in
-    let len : length xs ≡ assemblyLimit = unmapped _ xs assemblyLimit (s .good .0 .1 .1 .1 .1 .1 .1 .1 .1 .1 .1 .0 .1 .0 .1) in
+    let len : length xs ≡ assemblyLimit = places (s .args .c) _ (s .good .0) in
     let h : firstIndex (matches (s .args .o)) xs < length xs = omega (arith, c .before .find .ensures) in
     let e : any (matches (s .args .o)) xs ≡ true = any-first (matches (s .args .o)) xs ∙ lt-ltb _ _ h in
     c .before .find .ensures ∙ sym (place-of-key (s .args .o) xs e)
@@ -37,7 +37,7 @@ unfolding assemblyLimit
 returns-2 c =
     let s = c .before .before .before in
     let xs = s .args .c .assemblies in
-    let len : length xs ≡ assemblyLimit = unmapped _ xs assemblyLimit (s .good .0 .1 .1 .1 .1 .1 .1 .1 .1 .1 .1 .0 .1 .0 .1) in
+    let len : length xs ≡ assemblyLimit = places (s .args .c) _ (s .good .0) in
     let h : length xs ≤ firstIndex (matches (s .args .o)) xs = omega (arith, c .before .before .find .ensures) in
     let e : any (matches (s .args .o)) xs ≡ false = any-first (matches (s .args .o)) xs ∙ le-ltb _ _ h in
     c .lowest-free .ensures ∙ sym (place-free (s .args .o) xs e)

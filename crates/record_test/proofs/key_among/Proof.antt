@@ -1,6 +1,7 @@
 -- `record_test::key_among` meets its contract: the loop's invariant says that `found` is the test of the first `i` assemblies (`any-next`).
 -- Assumes nothing.
-use Rattle.record.proofs.Lists.{any-next, unmapped}
+use Rattle.record.proofs.Shapes.{places}
+use Rattle.record.proofs.Lists.{any-next}
 use Rattle.record.specs.Record.{sameLiveKey}
 use Rattle.record.specs.Lists.{any}
 use Rattle.record.specs.Limits.{assemblyLimit}
@@ -22,7 +23,7 @@ abbrev μ-loop : tie.MeasureT-loop
 
 loop-holds : tie.Need-loop-holds Inv-loop μ-loop
 unfolding any assemblyLimit
-loop-holds c = (refl, search needs, unmapped _ (c .args .t1 .assemblies) assemblyLimit (c .good .0 .1 .1 .1 .1 .1 .1 .1 .1 .1 .1 .0 .1 .0 .1))
+loop-holds c = (refl, search needs, places (c .args .t1) _ (c .good .0))
 
 mul-b : tie.Need-mul-b Inv-loop μ-loop
 unfolding assemblyLimit

@@ -1,6 +1,7 @@
 -- `record_test::keys_differ` meets its contract: the loop's invariant says that `ok` is the test of the first `i` assemblies (`pairs-next`).
 -- Assumes nothing.
-use Rattle.record.proofs.Lists.{pairs-next, all-not, unmapped}
+use Rattle.record.proofs.Shapes.{places}
+use Rattle.record.proofs.Lists.{pairs-next, all-not}
 use Rattle.record.specs.Record.{sameLiveKey, keysDiffer}
 use Rattle.record.specs.Lists.{pairs}
 use Rattle.record.specs.Limits.{assemblyLimit}
@@ -22,7 +23,7 @@ abbrev μ-loop : tie.MeasureT-loop
 
 loop-holds : tie.Need-loop-holds Inv-loop μ-loop
 unfolding keysDiffer pairs assemblyLimit
-loop-holds c = (refl, search needs, unmapped _ (c .args .t1 .assemblies) assemblyLimit (c .good .0 .1 .1 .1 .1 .1 .1 .1 .1 .1 .1 .0 .1 .0 .1))
+loop-holds c = (refl, search needs, places (c .args .t1) _ (c .good .0))
 
 mul-a : tie.Need-mul-a Inv-loop μ-loop
 unfolding assemblyLimit

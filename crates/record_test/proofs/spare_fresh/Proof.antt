@@ -1,6 +1,7 @@
 -- `record_test::spare_fresh` meets its contract: the loop's invariant says that `ok` and the test of the slots from `i` on make the test of all (`all-left`).
 -- Assumes nothing.
-use Rattle.record.proofs.Lists.{all-left, and-assoc, and-true, unmapped}
+use Rattle.record.proofs.Shapes.{slots}
+use Rattle.record.proofs.Lists.{all-left, and-assoc, and-true}
 use Rattle.record.proofs.Held.{spare-from}
 use Rattle.record.specs.Record.{spareSlots, isFreshFragment}
 use Rattle.record.specs.Lists.{all}
@@ -33,7 +34,7 @@ loop-holds c =
     let a = c .before .args .t1 in (
       ap (λ (k : ℕ). all isFreshFragment (drop k (a .fragments))) (c .held-count .ensures .count) ∙ ap (all isFreshFragment) (spare-from a),
       omega (arith, c .held-count .ensures .within),
-      unmapped _ (a .fragments) fragmentLimit (c .before .good .0 .1 .1 .1 .1 .1 .1 .0 .1 .0 .1),
+      slots (a) _ (c .before .good .0),
     )
 
 mul-f : tie.Need-mul-f Inv-loop μ-loop
