@@ -1,4 +1,5 @@
 pub mod Surplus
+pub mod Extents
 pub mod Reading
 pub mod Rereading
 pub mod Private

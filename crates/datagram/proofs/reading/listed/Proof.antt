@@ -1,6 +1,6 @@
 -- `datagram::reading::listed` meets its contract: the arm knows what the walk told, and the reading by that is the definition's.
 -- Assumes nothing.
-use Rattle.datagram.specs.Reading.{quiet}
+use Rattle.datagram.specs.Reading.{noData, quiet}
 use mathlib.Core.Path.{_≡_, refl, sym, ap, _∙_}
 use mathlib.Core.List.{List}
 use Prim.Native.Nat.{ℕ, _-_, _≤_}
@@ -20,13 +20,13 @@ use Rattle.datagram.proofs.reading.listed.Tie as tie
 
 -- the walk was made of the list behind `from`
 area : (c : tie.After-walk-area) → let a = c .before .before .before .args in
-    toldArea (areaOf (eqb (a .size) udpHeader) (a .from) (drop (a .from) (a .payload .now))) ≡ c .walk-area .result
+    toldArea (areaOf (noData (a .size)) (a .from) (drop (a .from) (a .payload .now))) ≡ c .walk-area .result
 unfolding udpHeader
 area c =
     let start = c .before .before .before in
     let l = start .args .payload .now in
     sym (c .walk-area .ensures
-    ∙ ap (λ (t : List ℕ). toldArea (areaOf (eqb (start .args .size) 8) (start .args .from) t))
+    ∙ ap (λ (t : List ℕ). toldArea (areaOf (noData (start .args .size)) (start .args .from) t))
     (take-all (length l - start .args .from) (drop (start .args .from) l) (simp length-drop (omega arith))))
 
 sub-walk-area : tie.Need-sub-walk-area
@@ -96,7 +96,7 @@ returns c =
       apc = (c .apc-of .ensures) i;
     }) (refl)
     ∙ ap (readingBy (a .payload .now) (a .size) (a .from)) (sym (area place ∙ c .before .before .before .before .before .list .given .1))
-    ∙ reading-told (a .payload .now) (a .size) (a .from) (areaOf (eqb (a .size) udpHeader) (a .from) (drop (a .from) (a .payload .now)))
+    ∙ reading-told (a .payload .now) (a .size) (a .from) (areaOf (noData (a .size)) (a .from) (drop (a .from) (a .payload .now)))
 
 returns-2 : tie.Need-returns-2
 unfolding udpHeader
@@ -105,7 +105,7 @@ returns-2 c =
     let place = c .before .before .before .before in
     c .quiet .ensures
     ∙ ap (readingBy (a .payload .now) (a .size) (a .from)) (sym (area place ∙ c .before .before .list2 .given .1))
-    ∙ reading-told (a .payload .now) (a .size) (a .from) (areaOf (eqb (a .size) udpHeader) (a .from) (drop (a .from) (a .payload .now)))
+    ∙ reading-told (a .payload .now) (a .size) (a .from) (areaOf (noData (a .size)) (a .from) (drop (a .from) (a .payload .now)))
 
 returns-3 : tie.Need-returns-3
 unfolding udpHeader
@@ -114,7 +114,7 @@ returns-3 c =
     let place = c .before .before .before .before .before in
     c .quiet2 .ensures ∙ ap (quiet (a .size)) (c .before .verdict-of .ensures)
     ∙ ap (readingBy (a .payload .now) (a .size) (a .from)) (sym (area place ∙ c .before .before .before .list3 .given .1))
-    ∙ reading-told (a .payload .now) (a .size) (a .from) (areaOf (eqb (a .size) udpHeader) (a .from) (drop (a .from) (a .payload .now)))
+    ∙ reading-told (a .payload .now) (a .size) (a .from) (areaOf (noData (a .size)) (a .from) (drop (a .from) (a .payload .now)))
 
 pub listed-spec : {M : Type 1} → statement M
 listed-spec =
