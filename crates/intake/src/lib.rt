@@ -27,7 +27,7 @@ enum Checked {
 fn check(client: Client, out_length: usize, o: Arrival, n: usize) -> Checked
     ensures { λ r. ⌜ checkedNumber r ≡ firstOf (offerTests client «out_length» o n) ⌝ }
 {
-    if record::sound(client) {
+    if record_test::sound(client) {
         let offset = o.offset.0;
         let options = o.option_start.0;
         if out_length < record::DATAGRAM_LIMIT {

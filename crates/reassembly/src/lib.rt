@@ -163,7 +163,7 @@ pub fn elapsed(c: Client, time: u64) -> Client
 pub fn advance(client: Client, time: u64) -> Step
     ensures { λ r. ⌜ Turned (advanceOn client time) r ⌝ }
 {
-    if record::sound(client) {
+    if record_test::sound(client) {
         if time < client.time {
             return Step {
                 client: client,
@@ -185,7 +185,7 @@ pub fn advance(client: Client, time: u64) -> Step
 pub fn account(client: Client) -> Step
     ensures { λ r. ⌜ Turned (accountOn client) r ⌝ }
 {
-    if record::sound(client) {
+    if record_test::sound(client) {
         let figures = Figures {
             offered: client.offered,
             held: client.held,
