@@ -124,7 +124,7 @@ if command -v python3 >/dev/null 2>&1; then
     python3 tools/vectors/table.py calls | cmp -s - rust/scripts/lists/calls.expected
     report calls-predicted $?
     if [ -n "$scripts" ]; then
-        python3 tools/vectors/table.py random 200 "$scripts"
+        python3 tools/vectors/table.py random 300 "$scripts"
         report random-calls $?
     fi
     python3 tools/samples/compare_random.py 1000

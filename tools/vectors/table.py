@@ -391,6 +391,17 @@ def stored():
         return file.read()
 
 
+def held_to_titles(text):
+    """The first bill behind the title of a forged record is 22 exactly where the title says that it breaks a clause."""
+    import lists
+    lines = text.split("\n")
+    for cases, refused in ((lists.BROKEN, True), (lists.PASSING, False)):
+        for title, *_ in cases:
+            bill = next(line for line in lines[lines.index("-- " + title):] if line.startswith("bill 1"))
+            assert (": refused 22" in bill) == refused, (title, bill)
+    return text
+
+
 def count(text):
     answers = Counter()
     for line in text.split("\n"):
@@ -402,7 +413,7 @@ def count(text):
 
 def main():
     if sys.argv[1] == "calls":
-        sys.stdout.write(predict(stored()))
+        sys.stdout.write(held_to_titles(predict(stored())))
     elif sys.argv[1] == "count":
         text = predict(stored())
         print(text.count("\nstore "), "lists,", sum(count(text).values()), "calls")
