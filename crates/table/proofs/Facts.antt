@@ -29,9 +29,8 @@ use Rattle.reassembly.specs.Offer.{fragmentOn}
 use Rattle.reassembly.specs.Post.{Left}
 use Rattle.reassembly.specs.Advance as Advance
 use Rattle.reassembly.specs.Advance.{figures, accountOn}
-use Rattle.ledger.specs.Lent.{Lent, sized, lentTests}
-use Rattle.ledger.specs.History.{Ask, offering, on}
-use Rattle.table.specs.Table.{Table, lentOf, shareOf, recordOf, After, cleared, resetOn, outLent, turned, askOn, Leaves}
+use Rattle.ledger.specs.History.{Lent, Ask, offering, on}
+use Rattle.table.specs.Table.{Table, lentOf, sized, askTests, shareOf, recordOf, After, cleared, resetOn, outLent, turned, askOn, Leaves}
 
 -- ---- the sizes of a table
 
@@ -84,17 +83,17 @@ share-cut t k e h =
 -- ---- the calls by their tests
 
 pub misfit-is : (k : ℕ) (a : Ask) (t : Table) → sized (lentOf t) ≡ false → askOn k a t ≡ record { table = t; out = outLent a; reply = refused 20 }
-unfolding askOn lentTests firstOf
+unfolding askOn askTests firstOf
 misfit-is k a t e = simp e
 
 pub unknown-is : (k : ℕ) (a : Ask) (t : Table) → sized (lentOf t) ≡ true → length (t .records) ≤ k
     → askOn k a t ≡ record { table = t; out = outLent a; reply = refused 21 }
-unfolding askOn lentTests firstOf
+unfolding askOn askTests firstOf
 unknown-is k a t e h = simp (e, le-leb (length (t .records)) k h)
 
 pub granted-is : (k : ℕ) (a : Ask) (t : Table) → sized (lentOf t) ≡ true → k < length (t .records)
     → askOn k a t ≡ turned k (on (recordOf k t) (shareOf k t) a) t
-unfolding askOn lentTests firstOf
+unfolding askOn askTests firstOf
 granted-is k a t e h = simp (e, lt-leb (length (t .records)) k h)
 
 pub reset-refused : (t : Table) → sized (lentOf t) ≡ false → resetOn t ≡ record { table = t; out = []; reply = refused 20 }

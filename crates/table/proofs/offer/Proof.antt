@@ -12,9 +12,8 @@ use borrow.Author.Needs.{needs}
 use borrow.Author.Tests.{not-true, not-false}
 use Rattle.record.specs.Limits.{shareSize, assemblyLimit, datagramLimit}
 use Rattle.reassembly.specs.Answer.{replyOf}
-use Rattle.ledger.specs.Lent.{sized}
 use Rattle.ledger.specs.History.{Ask, offering}
-use Rattle.table.specs.Table.{Table, tableOf, lentOf}
+use Rattle.table.specs.Table.{sized, Table, tableOf, lentOf}
 use Rattle.table.proofs.Facts.{misfit-leaves, unknown-leaves, share-fits, share-cut, offer-leaves}
 use Rattle.table.proofs.offer.Statement.{statement}
 use Rattle.table.proofs.offer.Proof.Tie as tie
