@@ -1,3 +1,4 @@
+pub mod Verdict
 pub mod Surplus
 pub mod Reading
 pub mod Rereading
