@@ -1,13 +1,12 @@
 -- What the reader's outcome tells the receiver: with a fragment its bytes lie in the payload and it is the one that `reading` finds; without one
 -- there is none. And what `receive` leaves in either case.
 -- Assumes nothing.
-use Prim.Native.Nat.{ℕ, _-_, _≤_}
-use mathlib.Core.Path.{_≡_, refl, sym, ap, ap₂, subst, _∙_}
+use Prim.Native.Nat.{ℕ, _≤_}
+use mathlib.Core.Path.{_≡_, refl, sym, ap, subst, _∙_}
 use mathlib.Core.List.{List}
 use mathlib.Core.Option.{Option, none, some}
 use native.Mathlib.Omega.{arith}
 use lib.ListN.{length}
-use Rattle.octets.specs.Octets.{part}
 use Rattle.offsets.specs.Offsets.{udpHeader}
 use Rattle.options.specs.declared.area.Fragment.{Fragment}
 use Rattle.datagram.specs.Reading.{reading, answerOf}
