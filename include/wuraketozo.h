@@ -12,7 +12,7 @@
  *  - what one call may write overlaps with nothing else that the call is lent: not the records, the store, `out` or `buffer` with each
  *    other, and none of them with bytes that are read. What is proved is proved of buffers that are apart. Overlapping ones CAN CORRUPT
  *    MEMORY, also outside of them: a number that was tested may be another one when it is used. What is only read may overlap;
- *  - each `bool` in a record is 0 or 1, as C itself has it. Zeroed memory (calloc) is fine, and so is whatever a call left;
+ *  - a record may hold any bytes: it has no padding, and each of its bytes counts. One that fails the record test is refused with 22;
  *  - no other thread uses them during the call. The library keeps no state of its own.
  *
  * Positions are of two kinds that must not mix. Bytes of a payload are a `wuraketozo_extent`, counted from the payload's UDP header.
@@ -22,7 +22,6 @@
 #ifndef WURAKETOZO_H
 #define WURAKETOZO_H
 
-#include <stdbool.h>
 #include <stddef.h>
 #include <stdint.h>
 
@@ -140,19 +139,19 @@ typedef struct {
     uint16_t destination_port;
 } wuraketozo_flow;
 
-/* A held fragment. */
+/* A held fragment. `last` is 0, or any other number for the last one. */
 typedef struct {
     uint16_t offset;
     uint16_t length;
     uint16_t option_start;
-    bool last;
+    uint16_t last;
 } wuraketozo_held;
 
 typedef struct {
     wuraketozo_flow flow;
     uint32_t identification;
     uint64_t opened;
-    uint8_t count;
+    uint64_t count;
     wuraketozo_held fragments[16];
 } wuraketozo_assembly;
 

@@ -13,12 +13,11 @@ ghost use mathlib.Core.Bool.{false};
 ghost use mathlib.Core.List.{_++_};
 ghost use Prim.Native.Nat.{_≤_};
 ghost use lib.ListN.{length, drop};
-ghost use lib.Dec.{eqb};
 ghost use Rattle.offsets.specs.Offsets.{udpHeader};
 ghost use Rattle.options.specs.Area.{areaOf};
 ghost use Rattle.checksum.specs.Checksum.{folded, wordSum};
 ghost use Rattle.datagram.specs.Surplus.{startOf};
-ghost use Rattle.datagram.specs.Reading.{payloadLimit, pseudoHeader, isOdd, quiet, verdictOf, walked, started, reading, answerOf, isRead};
+ghost use Rattle.datagram.specs.Reading.{payloadLimit, pseudoHeader, isOdd, quiet, verdictOf, walked, noData, started, reading, answerOf, isRead};
 ghost use Rattle.datagram.specs.Private.{apcBy};
 
 // An IPv4 packet of 65,535 bytes less its header.
@@ -134,7 +133,7 @@ fn accept(payload: &[u8], size: usize, unused: bool) -> Reading
 // The reading whose option list starts at `from`.
 fn listed(payload: &[u8], size: usize, from: PacketOffset) -> Reading
     requires { ⌜ (udpHeader ≤ size) × (size ≤ from .0) × (from .0 ≤ length (now payload)) ⌝ }
-    ensures { λ r. ⌜ r ≡ walked (now (payload .entry)) size (from .0) (areaOf (eqb size udpHeader) (from .0) (drop (from .0) (now (payload .entry)))) ⌝ }
+    ensures { λ r. ⌜ r ≡ walked (now (payload .entry)) size (from .0) (areaOf (noData size) (from .0) (drop (from .0) (now (payload .entry)))) ⌝ }
 {
     let at = from.0;
     let list = area::walk_area(&payload[at..], from, size == UDP_HEADER);

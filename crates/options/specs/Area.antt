@@ -74,12 +74,16 @@ abbrev pub pieceWith : Fragment → Walked → AreaWalk
 pieceWith f (listed items fill) = piece f
 pieceWith f (faulty x) = fault x
 
--- With user data a FRAG that passes its tests is "fragdata" at once. Else the list ends at Frag. Start; FRAG counts as one option.
+-- what is walked behind FRAG, which ends `behind` bytes into the list: "for such a datagram the list ends at Frag. Start"
+abbrev pub upToStart : Fragment → ℕ → ℕ → List ℕ → List ℕ
+upToStart f base behind l = part behind (f .start .0 - (base + behind)) l
+
+-- With user data a FRAG that passes its tests is "fragdata" at once. Else the list is walked up to Frag. Start; FRAG counts as one option.
 abbrev pub behindFrag : Bool → List ℕ → ℕ → ℕ → Placed → AreaWalk
 behindFrag empty l base behind Refused = fault Malformed
 behindFrag false l base behind (Sound f) = fault FragData
 behindFrag true l base behind (Sound f) =
-    pieceWith f (walkFrom (optionLimit - 1) 0 (part behind (f .start .0 - (base + behind)) l))
+    pieceWith f (walkFrom (optionLimit - 1) 0 (upToStart f base behind l))
 
 -- a list whose first option, behind `nops` NOPs, has the kind of FRAG
 abbrev pub ledBy : Bool → List ℕ → ℕ → ℕ → Step → AreaWalk

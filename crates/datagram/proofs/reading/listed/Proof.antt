@@ -1,11 +1,10 @@
 -- `datagram::reading::listed` meets its contract: the arm knows what the walk told, and the reading by that is the definition's.
 -- Assumes nothing.
-use Rattle.datagram.specs.Reading.{extent, quiet}
+use Rattle.datagram.specs.Reading.{extent, noData, quiet}
 use mathlib.Core.Path.{_≡_, refl, sym, ap, _∙_}
 use mathlib.Core.List.{List}
 use Prim.Native.Nat.{ℕ, _-_, _≤_}
 use native.Mathlib.Omega.{arith}
-use lib.Dec.{eqb}
 use lib.ListN.{length, drop, length-drop}
 use lib.Seq.{take-all}
 use Rattle.offsets.specs.Offsets.{udpHeader}
@@ -20,13 +19,13 @@ use Rattle.datagram.proofs.reading.listed.Tie as tie
 
 -- the walk was made of the list behind `from`
 area : (c : tie.After-walk-area) → let a = c .before .before .before .args in
-    toldArea (areaOf (eqb (a .size) udpHeader) (a .from .0) (drop (a .from .0) (a .payload .now))) ≡ c .walk-area .result
+    toldArea (areaOf (noData (a .size)) (a .from .0) (drop (a .from .0) (a .payload .now))) ≡ c .walk-area .result
 unfolding udpHeader
 area c =
     let start = c .before .before .before in
     let l = start .args .payload .now in
     sym (c .walk-area .ensures
-    ∙ ap (λ (t : List ℕ). toldArea (areaOf (eqb (start .args .size) 8) (start .args .from .0) t))
+    ∙ ap (λ (t : List ℕ). toldArea (areaOf (noData (start .args .size)) (start .args .from .0) t))
     (take-all (length l - start .args .from .0) (drop (start .args .from .0) l) (simp length-drop (omega arith))))
 
 sub-walk-area : tie.Need-sub-walk-area
@@ -90,7 +89,7 @@ returns c =
       apc = (c .apc-of .ensures) i;
     }) (refl)
     ∙ ap (readingBy (a .payload .now) (a .size) (a .from .0)) (sym (area place ∙ list .1))
-    ∙ reading-told (a .payload .now) (a .size) (a .from .0) (areaOf (eqb (a .size) udpHeader) (a .from .0) (drop (a .from .0) (a .payload .now)))
+    ∙ reading-told (a .payload .now) (a .size) (a .from .0) (areaOf (noData (a .size)) (a .from .0) (drop (a .from .0) (a .payload .now)))
 
 returns-2 : tie.Need-returns-2
 unfolding udpHeader
@@ -99,7 +98,7 @@ returns-2 c =
     let place = c .before .before .before .before in
     c .quiet .ensures
     ∙ ap (readingBy (a .payload .now) (a .size) (a .from .0)) (sym (area place ∙ c .before .before .list2 .given .1))
-    ∙ reading-told (a .payload .now) (a .size) (a .from .0) (areaOf (eqb (a .size) udpHeader) (a .from .0) (drop (a .from .0) (a .payload .now)))
+    ∙ reading-told (a .payload .now) (a .size) (a .from .0) (areaOf (noData (a .size)) (a .from .0) (drop (a .from .0) (a .payload .now)))
 
 returns-3 : tie.Need-returns-3
 unfolding udpHeader
@@ -108,7 +107,7 @@ returns-3 c =
     let place = c .before .before .before .before .before in
     c .quiet2 .ensures ∙ ap (quiet (a .size)) (c .before .verdict-of .ensures)
     ∙ ap (readingBy (a .payload .now) (a .size) (a .from .0)) (sym (area place ∙ c .before .before .before .list3 .given .1))
-    ∙ reading-told (a .payload .now) (a .size) (a .from .0) (areaOf (eqb (a .size) udpHeader) (a .from .0) (drop (a .from .0) (a .payload .now)))
+    ∙ reading-told (a .payload .now) (a .size) (a .from .0) (areaOf (noData (a .size)) (a .from .0) (drop (a .from .0) (a .payload .now)))
 
 pub listed-spec : {M : Type 1} → statement M
 listed-spec =
