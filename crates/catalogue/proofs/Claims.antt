@@ -24,6 +24,7 @@ use Rattle.compose.specs.Answer.{written, datagramFor}
 use Rattle.compose.specs.Payload.{Datagram, payloadOf}
 use Rattle.compose.proofs.ReadBack.{backOf}
 use Rattle.compose.proofs.Claims.{ReadBack, WroteBack, write-reads-back}
+use Rattle.catalogue.specs.Back.{GivesList}
 use Rattle.catalogue.specs.Catalogue.{isListed, walkOfValue}
 use Rattle.catalogue.proofs.Values.{by-verdict, value-listed, value-none, none-listed}
 
@@ -106,11 +107,6 @@ pub write-lists-back : (source destination : List ℕ) (sourcePort destinationPo
 write-lists-back source destination sourcePort destinationPort user fill list buffer n s t oct e =
     let w = write-reads-back source destination sourcePort destinationPort user fill list buffer n s t oct e in
     record { wrote = w; back = written-lists-back _ list _ (w .back) }
-
--- what a call of `list_reading` answers and leaves then, where its buffer has room for the list
-pub record GivesList (list : List ℕ) (fill : ℕ) (buffer : List ℕ) (answer : Listed) (left : List ℕ) : Type 0 where
-  pub answered : listedAnswer answer ≡ given (record { size = length list; fill = fill })
-  pub leaves : left ≡ list ++ drop (length list) buffer
 
 pub listed-back : (d : Datagram) (list : List ℕ) (r : Reading) (buffer : List ℕ) (answer : Listed) (left : List ℕ) → ListsBack d list r
     → ListedInto (walkOf (payloadOf d) r) buffer answer left → length list ≤ length buffer → GivesList list (d .fill) buffer answer left

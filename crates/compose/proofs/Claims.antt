@@ -2,7 +2,7 @@
 -- back as the same user data, options, fill and, byte for byte, the same encoded list.
 -- Assumes nothing.
 use mathlib.Core.Path.{_≡_, refl, sym, ap, ap₂, subst, _∙_}
-use mathlib.Core.Bool.{Bool, true, false, cond, _&&_}
+use mathlib.Core.Bool.{Bool, true, false, cond, _&&_, _||_}
 use mathlib.Core.List.{List, [], _∷_, _++_, append-assoc}
 use mathlib.Core.Logic.{_⊎_, inl, inr, ⊎-elim}
 use Prim.Native.Nat.{ℕ, zero, suc, _+_, _-_, _^_, _≤_, _<_}
@@ -31,11 +31,22 @@ use Rattle.listing.specs.Wire.{longestShort}
 use Rattle.transcribe.specs.Listing.{unworked, unworkedAll, listing}
 use Rattle.listing.proofs.Laws.{encode-decode}
 use Rattle.compose.specs.Answer.{tooLarge, fits, put, untouched, putWhole, outcomeBy, written, datagramFor}
+use Rattle.compose.specs.Back.{hasApc, apcBack}
 use Rattle.compose.specs.Payload.{worked, workedAll, listOf, Datagram, sizeOf, payloadOf}
 use Rattle.compose.proofs.Wires.{Wired, Each, walk-wires}
 use Rattle.compose.proofs.ReadBack.{Takes, backOf, listStart, same-count, list-there, walk-list, user-there, user-size, reading-back}
 
 -- ---- APC
+
+-- an option that is no APC is written as it is
+not-worked : (user : List ℕ) (item : Item) → eqb (item .kind) apc ≡ false → worked user item ≡ item
+unfolding worked
+not-worked user item e = simp e
+
+-- an APC is written with the CRC
+apc-worked : (user : List ℕ) (item : Item) → eqb (item .kind) apc ≡ true → worked user item ≡ record { kind = apc; body = octets 4 (crcOf user) }
+unfolding worked
+apc-worked user item e = simp e
 
 all-worked : (user : List ℕ) (items : List Item) → allAre (crcOf user) (apcValues (workedAll user items)) ≡ true
 unfolding allAre apcValues workedAll worked
@@ -50,13 +61,32 @@ all-worked user (item ∷ items) = go (eqb (item .kind) apc) refl (all-worked us
     go true e ih = simp (eq-eqb (number (octets 4 (crcOf user))) (crcOf user) value) ih
     go false e ih = simp e ih
 
-pub apc-back : (user : List ℕ) (items : List Item)
-    → (apcOf user (apcValues (workedAll user items)) ≡ Absent) ⊎ (apcOf user (apcValues (workedAll user items)) ≡ Right)
-apc-back user items = go (apcValues (workedAll user items)) (all-worked user items)
+-- whether values are there
+abbrev anyOf : List ℕ → Bool
+anyOf [] = false
+anyOf (v ∷ vs) = true
+
+any-worked : (user : List ℕ) (items : List Item) → anyOf (apcValues (workedAll user items)) ≡ hasApc items
+unfolding apcValues workedAll worked hasApc
+any-worked user [] = refl
+any-worked user (item ∷ items) = go (eqb (item .kind) apc) refl (any-worked user items)
   where
-    go : (vs : List ℕ) → allAre (crcOf user) vs ≡ true → (apcOf user vs ≡ Absent) ⊎ (apcOf user vs ≡ Right)
-    go [] e = inl refl
-    go (v ∷ vs) e = inr (ap (λ (t : Bool). cond t Right Wrong) e)
+    more : Item → Bool
+    more x = anyOf (apcValues (x ∷ workedAll user items))
+
+    go : (t : Bool) → eqb (item .kind) apc ≡ t → anyOf (apcValues (workedAll user items)) ≡ hasApc items
+        → anyOf (apcValues (worked user item ∷ workedAll user items)) ≡ (t || hasApc items)
+    go true e ih = ap more (apc-worked user item e)
+    go false e ih = ap more (not-worked user item e) ∙ simp e ih
+
+-- none where no value is there, and right where all are
+apc-by : (user vs : List ℕ) → allAre (crcOf user) vs ≡ true → apcOf user vs ≡ cond (anyOf vs) Right Absent
+apc-by user [] e = refl
+apc-by user (v ∷ vs) e = ap (λ (t : Bool). cond t Right Wrong) e
+
+apc-there : (user : List ℕ) (items : List Item) → apcOf user (apcValues (workedAll user items)) ≡ apcBack items
+apc-there user items =
+    apc-by user (apcValues (workedAll user items)) (all-worked user items) ∙ ap (λ (t : Bool). cond t Right Absent) (any-worked user items)
 
 -- ---- options of an encoded list can be written
 
@@ -71,16 +101,6 @@ raw-wired item low high h = record {
   no-frag = λ e. omega arith;
   class = inl (class-varying (item .kind) low high, omega arith);
 }
-
--- an option that is no APC is written as it is
-not-worked : (user : List ℕ) (item : Item) → eqb (item .kind) apc ≡ false → worked user item ≡ item
-unfolding worked
-not-worked user item e = simp e
-
--- an APC is written with the CRC
-apc-worked : (user : List ℕ) (item : Item) → eqb (item .kind) apc ≡ true → worked user item ≡ record { kind = apc; body = octets 4 (crcOf user) }
-unfolding worked
-apc-worked user item e = simp e
 
 pub valid-wired : (user : List ℕ) (item : Item) → ValidOption item → Wired (worked user item)
 unfolding shapeOf classOf total
@@ -156,7 +176,7 @@ pub record ReadBack (d : Datagram) (list : List ℕ) (r : Reading) : Type 0 wher
   pub options : walkFrom optionLimit 0 (listIn (payloadOf d) r) ≡ listed (workedAll (d .user) (d .items)) (d .fill)
   pub count : r .count ≡ length (d .items)
   pub fill : r .fill ≡ d .fill
-  pub apc-right : (r .apc ≡ Absent) ⊎ (r .apc ≡ Right)
+  pub same-apc : r .apc ≡ apcBack (d .items)
   pub same-list : listing (walkFrom optionLimit 0 (listIn (payloadOf d) r)) ≡ list
 
 pub read-back : (d : Datagram) (list : List ℕ) → Octets list → decodedList list ≡ given (d .items)
@@ -180,8 +200,7 @@ read-back d list oct decoded s t fits =
       options = walk;
       count = same-count (d .user) (d .items);
       fill = refl;
-      apc-right = subst (λ (u : List ℕ). (apcOf u (apcValues items) ≡ Absent) ⊎ (apcOf u (apcValues items) ≡ Right)) (sym users)
-          (apc-back (d .user) (d .items));
+      same-apc = ap (λ (u : List ℕ). apcOf u (apcValues items)) users ∙ apc-there (d .user) (d .items);
       same-list = ap listing walk ∙ ap encodedList (all-unworked (d .user) (d .items) (valid .each)) ∙ both .0;
     }
 

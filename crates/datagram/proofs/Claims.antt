@@ -17,6 +17,7 @@ use Rattle.offsets.specs.Offsets.{udpHeader}
 use Rattle.options.specs.Area.{AreaWalk, plain, piece, fault, areaOf}
 use Rattle.datagram.specs.Surplus.{startOf}
 use Rattle.datagram.specs.Reading.{
+  noData,
   payloadLimit,
   udpLength,
   udpChecksum,
@@ -54,9 +55,9 @@ started-user p size Short = refl
 started-user p size Pad = refl
 started-user p size Unsummed = refl
 started-user p size BadSum = refl
-started-user p size (ListAt at) = walked-user p size (size + at) (areaOf (eqb size udpHeader) (size + at) (drop (size + at) p))
+started-user p size (ListAt at) = walked-user p size (size + at) (areaOf (noData size) (size + at) (drop (size + at) p))
 
-accepted-user : (p : List ℕ) → accepted p .user ≡ extent udpHeader (udpLength p)
+pub accepted-user : (p : List ℕ) → accepted p .user ≡ extent udpHeader (udpLength p)
 unfolding accepted
 accepted-user p = started-user p (udpLength p) (startOf (isOdd (udpLength p)) (eqb (udpChecksum p) 0) (drop (udpLength p) p))
 
@@ -93,7 +94,7 @@ started-silent p size Short = inr (record { no-list = refl; no-count = refl; no-
 started-silent p size Pad = inr (record { no-list = refl; no-count = refl; no-fill = refl; no-apc = refl })
 started-silent p size Unsummed = inr (record { no-list = refl; no-count = refl; no-fill = refl; no-apc = refl })
 started-silent p size BadSum = inr (record { no-list = refl; no-count = refl; no-fill = refl; no-apc = refl })
-started-silent p size (ListAt at) = walked-silent p size (size + at) (areaOf (eqb size udpHeader) (size + at) (drop (size + at) p))
+started-silent p size (ListAt at) = walked-silent p size (size + at) (areaOf (noData size) (size + at) (drop (size + at) p))
 
 pub options-only-with-read : (p s d : List ℕ) (r : Reading) → reading p s d ≡ reads r → (r .verdict ≡ Read) ⊎ Silent r
 unfolding accepted

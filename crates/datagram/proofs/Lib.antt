@@ -4,5 +4,7 @@ pub mod Lists
 pub mod Pieces
 pub mod Readings
 pub mod Refusals
+pub mod Rereads
 pub mod Starts
 pub mod Sums
+pub mod Survival

@@ -25,6 +25,7 @@ use Rattle.options.specs.declared.walk.Fault.the-variants.{
 use Rattle.options.proofs.Areas.{area-plain}
 use Rattle.datagram.specs.Surplus.{startOf}
 use Rattle.datagram.specs.Reading.{
+  noData,
   udpLength,
   udpChecksum,
   firstOf,
@@ -129,7 +130,7 @@ module _ (p : List ℕ) (size : ℕ) where
   started-lists odd unused badSum h e v = absurd (not-read BadSum refl v)
   started-lists odd unused (ListAt at) h e v =
       let within : at ≤ length (drop size p) = start-list odd unused (drop size p) at e in
-      walked-lists (eqb size udpHeader) (size + at) (areaOf (eqb size udpHeader) (size + at) (drop (size + at) p))
+      walked-lists (noData size) (size + at) (areaOf (noData size) (size + at) (drop (size + at) p))
       (omega (arith, simp length-drop at within)) refl v
 
 accepted-lists : (p : List ℕ) → udpLength p ≤ length p → accepted p .verdict ≡ Read → ListsIn p (accepted p)

@@ -19,7 +19,7 @@ use Rattle.options.specs.declared.walk.Fault.the-variants.{
 }
 use Rattle.options.proofs.Areas.{area-piece}
 use Rattle.datagram.specs.Surplus.{startOf}
-use Rattle.datagram.specs.Reading.{udpLength, udpChecksum, verdictOf, walked, started, isOdd, accepted, reads, reading}
+use Rattle.datagram.specs.Reading.{noData, udpLength, udpChecksum, verdictOf, walked, started, isOdd, accepted, reads, reading}
 use Rattle.datagram.specs.declared.surplus.Start.{Start}
 use Rattle.datagram.specs.declared.surplus.Start.the-variants.{
   Empty,
@@ -51,7 +51,7 @@ pub record Within (p : List ℕ) (f : Fragment) : Type 0 where
   pub starts : f .start .0 ≤ length p
   pub ends : f .end .0 ≡ length p
 
-fault-not : (x : Fault) (f : Fragment) → verdictOf x ≡ Piece f → ⊥
+pub fault-not : (x : Fault) (f : Fragment) → verdictOf x ≡ Piece f → ⊥
 fault-not malformedList f e = let z : _≡_ {A = ℕ} 0 1 = cc in omega arith
 fault-not unsafeList f e = let z : _≡_ {A = ℕ} 0 1 = cc in omega arith
 fault-not fragData f e = let z : _≡_ {A = ℕ} 0 1 = cc in omega arith
@@ -77,7 +77,7 @@ module _ (p : List ℕ) (size : ℕ) (f : Fragment) where
   started-within odd unused badSum h e v = absurd (let z : _≡_ {A = ℕ} 0 1 = cc in omega arith)
   started-within odd unused (ListAt at) h e v =
       let within : at ≤ length (drop size p) = start-list odd unused (drop size p) at e in
-      walked-within (eqb size udpHeader) (size + at) (areaOf (eqb size udpHeader) (size + at) (drop (size + at) p))
+      walked-within (noData size) (size + at) (areaOf (noData size) (size + at) (drop (size + at) p))
       (omega (arith, simp length-drop at within)) refl v
 
 accepted-within : (p : List ℕ) (f : Fragment) → udpLength p ≤ length p → accepted p .verdict ≡ Piece f → Within p f

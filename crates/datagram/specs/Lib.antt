@@ -1,4 +1,6 @@
+pub mod Verdict
 pub mod Surplus
+pub mod Extents
 pub mod Reading
 pub mod Rereading
 pub mod Private

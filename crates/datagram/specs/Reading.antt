@@ -115,6 +115,10 @@ walked payload size from (plain items fill) = record {
 walked payload size from (piece fragment) = quiet size (Piece fragment)
 walked payload size from (fault f) = quiet size (verdictOf f)
 
+-- whether there is no user data: L is that of a header alone
+abbrev pub noData : ℕ → Bool
+noData size = eqb size udpHeader
+
 abbrev pub started : List ℕ → ℕ → Start → Reading
 started payload size Empty = quiet size Bare
 started payload size shortArea = quiet size Short
@@ -122,7 +126,7 @@ started payload size badPad = quiet size Pad
 started payload size noSum = quiet size Unsummed
 started payload size badSum = quiet size BadSum
 started payload size (ListAt at) =
-    walked payload size (size + at) (areaOf (eqb size udpHeader) (size + at) (drop (size + at) payload))
+    walked payload size (size + at) (areaOf (noData size) (size + at) (drop (size + at) payload))
 
 -- whether an offset is odd
 abbrev pub isOdd : ℕ → Bool

@@ -10,7 +10,7 @@ use Rattle.record.specs.declared.Fragment.{Fragment}
 use Rattle.record.specs.declared.Assembly.{Assembly}
 use Rattle.record.specs.declared.Client.{Client}
 use Rattle.record.specs.Lists.{if, any}
-use Rattle.record.specs.Record.{freshAssembly, live, heldFragments, soundRecord}
+use Rattle.record.specs.Record.{isLast, freshAssembly, live, heldFragments, soundRecord}
 use Rattle.reassembly.specs.declared.Arrival.{Arrival}
 use Rattle.reassembly.specs.Advance.{Turn}
 use Rattle.reassembly.specs.Offer.{base, Outcome}
@@ -34,8 +34,8 @@ unfoldable pub contentOf : List ℕ → ℕ → Fragment → Content
 contentOf share p f = record {
   place = f .offset;
   bytes = part (base p + f .offset) (f .length) share;
-  last = f .last;
-  start = if (f .last) (f .«option_start») 0;
+  last = isLast f;
+  start = if (isLast f) (f .«option_start») 0;
 }
 
 -- the live assembly a at place p is what the entries have of its key, in order, opened when the first came

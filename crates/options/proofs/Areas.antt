@@ -19,7 +19,7 @@ use Rattle.octets.specs.Octets.{part}
 use Rattle.options.specs.Kinds.{classOf, eol, nop, frag}
 use Rattle.options.specs.Step.{stepOf}
 use Rattle.options.specs.Walk.{Item, Walked, listed, faulty, walkFrom, optionLimit}
-use Rattle.options.specs.Area.{plain, piece, nopsOf, fieldsOf, placedAt, fragmentOf, plainly, pieceWith, behindFrag, ledBy, areaOf}
+use Rattle.options.specs.Area.{plain, piece, nopsOf, fieldsOf, placedAt, fragmentOf, plainly, pieceWith, upToStart, behindFrag, ledBy, areaOf}
 use Rattle.options.specs.declared.step.Step.{Step}
 use Rattle.options.specs.declared.step.Step.the-variants.{End, Eol, Nop, Found, Malformed as Unsound, Outlawed}
 use Rattle.options.specs.declared.area.Fields.{Fields}
@@ -63,17 +63,17 @@ pub fragment-within : (fields : Fields) (base behind size : ℕ) (f : Fragment) 
     → (base + behind ≤ f .start .0) × (f .start .0 ≤ base + size)
 unfolding fragmentOf
 fragment-within fields base behind size f =
-    go (leb (base + behind) (fields .start)) (leb (fields .start) (base + size)) (placeOf (fields .offset)) (placeOf (fields .«option_start»)) refl refl
+    go (leb (base + behind) (fields .start .0)) (leb (fields .start .0) (base + size)) (placeOf (fields .offset)) (placeOf (fields .«option_start»)) refl refl
   where
-    go : (s t : Bool) (o r : Origin) → leb (base + behind) (fields .start) ≡ s → leb (fields .start) (base + size) ≡ t
+    go : (s t : Bool) (o r : Origin) → leb (base + behind) (fields .start .0) ≡ s → leb (fields .start .0) (base + size) ≡ t
         → cond (s && t) (placedAt fields (base + size) o r) Refused ≡ Sound f → (base + behind ≤ f .start .0) × (f .start .0 ≤ base + size)
     go false t o r p q e = absurd (let z : _≡_ {A = ℕ} 0 1 = cc in omega arith)
     go true false o r p q e = absurd (let z : _≡_ {A = ℕ} 0 1 = cc in omega arith)
     go true true BeforeData r p q e = absurd (let z : _≡_ {A = ℕ} 0 1 = cc in omega arith)
     go true true (At o) BeforeData p q e = absurd (let z : _≡_ {A = ℕ} 0 1 = cc in omega arith)
     go true true (At o) (At r) p q e =
-        let same : fields .start ≡ f .start .0 = ap startOf e in
-        (omega (arith, leb-true (base + behind) (fields .start) p), omega (arith, leb-true (fields .start) (base + size) q))
+        let same : fields .start .0 ≡ f .start .0 = ap startOf e in
+        (omega (arith, leb-true (base + behind) (fields .start .0) p), omega (arith, leb-true (fields .start .0) (base + size) q))
 
 -- ---- a list whose walk gives options
 
@@ -84,7 +84,7 @@ piece-not f (faulty x) items fill e = let z : _≡_ {A = ℕ} 0 1 = cc in omega 
 behind-not : (empty : Bool) (l : List ℕ) (base n : ℕ) (p : Placed) (items : List Item) (fill : ℕ) → behindFrag empty l base n p ≡ plain items fill → ⊥
 behind-not empty l base n Refused items fill e = let z : _≡_ {A = ℕ} 0 1 = cc in omega arith
 behind-not false l base n (Sound f) items fill e = let z : _≡_ {A = ℕ} 0 1 = cc in omega arith
-behind-not true l base n (Sound f) items fill e = piece-not f (walkFrom (optionLimit - 1) 0 (part n (f .start .0 - (base + n)) l)) items fill e
+behind-not true l base n (Sound f) items fill e = piece-not f (walkFrom (optionLimit - 1) 0 (upToStart f base n l)) items fill e
 
 -- a list that FRAG leads gives none
 led-not : (empty : Bool) (l : List ℕ) (base nops : ℕ) (step : Step) (items : List Item) (fill : ℕ) → ledBy empty l base nops step ≡ plain items fill → ⊥
@@ -113,6 +113,32 @@ area-plain empty base l items fill = go (eqb (getD l (nopsOf l) eol) frag)
 
 -- ---- a list that is a fragment's
 
+pub plain-not : (w : Walked) (f : Fragment) → plainly w ≡ piece f → ⊥
+plain-not (listed others n) f e = let z : _≡_ {A = ℕ} 0 1 = cc in omega arith
+plain-not (faulty x) f e = let z : _≡_ {A = ℕ} 0 1 = cc in omega arith
+
+behind-data : (l : List ℕ) (base n : ℕ) (p : Placed) (f : Fragment) → behindFrag false l base n p ≡ piece f → ⊥
+behind-data l base n Refused f e = let z : _≡_ {A = ℕ} 0 1 = cc in omega arith
+behind-data l base n (Sound g) f e = let z : _≡_ {A = ℕ} 0 1 = cc in omega arith
+
+led-data : (l : List ℕ) (base nops : ℕ) (step : Step) (f : Fragment) → ledBy false l base nops step ≡ piece f → ⊥
+led-data l base nops (Found kind header size) f e =
+    behind-data l base (nops + size) (fragmentOf (fieldsOf size (drop nops l)) base (nops + size) (length l)) f e
+led-data l base nops End f e = let z : _≡_ {A = ℕ} 0 1 = cc in omega arith
+led-data l base nops Eol f e = let z : _≡_ {A = ℕ} 0 1 = cc in omega arith
+led-data l base nops Nop f e = let z : _≡_ {A = ℕ} 0 1 = cc in omega arith
+led-data l base nops Unsound f e = let z : _≡_ {A = ℕ} 0 1 = cc in omega arith
+led-data l base nops Outlawed f e = let z : _≡_ {A = ℕ} 0 1 = cc in omega arith
+
+-- a datagram with user data is no piece
+pub data-not-piece : (base : ℕ) (l : List ℕ) (f : Fragment) → areaOf false base l ≡ piece f → ⊥
+unfolding areaOf
+data-not-piece base l f = go (eqb (getD l (nopsOf l) eol) frag)
+  where
+    go : (t : Bool) → cond t (ledBy false l base (nopsOf l) (stepOf (drop (nopsOf l) l))) (plainly (walkFrom optionLimit 0 l)) ≡ piece f → ⊥
+    go true e = led-data l base (nopsOf l) (stepOf (drop (nopsOf l) l)) f e
+    go false e = plain-not (walkFrom optionLimit 0 l) f e
+
 abbrev endOf : Placed → ℕ
 endOf (Sound f) = f .end .0
 endOf Refused = 0
@@ -120,7 +146,7 @@ endOf Refused = 0
 fragment-ends : (fields : Fields) (base behind size : ℕ) (f : Fragment) → fragmentOf fields base behind size ≡ Sound f → f .end .0 ≡ base + size
 unfolding fragmentOf
 fragment-ends fields base behind size f =
-    go (leb (base + behind) (fields .start) && leb (fields .start) (base + size)) (placeOf (fields .offset)) (placeOf (fields .«option_start»))
+    go (leb (base + behind) (fields .start .0) && leb (fields .start .0) (base + size)) (placeOf (fields .offset)) (placeOf (fields .«option_start»))
   where
     go : (t : Bool) (o r : Origin) → cond t (placedAt fields (base + size) o r) Refused ≡ Sound f → f .end .0 ≡ base + size
     go false o r e = absurd (let z : _≡_ {A = ℕ} 0 1 = cc in omega arith)
@@ -142,7 +168,7 @@ behind-ends : (empty : Bool) (l : List ℕ) (base n : ℕ) (fields : Fields) (p 
 behind-ends empty l base n fields Refused f q e = absurd (let z : _≡_ {A = ℕ} 0 1 = cc in omega arith)
 behind-ends false l base n fields (Sound g) f q e = absurd (let z : _≡_ {A = ℕ} 0 1 = cc in omega arith)
 behind-ends true l base n fields (Sound g) f q e =
-    subst (Ends base l) (same-piece g (walkFrom (optionLimit - 1) 0 (part n (g .start .0 - (base + n)) l)) f e)
+    subst (Ends base l) (same-piece g (walkFrom (optionLimit - 1) 0 (upToStart g base n l)) f e)
     (record { starts = fragment-within fields base n (length l) g q .1; ends = fragment-ends fields base n (length l) g q })
 
 led-ends : (empty : Bool) (l : List ℕ) (base nops : ℕ) (step : Step) (f : Fragment) → ledBy empty l base nops step ≡ piece f → Ends base l f
@@ -154,10 +180,6 @@ led-ends empty l base nops Eol f e = absurd (let z : _≡_ {A = ℕ} 0 1 = cc in
 led-ends empty l base nops Nop f e = absurd (let z : _≡_ {A = ℕ} 0 1 = cc in omega arith)
 led-ends empty l base nops Unsound f e = absurd (let z : _≡_ {A = ℕ} 0 1 = cc in omega arith)
 led-ends empty l base nops Outlawed f e = absurd (let z : _≡_ {A = ℕ} 0 1 = cc in omega arith)
-
-plain-not : (w : Walked) (f : Fragment) → plainly w ≡ piece f → ⊥
-plain-not (listed others n) f e = let z : _≡_ {A = ℕ} 0 1 = cc in omega arith
-plain-not (faulty x) f e = let z : _≡_ {A = ℕ} 0 1 = cc in omega arith
 
 pub area-piece : (empty : Bool) (base : ℕ) (l : List ℕ) (f : Fragment) → areaOf empty base l ≡ piece f → Ends base l f
 unfolding areaOf

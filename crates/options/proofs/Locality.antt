@@ -17,7 +17,7 @@ use Rattle.offsets.specs.Offsets.{udpHeader}
 use Rattle.options.specs.Kinds.{classOf, eol, nop, frag, lastFragSize}
 use Rattle.options.specs.Step.{within, headerOf, fixedStep, varyingStep, stepIn, stepOf}
 use Rattle.options.specs.Walk.{Item, Walked, listed, faulty, before, itemOf, sound, met, walkFrom, optionLimit}
-use Rattle.options.specs.Area.{nopsOf, fieldsOf, fragmentOf, piece, plainly, pieceWith, behindFrag, ledBy, areaOf}
+use Rattle.options.specs.Area.{nopsOf, fieldsOf, fragmentOf, piece, plainly, pieceWith, upToStart, behindFrag, ledBy, areaOf}
 use Rattle.options.specs.declared.step.Class.{Class}
 use Rattle.options.specs.declared.step.Class.the-variants.{EndOfList, NoOperation, Fixed, Varying, Unsafe}
 use Rattle.options.specs.declared.step.Header.{Header}
@@ -29,7 +29,7 @@ use Rattle.options.specs.declared.area.Fields.{Fields}
 use Rattle.options.specs.declared.area.Fragment.{Fragment}
 use Rattle.options.specs.declared.area.Placed.{Placed}
 use Rattle.options.specs.declared.area.Placed.the-variants.{Sound as SoundPiece, Refused}
-use Rattle.options.proofs.Areas.{fragment-within}
+use Rattle.options.proofs.Areas.{fragment-within, plain-not}
 use Rattle.options.proofs.Steps.{header-sound, step-found}
 
 -- ---- lists with one front
@@ -304,19 +304,6 @@ frag-long l kind h s e k =
     let f = step-found l kind h s e in
     ⊎-elim (λ u. omega arith) (λ u. omega arith) (f .fixed 10 12 (ap classOf (f .front ∙ k)))
 
-not-plain : (w : Walked) (f : Fragment) → plainly w ≡ piece f → ⊥
-not-plain (listed items fill) f q = let z : _≡_ {A = ℕ} 0 1 = cc in omega arith
-not-plain (faulty x) f q = let z : _≡_ {A = ℕ} 0 1 = cc in omega arith
-
-with-same : (f g : Fragment) (w : Walked) → pieceWith g w ≡ piece f → g ≡ f
-with-same f g (listed items fill) q = cc
-with-same f g (faulty x) q = absurd (let z : _≡_ {A = ℕ} 0 1 = cc in omega arith)
-
--- a piece is the fragment that its FRAG says
-behind-same : (empty : Bool) (l : List ℕ) (base behind : ℕ) (f g : Fragment) → behindFrag empty l base behind (SoundPiece g) ≡ piece f → g ≡ f
-behind-same true l base behind f g q = with-same f g (walkFrom (optionLimit - 1) 0 (part behind (g .start .0 - (base + behind)) l)) q
-behind-same false l base behind f g q = absurd (let z : _≡_ {A = ℕ} 0 1 = cc in omega arith)
-
 -- the options behind FRAG are walked up to Frag. Start
 behind-local : (empty : Bool) (l m : List ℕ) (base behind : ℕ) (f : Fragment) → base + behind ≤ f .start .0
     → take (f .start .0 - base) l ≡ take (f .start .0 - base) m
@@ -326,8 +313,24 @@ behind-local true l m base behind f h same =
     ap (λ (t : List ℕ). pieceWith f (walkFrom (optionLimit - 1) 0 t))
     (part-same behind (f .start .0 - (base + behind)) (f .start .0 - base) l m same (omega arith))
 
+-- FRAG is the first option that is no NOP, and passes its tests: the fragment that it says
+pub record Leads (base : ℕ) (l : List ℕ) (f : Fragment) : Type 0 where
+  pub kind : ℕ
+  pub header : ℕ
+  pub size : ℕ
+  pub first : eqb (getD l (nopsOf l) eol) frag ≡ true
+  pub found : stepOf (drop (nopsOf l) l) ≡ Found kind header size
+  pub sound : fragmentOf (fieldsOf size (drop (nopsOf l) l)) base (nopsOf l + size) (length l) ≡ SoundPiece f
+
+-- what the walk comes to behind such a FRAG
+pub led-area : (empty : Bool) (base : ℕ) (l : List ℕ) (f : Fragment) (led : Leads base l f)
+    → areaOf empty base l ≡ behindFrag empty l base (nopsOf l + led .size) (SoundPiece f)
+unfolding areaOf
+led-area empty base l f led =
+    ap (λ (t : Bool). cond t (ledBy empty l base (nopsOf l) (stepOf (drop (nopsOf l) l))) (plainly (walkFrom optionLimit 0 l))) (led .first)
+    ∙ ap (ledBy empty l base (nopsOf l)) (led .found) ∙ ap (behindFrag empty l base (nopsOf l + led .size)) (led .sound)
+
 module _
-    (empty : Bool)
     (base : ℕ)
     (l m : List ℕ)
     (f : Fragment)
@@ -339,52 +342,101 @@ module _
   abbrev nops : ℕ
   nops = nopsOf l
 
-  placed-piece : (kind header size : ℕ) → eqb (getD l nops eol) frag ≡ true → stepOf (drop nops l) ≡ Found kind header size
-      → fragmentOf (fieldsOf size (drop nops l)) base (nops + size) (length l) ≡ SoundPiece f
-      → behindFrag empty l base (nops + size) (SoundPiece f) ≡ piece f → areaOf empty base m ≡ piece f
-  unfolding areaOf
-  placed-piece kind header size c e p q =
-      let w = fragment-within (fieldsOf size (drop nops l)) base (nops + size) (length l) f p in
-      let z = step-found (drop nops l) kind header size e in
-      let ahead : nops + size ≤ n = omega (arith, w .0) in
-      let some : nops < n = omega (arith, z .sized .least) in
-      let leads : getD (drop nops l) 0 0 ≡ frag = getD-drop nops l 0 0 ∙ ap (λ (i : ℕ). getD l i 0) (add-zero nops) ∙ eqb-true (getD l nops eol) frag c in
+  -- FRAG stands before Frag. Start
+  ahead : (led : Leads base l f) → (base + (nops + led .size) ≤ f .start .0) × (nops < n)
+  ahead led =
+      let w = fragment-within (fieldsOf (led .size) (drop nops l)) base (nops + led .size) (length l) f (led .sound) in
+      let z = step-found (drop nops l) (led .kind) (led .header) (led .size) (led .found) in
+      (w .0, omega (arith, w .0, z .sized .least))
+
+  nops-same : Leads base l f → nopsOf m ≡ nops
+  nops-same led = nops-local n l m len same (ahead led .1)
+
+  led-local : (led : Leads base l f) → Leads base m f
+  led-local led =
+      let h = ahead led in
+      let size : ℕ = led .size in
+      let before : nops + size ≤ n = omega (arith, h .0) in
+      let some : nops < n = h .1 in
+      let leads : getD (drop nops l) 0 0 ≡ frag =
+      getD-drop nops l 0 0 ∙ ap (λ (i : ℕ). getD l i 0) (add-zero nops) ∙ eqb-true (getD l nops eol) frag (led .first) in
       let tails : take (n - nops) (drop nops l) ≡ take (n - nops) (drop nops m) = part-same nops (n - nops) n l m same (omega arith) in
       let lengths : length (drop nops l) ≡ length (drop nops m) = length-drop nops l ∙ ap (λ (i : ℕ). i - nops) len ∙ sym (length-drop nops m) in
       let fields : fieldsOf size (drop nops l) ≡ fieldsOf size (drop nops m) =
-      fields-local size (n - nops) (drop nops l) (drop nops m) tails (frag-long (drop nops l) kind header size e leads) (omega arith) in
-      ap (λ (i : ℕ). cond (eqb (getD m i eol) frag) (ledBy empty m base i (stepOf (drop i m))) (plainly (walkFrom optionLimit 0 m)))
-      (nops-local n l m len same some)
-      ∙ ap (λ (t : Bool). cond t (ledBy empty m base nops (stepOf (drop nops m))) (plainly (walkFrom optionLimit 0 m)))
-      (ap (λ (b : ℕ). eqb b frag) (sym (byte-same n nops l m same some)) ∙ c)
-      ∙ ap (ledBy empty m base nops) (step-local (n - nops) (drop nops l) (drop nops m) kind header size lengths tails (omega arith) e)
-      ∙ ap (behindFrag empty m base (nops + size)) (ap₂ (λ (x : Fields) (i : ℕ). fragmentOf x base (nops + size) i) (sym fields) (sym len) ∙ p)
-      ∙ sym (behind-local empty l m base (nops + size) f (w .0) same) ∙ q
+      fields-local size (n - nops) (drop nops l) (drop nops m) tails (frag-long (drop nops l) (led .kind) (led .header) size (led .found) leads)
+      (omega arith) in
+      let at : nopsOf m ≡ nops = nops-same led in
+      record {
+        kind = led .kind;
+        header = led .header;
+        size = size;
+        first =
+            ap (λ (i : ℕ). eqb (getD m i eol) frag) at ∙ ap (λ (b : ℕ). eqb b frag) (sym (byte-same n nops l m same some)) ∙ led .first;
+        found =
+            ap (λ (i : ℕ). stepOf (drop i m)) at
+            ∙ step-local (n - nops) (drop nops l) (drop nops m) (led .kind) (led .header) size lengths tails (omega arith) (led .found);
+        sound =
+            ap (λ (i : ℕ). fragmentOf (fieldsOf size (drop i m)) base (i + size) (length m)) at
+            ∙ ap₂ (λ (x : Fields) (i : ℕ). fragmentOf x base (nops + size) i) (sym fields) (sym len) ∙ led .sound;
+      }
 
-  led-piece : (step : Step) → eqb (getD l nops eol) frag ≡ true → stepOf (drop nops l) ≡ step → ledBy empty l base nops step ≡ piece f
-      → areaOf empty base m ≡ piece f
-  led-piece End c e q = absurd (let z : _≡_ {A = ℕ} 0 1 = cc in omega arith)
-  led-piece Eol c e q = absurd (let z : _≡_ {A = ℕ} 0 1 = cc in omega arith)
-  led-piece Nop c e q = absurd (let z : _≡_ {A = ℕ} 0 1 = cc in omega arith)
-  led-piece Unsound c e q = absurd (let z : _≡_ {A = ℕ} 0 1 = cc in omega arith)
-  led-piece Outlawed c e q = absurd (let z : _≡_ {A = ℕ} 0 1 = cc in omega arith)
-  led-piece (Found kind header size) c e q = go (fragmentOf (fieldsOf size (drop nops l)) base (nops + size) (length l)) refl q
-    where
-      go : (placed : Placed) → fragmentOf (fieldsOf size (drop nops l)) base (nops + size) (length l) ≡ placed
-          → behindFrag empty l base (nops + size) placed ≡ piece f → areaOf empty base m ≡ piece f
-      go Refused p q = absurd (let z : _≡_ {A = ℕ} 0 1 = cc in omega arith)
-      go (SoundPiece g) p q =
-          let g-f : g ≡ f = behind-same empty l base (nops + size) f g q in
-          placed-piece kind header size c e (p ∙ ap SoundPiece g-f) (ap (λ (x : Fragment). behindFrag empty l base (nops + size) (SoundPiece x)) (sym g-f) ∙ q)
+  area-local : (empty : Bool) → Leads base l f → areaOf empty base m ≡ areaOf empty base l
+  unfolding led-local
+  area-local empty led =
+      led-area empty base m f (led-local led)
+      ∙ ap (λ (i : ℕ). behindFrag empty m base (i + led .size) (SoundPiece f)) (nops-same led)
+      ∙ sym (behind-local empty l m base (nops + led .size) f (ahead led .0) same) ∙ sym (led-area empty base l f led)
 
--- the walk of a piece looks at no byte behind Frag. Start
-pub behind-frag-start : (empty : Bool) (base : ℕ) (l m : List ℕ) (f : Fragment) → length l ≡ length m → areaOf empty base l ≡ piece f
-    → take (f .start .0 - base) l ≡ take (f .start .0 - base) m → areaOf empty base m ≡ piece f
+-- Where FRAG leads, the walk looks at no byte behind Frag. Start, whatever it comes to: a piece, or the fault met first.
+pub behind-frag-start : (empty : Bool) (base : ℕ) (l m : List ℕ) (f : Fragment) → Leads base l f → length l ≡ length m
+    → take (f .start .0 - base) l ≡ take (f .start .0 - base) m → areaOf empty base m ≡ areaOf empty base l
+behind-frag-start empty base l m f led len same = area-local base l m f len same empty led
+
+-- ---- a piece is such a list
+
+with-same : (f g : Fragment) (w : Walked) → pieceWith g w ≡ piece f → g ≡ f
+with-same f g (listed items fill) q = cc
+with-same f g (faulty x) q = absurd (let z : _≡_ {A = ℕ} 0 1 = cc in omega arith)
+
+behind-same : (empty : Bool) (l : List ℕ) (base behind : ℕ) (f g : Fragment) → behindFrag empty l base behind (SoundPiece g) ≡ piece f → g ≡ f
+behind-same true l base behind f g q = with-same f g (walkFrom (optionLimit - 1) 0 (upToStart g base behind l)) q
+behind-same false l base behind f g q = absurd (let z : _≡_ {A = ℕ} 0 1 = cc in omega arith)
+
+-- a piece is the fragment of the FRAG that leads its list
+pub piece-leads : (empty : Bool) (base : ℕ) (l : List ℕ) (f : Fragment) → areaOf empty base l ≡ piece f → Leads base l f
 unfolding areaOf
-behind-frag-start empty base l m f len q same = go (eqb (getD l (nopsOf l) eol) frag) refl q
+piece-leads empty base l f = go (eqb (getD l nops eol) frag) refl
   where
-    go : (t : Bool) → eqb (getD l (nopsOf l) eol) frag ≡ t
-        → cond t (ledBy empty l base (nopsOf l) (stepOf (drop (nopsOf l) l))) (plainly (walkFrom optionLimit 0 l)) ≡ piece f
-        → areaOf empty base m ≡ piece f
-    go true c q = led-piece empty base l m f len same (stepOf (drop (nopsOf l) l)) c refl q
-    go false c q = absurd (not-plain (walkFrom optionLimit 0 l) f q)
+    nops : ℕ
+    nops = nopsOf l
+
+    placed : (kind header size : ℕ) → eqb (getD l nops eol) frag ≡ true → stepOf (drop nops l) ≡ Found kind header size → (p : Placed)
+        → fragmentOf (fieldsOf size (drop nops l)) base (nops + size) (length l) ≡ p → behindFrag empty l base (nops + size) p ≡ piece f → Leads base l f
+    placed kind header size c e Refused s q = absurd (let z : _≡_ {A = ℕ} 0 1 = cc in omega arith)
+    placed kind header size c e (SoundPiece g) s q = record {
+      kind = kind;
+      header = header;
+      size = size;
+      first = c;
+      found = e;
+      sound = s ∙ ap SoundPiece (behind-same empty l base (nops + size) f g q);
+    }
+
+    led : (step : Step) → eqb (getD l nops eol) frag ≡ true → stepOf (drop nops l) ≡ step → ledBy empty l base nops step ≡ piece f → Leads base l f
+    led End c e q = absurd (let z : _≡_ {A = ℕ} 0 1 = cc in omega arith)
+    led Eol c e q = absurd (let z : _≡_ {A = ℕ} 0 1 = cc in omega arith)
+    led Nop c e q = absurd (let z : _≡_ {A = ℕ} 0 1 = cc in omega arith)
+    led Unsound c e q = absurd (let z : _≡_ {A = ℕ} 0 1 = cc in omega arith)
+    led Outlawed c e q = absurd (let z : _≡_ {A = ℕ} 0 1 = cc in omega arith)
+    led (Found kind header size) c e q =
+        placed kind header size c e (fragmentOf (fieldsOf size (drop nops l)) base (nops + size) (length l)) refl q
+
+    go : (t : Bool) → eqb (getD l nops eol) frag ≡ t
+        → cond t (ledBy empty l base nops (stepOf (drop nops l))) (plainly (walkFrom optionLimit 0 l)) ≡ piece f → Leads base l f
+    go true c q = led (stepOf (drop nops l)) c refl q
+    go false c q = absurd (plain-not (walkFrom optionLimit 0 l) f q)
+
+-- so the walk of a piece looks at no byte of the piece itself
+pub behind-piece : (empty : Bool) (base : ℕ) (l m : List ℕ) (f : Fragment) → areaOf empty base l ≡ piece f → length l ≡ length m
+    → take (f .start .0 - base) l ≡ take (f .start .0 - base) m → areaOf empty base m ≡ piece f
+behind-piece empty base l m f q len same = behind-frag-start empty base l m f (piece-leads empty base l f q) len same ∙ q

@@ -31,7 +31,7 @@ nopsOf (b ∷ bs) = cond (eqb b nop) (1 + nopsOf bs) 0
 -- reassembled option start. Where the piece is not the last, that start stands at the origin.
 unfoldable pub fieldsOf : ℕ → List ℕ → Fields
 fieldsOf size l = record {
-  start = number (part 2 2 l);
+  start = record { 0 = number (part 2 2 l) };
   identification = number (part 4 4 l);
   offset = number (part 8 2 l);
   last = eqb size lastFragSize;
@@ -45,7 +45,7 @@ placedAt fields end (At place) BeforeData = Refused
 placedAt fields end (At place) (At r) = Sound (record {
   identification = fields .identification;
   place = place;
-  start = record { 0 = fields .start };
+  start = fields .start;
   end = record { 0 = end };
   last = fields .last;
   «option_start» = r;
@@ -55,7 +55,7 @@ placedAt fields end (At place) (At r) = Sound (record {
 -- nor past the payload, which ends with the list.
 unfoldable pub fragmentOf : Fields → ℕ → ℕ → ℕ → Placed
 fragmentOf fields base behind size =
-    cond (leb (base + behind) (fields .start) && leb (fields .start) (base + size))
+    cond (leb (base + behind) (fields .start .0) && leb (fields .start .0) (base + size))
     (placedAt fields (base + size) (placeOf (fields .offset)) (placeOf (fields .«option_start»)))
     Refused
 
@@ -74,12 +74,16 @@ abbrev pub pieceWith : Fragment → Walked → AreaWalk
 pieceWith f (listed items fill) = piece f
 pieceWith f (faulty x) = fault x
 
--- With user data a FRAG that passes its tests is "fragdata" at once. Else the list ends at Frag. Start; FRAG counts as one option.
+-- what is walked behind FRAG, which ends `behind` bytes into the list: "for such a datagram the list ends at Frag. Start"
+abbrev pub upToStart : Fragment → ℕ → ℕ → List ℕ → List ℕ
+upToStart f base behind l = part behind (f .start .0 - (base + behind)) l
+
+-- With user data a FRAG that passes its tests is "fragdata" at once. Else the list is walked up to Frag. Start; FRAG counts as one option.
 abbrev pub behindFrag : Bool → List ℕ → ℕ → ℕ → Placed → AreaWalk
 behindFrag empty l base behind Refused = fault Malformed
 behindFrag false l base behind (Sound f) = fault FragData
 behindFrag true l base behind (Sound f) =
-    pieceWith f (walkFrom (optionLimit - 1) 0 (part behind (f .start .0 - (base + behind)) l))
+    pieceWith f (walkFrom (optionLimit - 1) 0 (upToStart f base behind l))
 
 -- a list whose first option, behind `nops` NOPs, has the kind of FRAG
 abbrev pub ledBy : Bool → List ℕ → ℕ → ℕ → Step → AreaWalk

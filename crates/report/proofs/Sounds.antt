@@ -7,13 +7,14 @@ use Prim.Native.Nat.{ℕ, _≤_}
 use native.Mathlib.Omega.{arith}
 use lib.ListN.{length}
 use Rattle.options.specs.Walk.{walkFrom, optionLimit}
+use Rattle.datagram.specs.Extents.{sizeOf}
 use Rattle.datagram.specs.Reading.{reads, reading, isRead}
 use Rattle.datagram.specs.declared.reading.Extent.{Extent}
 use Rattle.datagram.specs.declared.reading.Reading.{Reading}
 use Rattle.datagram.proofs.Claims.{met-none, in-range, user-extent}
 use Rattle.datagram.proofs.Lists.{ListsIn, lists-part, read-verdict, reading-lists}
 use Rattle.report.specs.Words.{userWord}
-use Rattle.report.specs.Report.{sizeOf, numberLine, verdictLine, listingOf, readingText}
+use Rattle.report.specs.Report.{numberLine, verdictLine, listingOf, readingText}
 use Rattle.report.specs.Sound.{isListed, Listable, Sound}
 
 -- ---- a reading

@@ -1,11 +1,12 @@
 -- The report on a payload (document 01, "The program").
 use mathlib.Core.Bool.{cond}
 use mathlib.Core.List.{List, [], _∷_, _++_}
-use Prim.Native.Nat.{ℕ, _-_}
+use Prim.Native.Nat.{ℕ}
 use lib.Dec.{eqb}
 use lib.ListN.{take, drop}
-use Rattle.octets.specs.Octets.{number, part}
+use Rattle.octets.specs.Octets.{number}
 use Rattle.options.specs.Walk.{Item, Walked, listed, faulty, walkFrom, optionLimit}
+use Rattle.datagram.specs.Extents.{sizeOf, bytesIn}
 use Rattle.datagram.specs.Reading.{Answer, refused, reads, reading, isRead}
 use Rattle.datagram.specs.declared.reading.Extent.{Extent}
 use Rattle.datagram.specs.declared.reading.Reading.{Reading}
@@ -61,13 +62,6 @@ unfoldable pub verdictLine : Verdict → List ℕ
 verdictLine verdict = verdictWord ++ (blank ∷ []) ++ wordOf verdict ++ (newline ∷ [])
 
 -- ---- the whole
-
--- the bytes of an extent, and how many they are
-abbrev pub sizeOf : Extent → ℕ
-sizeOf extent = extent .to .0 - extent .from .0
-
-abbrev pub bytesIn : Extent → List ℕ → List ℕ
-bytesIn extent payload = part (extent .from .0) (sizeOf extent) payload
 
 abbrev pub itemsOf : Walked → List Item
 itemsOf (listed items fill) = items

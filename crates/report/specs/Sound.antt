@@ -5,10 +5,10 @@ use mathlib.Core.List.{List}
 use Prim.Native.Nat.{ℕ, _≤_}
 use lib.ListN.{length}
 use Rattle.options.specs.Walk.{Walked, listed, faulty, walkFrom, optionLimit}
+use Rattle.datagram.specs.Extents.{bytesIn}
 use Rattle.datagram.specs.Reading.{isRead}
 use Rattle.datagram.specs.declared.reading.Extent.{Extent}
 use Rattle.datagram.specs.declared.reading.Reading.{Reading}
-use Rattle.report.specs.Report.{bytesIn}
 
 -- the walk meets no fault
 abbrev pub isListed : Walked → Bool

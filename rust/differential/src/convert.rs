@@ -1,7 +1,7 @@
 //! The reference's values as the library's.
 
 use reference as plain;
-use wuraketozo::{raw, Account, Assembly, Client, Flow, Held};
+use wuraketozo::{raw, Account, Flow};
 
 /// Bytes in hex. Of long ones the front: the seed gives the rest.
 pub fn hex(bytes: &[u8]) -> String {
@@ -135,31 +135,6 @@ pub fn flow(flow: &plain::Flow) -> Flow {
         destination: flow.destination,
         source_port: flow.source_port,
         destination_port: flow.destination_port,
-    }
-}
-
-pub fn client(record: &plain::Record) -> Client {
-    Client {
-        time: record.time,
-        offered: record.offered,
-        held: record.held,
-        delivered: record.delivered,
-        expired: record.expired,
-        conflicted: record.clashed,
-        repeated: record.repeated,
-        rejected: record.turned_away,
-        assemblies: record.assemblies.map(|assembly| Assembly {
-            flow: flow(&assembly.flow),
-            identification: assembly.identification,
-            opened: assembly.opened,
-            count: assembly.count,
-            fragments: assembly.pieces.map(|slot| Held {
-                offset: slot.offset,
-                length: slot.length,
-                option_start: slot.option_start,
-                last: slot.last,
-            }),
-        }),
     }
 }
 

@@ -5,8 +5,7 @@
 //! - pointers lead to as many bytes or records as the length says and are
 //!   not null: they come from slices, whose pointers are never null;
 //! - what may be written does not overlap anything else that is lent, and no
-//!   other thread uses it: it comes from a `&mut`;
-//! - each `bool` in a record is 0 or 1: it is a Rust `bool`.
+//!   other thread uses it: it comes from a `&mut`.
 
 use crate::record::{Account, Client, Flow};
 use core::mem::{align_of, offset_of, size_of};
@@ -359,6 +358,27 @@ pub fn receive(
     }
 }
 
+/// The record's bytes as they lie in memory.
+pub fn record_bytes(record: &Client) -> [u8; size_of::<Client>()] {
+    // SAFETY: a record has no padding (`NO_GAP`), so each byte is a value.
+    unsafe { core::mem::transmute(*record) }
+}
+
+/// The record of these bytes.
+pub fn record_of(bytes: [u8; size_of::<Client>()]) -> Client {
+    // SAFETY: its fields are numbers, for which any bits are a value.
+    unsafe { core::mem::transmute(bytes) }
+}
+
+/// The fields of a record's structs leave no gap: their sizes sum to it.
+#[allow(dead_code)]
+const NO_GAP: () = {
+    assert!(size_of::<Flow>() == 4 + 4 + 2 + 2);
+    assert!(size_of::<Held>() == 2 + 2 + 2 + 2);
+    assert!(size_of::<Assembly>() == size_of::<Flow>() + 4 + 8 + 8 + 16 * size_of::<Held>());
+    assert!(size_of::<Client>() == 8 * 8 + 4 * size_of::<Assembly>());
+};
+
 /// A struct's name in C, its size, and where its fields stand.
 #[cfg(test)]
 type Layout = (&'static str, usize, &'static [(&'static str, usize)]);
@@ -387,7 +407,7 @@ layouts! {
     Flow "wuraketozo_flow" 12 2: source 0, destination 4, source_port 8, destination_port 10;
     Held "wuraketozo_held" 8 2: offset 0, length 2, option_start 4, last 6;
     Assembly "wuraketozo_assembly" 160 8:
-        flow 0, identification 12, opened 16, count 24, fragments 26;
+        flow 0, identification 12, opened 16, count 24, fragments 32;
     Client "wuraketozo_client" 704 8:
         time 0, offered 8, held 16, delivered 24, expired 32, conflicted 40, repeated 48,
         rejected 56, assemblies 64;
