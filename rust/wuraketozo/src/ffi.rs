@@ -165,7 +165,6 @@ mod c {
             buffer: *mut u8,
             room: usize,
         ) -> Written;
-        // A library of another layout has no symbol of this name.
         pub fn wuraketozo_layout_2() -> usize;
         pub fn wuraketozo_share_size() -> usize;
         pub fn wuraketozo_out_size() -> usize;
@@ -219,6 +218,11 @@ mod c {
         ) -> Received;
     }
 }
+
+/// A library of another layout has no symbol of this name, so that nothing
+/// that uses this crate links against it.
+#[used]
+static LAYOUT: unsafe extern "C" fn() -> usize = c::wuraketozo_layout_2;
 
 pub fn read(payload: &[u8], source: [u8; 4], destination: [u8; 4]) -> Reading {
     // SAFETY: see the head of this file.
