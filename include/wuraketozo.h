@@ -16,8 +16,8 @@
  *  - no other thread uses them during the call. The library keeps no state of its own.
  *
  * Positions are of two kinds that must not mix. Bytes of a payload are a `wuraketozo_extent`, counted from the payload's UDP header.
- * Bytes of an original that was put together from fragments are a `wuraketozo_original_extent`, counted from its first user byte; a
- * single count from there is a place, and `place` and `option_start` are the only ones.
+ * Bytes of an original that was put together from fragments are a `wuraketozo_original_extent`, counted from its first user byte. A
+ * single count from there is a place: `place`, `option_start` and, of a held fragment, `offset`. No other position stands alone.
  */
 #ifndef WURAKETOZO_H
 #define WURAKETOZO_H
@@ -141,7 +141,7 @@ typedef struct {
 
 /* A held fragment. `last` is 0, or any other number for the last one. */
 typedef struct {
-    uint16_t offset;
+    uint16_t offset; /* its place in the original */
     uint16_t length;
     uint16_t option_start;
     uint16_t last;

@@ -72,12 +72,13 @@ for sample in samples/*.bin; do
     report "$sample" $?
 done
 
-# The static library for hosts, and the C example on it against the output that stands beside it.
+# The static library for hosts, the C header held to it, and the C example on it against the output that stands beside it.
 quietly static-library rt staticlib host
 if command -v gcc >/dev/null 2>&1; then
+    quietly c-surface sh tools/surface/test.sh
     quietly c-example sh tools/example.sh examples/host.expected
 else
-    echo "note: gcc is missing, so test c-example is skipped"
+    echo "note: gcc is missing, so tests c-surface and c-example are skipped"
 fi
 
 # The wrapper for Rust, the scripts of packets, writings and table calls against the answers that stand beside them, the plain

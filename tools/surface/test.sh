@@ -40,4 +40,16 @@ for host in lists table; do
         grep -q "undefined reference to .wuraketozo_layout_$((number + 1))" "$room/log" || { cat "$room/log"; exit 1; }
     done
 done
+
+# The same of a host in Rust: against a library whose symbol has another number.
+if command -v cargo >/dev/null 2>&1 && command -v objcopy >/dev/null 2>&1; then
+    mkdir "$room/lib"
+    objcopy --redefine-sym "wuraketozo_layout_$number=wuraketozo_layout_$((number + 1))" "$library" "$room/lib/libhost.a"
+    if WURAKETOZO_LIB=$room/lib CARGO_TARGET_DIR=$room/rust \
+        cargo build --quiet --offline --example gauges --manifest-path rust/wuraketozo/Cargo.toml 2>"$room/log"; then
+        echo "the wrapper for Rust links with another layout's number"
+        exit 1
+    fi
+    grep -q "wuraketozo_layout_$number" "$room/log" || { cat "$room/log"; exit 1; }
+fi
 echo "a host of another layout does not link"

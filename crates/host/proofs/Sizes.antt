@@ -9,6 +9,7 @@ use Rattle.datagram.proofs.rereading.OriginalExtent.Laws as OriginalExtent
 use Rattle.record.proofs.Flow.Laws as Flow
 use Rattle.record.proofs.Fragment.Laws as Held
 use Rattle.record.proofs.Assembly.Laws as Assembly
+use Rattle.record.proofs.Client.Laws as Client
 use Rattle.surface.proofs.Address.Laws as Address
 use Rattle.surface.proofs.Reading.Laws as Reading
 use Rattle.surface.proofs.Rereading.Laws as Rereading
@@ -18,7 +19,7 @@ use Rattle.surface.proofs.Figures.Laws as Figures
 use Rattle.surface.proofs.Answer.Laws as Answer
 use Rattle.surface.proofs.Fragment.Laws as Fragment
 use Rattle.surface.proofs.Received.Laws as Received
-use Rattle.host.specs.Left.{recordSize}
+use Rattle.host.specs.Left.{recordSize, fieldBytes}
 
 pub record-size-is : recordSize ≡ 704
 unfolding recordSize
@@ -47,3 +48,10 @@ pub of-the-table : size Flow.mir
     ∷ []
     ≡ 12 ∷ 8 ∷ 160 ∷ 56 ∷ 80 ∷ 48 ∷ 192 ∷ []
 of-the-table = refl
+
+-- ---- no gap
+
+-- a flow, a held fragment, an assembly, a record: the bytes of the fields are all the bytes there are, so each byte of a record counts
+pub no-gap : fieldBytes Flow.mir ∷ fieldBytes Held.mir ∷ fieldBytes Assembly.mir ∷ fieldBytes Client.mir ∷ []
+    ≡ size Flow.mir ∷ size Held.mir ∷ size Assembly.mir ∷ size Client.mir ∷ []
+no-gap = refl

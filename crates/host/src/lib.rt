@@ -111,8 +111,8 @@ pub extern "C" fn wuraketozo_write(
 
 // ---- sizes
 
-// The bytes of a record: 64 for the eight numbers, and 160 for each of the four assemblies (12 for the flow, 4, 8, 1 and 1 of
-// padding, 8 for each of the 16 fragments, and 6 of padding). `recordSize` is the size of the layout, so no other number is proved.
+// The bytes of a record: 64 for the eight numbers, and 160 for each of the four assemblies (12 for the flow, 4, 8 and 8, and 8 for each of
+// the 16 fragments), with no gap between them. `recordSize` is the size of the layout, so no other number is proved.
 #[no_mangle]
 pub extern "C" fn wuraketozo_record_size() -> usize
     ensures { λ r. ⌜ r ≡ recordSize ⌝ }

@@ -9,7 +9,7 @@ use crate::records::{bytes_of, patterned};
 use reference as plain;
 use reference::checksum;
 use reference::generate::{self, Ask, Call, Datagram, Lent, Random, World};
-use wuraketozo::{raw, Arrival, Client, Received, Table};
+use wuraketozo::{raw, Arrival, Client, Place, Received, Table};
 
 /// How a list's fragments reach the table.
 #[derive(Clone, Copy, PartialEq, Eq)]
@@ -317,8 +317,8 @@ fn by_c(random: &mut Random, pair: &mut Pair, call: &Call, out: &mut [u8]) -> ra
                 time: *time,
                 flow: flow(key),
                 identification: *identification,
-                place: *place,
-                option_start: *r,
+                place: Place(*place),
+                option_start: Place(*r),
                 last: mark,
             };
             raw::offer(records, store, *client, fragment, bytes, out)
@@ -348,9 +348,9 @@ fn by_wrapper(pair: &mut Pair, call: &Call, out: &mut [u8]) -> raw::Answer {
                 time: *time,
                 flow: flow(key),
                 identification: *identification,
-                place: *place,
+                place: Place(*place),
                 last: *last,
-                option_start: *r,
+                option_start: Place(*r),
             };
             table.offer(*client, &arrival, bytes, out).raw()
         }

@@ -11,7 +11,9 @@
 
 use crate::crc::crc32c;
 use crate::forge::forge;
-use wuraketozo::{Account, Answer, Arrival, Client, Flow, Refusal, Table, CLIENT_LIMIT, SHARE};
+use wuraketozo::{
+    Account, Answer, Arrival, Client, Flow, Place, Refusal, Table, CLIENT_LIMIT, SHARE,
+};
 
 /// One record more than a table may have, and one byte more than their store.
 const RECORDS: usize = CLIENT_LIMIT + 1;
@@ -106,9 +108,9 @@ fn offered(table: &mut Table, last: bool, numbers: &Numbers, room: usize) -> Str
         time: numbers.get(1),
         flow: flow(numbers.get(2)),
         identification: numbers.get(3) as u32,
-        place: numbers.size(4),
+        place: Place(numbers.size(4)),
         last,
-        option_start: numbers.size(6),
+        option_start: Place(numbers.size(6)),
     };
     let mut out = vec![BLANK; room];
     let answer = table.offer(numbers.size(0), &arrival, &bytes(numbers), &mut out);
@@ -119,7 +121,7 @@ fn offered(table: &mut Table, last: bool, numbers: &Numbers, room: usize) -> Str
         Answer::Delivered {
             length,
             option_start,
-        } => format!("delivered {length} {option_start}"),
+        } => format!("delivered {length} {}", option_start.0),
     });
     if matches!(answer, Ok(Answer::Delivered { .. })) {
         format!("{text} out {:08x}", crc32c(&out))

@@ -7,7 +7,7 @@
 
 use crate::words::Words;
 use std::fmt::Write;
-use wuraketozo::{read, reread, Apc, Reading, Refusal, Verdict};
+use wuraketozo::{read, reread, Apc, Place, Refusal, Verdict};
 
 const SOURCE: [u8; 4] = [192, 0, 2, 1];
 const DESTINATION: [u8; 4] = [198, 51, 100, 7];
@@ -23,12 +23,12 @@ pub fn run(script: &str) -> Result<String, String> {
             "original" => original(&mut words)?,
             _ => return words.wrong("neither packet nor original"),
         };
-        said += &format!("{name}{}\n", told(answer));
+        said += &format!("{name}{answer}\n");
     }
     Ok(said)
 }
 
-fn packet(words: &mut Words) -> Result<Result<Reading, Refusal>, String> {
+fn packet(words: &mut Words) -> Result<String, String> {
     let (mut source, mut destination) = (SOURCE, DESTINATION);
     if words.skipped("from") {
         source = words.address()?;
@@ -36,32 +36,15 @@ fn packet(words: &mut Words) -> Result<Result<Reading, Refusal>, String> {
         destination = words.address()?;
     }
     words.skip("bytes")?;
-    Ok(read(&words.bytes()?, source, destination))
-}
-
-fn original(words: &mut Words) -> Result<Result<Reading, Refusal>, String> {
-    words.skip("r")?;
-    let option_start = words.number()?;
-    words.skip("bytes")?;
-    Ok(reread(&words.bytes()?, option_start))
-}
-
-/// Every field of the answer.
-fn told(answer: Result<Reading, Refusal>) -> String {
-    let reading = match answer {
-        Err(refusal) => return format!(" refused {}", refusal.number()),
+    let reading = match read(&words.bytes()?, source, destination) {
+        Err(refusal) => return Ok(refused(refusal)),
         Ok(reading) => reading,
     };
-    let mut text = format!(
-        " user {} {} verdict {} count {} fill {} apc {} list {} {}",
-        reading.user.start,
-        reading.user.end,
-        reading.verdict.word(),
-        reading.count,
-        reading.fill,
-        apc_word(reading.apc),
-        reading.options.start,
-        reading.options.end,
+    let mut text = told(
+        (reading.user.start, reading.user.end),
+        &reading.verdict,
+        (reading.count, reading.fill, reading.apc),
+        (reading.options.start, reading.options.end),
     );
     if let Verdict::Piece(fragment) = reading.verdict {
         // Writing to a String does not fail.
@@ -69,14 +52,51 @@ fn told(answer: Result<Reading, Refusal>) -> String {
             text,
             " id {} place {} start {} end {} last {} options {}",
             fragment.identification,
-            fragment.place,
+            fragment.place.0,
             fragment.bytes.start,
             fragment.bytes.end,
             u8::from(fragment.last),
-            fragment.option_start,
+            fragment.option_start.0,
         );
     }
-    text
+    Ok(text)
+}
+
+fn original(words: &mut Words) -> Result<String, String> {
+    words.skip("r")?;
+    let option_start = words.number()?;
+    words.skip("bytes")?;
+    Ok(match reread(&words.bytes()?, Place(option_start)) {
+        Err(refusal) => refused(refusal),
+        Ok(rereading) => told(
+            (rereading.user.start.0, rereading.user.end.0),
+            &rereading.verdict,
+            (rereading.count, rereading.fill, rereading.apc),
+            (rereading.options.start.0, rereading.options.end.0),
+        ),
+    })
+}
+
+fn refused(refusal: Refusal) -> String {
+    format!(" refused {}", refusal.number())
+}
+
+/// Every field of the answer that both kinds of reading have.
+fn told(
+    user: (usize, usize),
+    verdict: &Verdict,
+    (count, fill, apc): (usize, usize, Apc),
+    list: (usize, usize),
+) -> String {
+    format!(
+        " user {} {} verdict {} count {count} fill {fill} apc {} list {} {}",
+        user.0,
+        user.1,
+        verdict.word(),
+        apc_word(apc),
+        list.0,
+        list.1,
+    )
 }
 
 fn apc_word(apc: Apc) -> &'static str {
