@@ -136,27 +136,37 @@ static const char *verdict_word(uint32_t verdict)
 }
 
 /* Shows what was read: the user data, the verdict, and the options as an encoded list in hex. */
-static void show_reading(const uint8_t *bytes, size_t length, const wuraketozo_reading *reading)
+static void show(const uint8_t *user, size_t user_length, uint32_t verdict, uint32_t apc, const uint8_t *list, wuraketozo_listing listing)
 {
-    uint8_t list[128];
-    wuraketozo_listing listing = wuraketozo_list(bytes, length, reading->verdict, reading->options_from, reading->options_to, list,
-                                                 sizeof list);
-    printf("\"%.*s\", verdict %s", (int)(reading->user_to - reading->user_from), (const char *)bytes + reading->user_from,
-           verdict_word(reading->verdict));
-    if (reading->verdict == WURAKETOZO_READ && listing.refusal == 0) {
+    printf("\"%.*s\", verdict %s", (int)user_length, (const char *)user, verdict_word(verdict));
+    if (verdict == WURAKETOZO_READ && listing.refusal == 0) {
         printf(", options ");
         for (size_t i = 0; i < listing.size; i++)
             printf("%02x", list[i]);
-        if (reading->apc != WURAKETOZO_APC_NONE)
-            printf(", APC %s", reading->apc == WURAKETOZO_APC_RIGHT ? "right" : "wrong");
+        if (apc != WURAKETOZO_APC_NONE)
+            printf(", APC %s", apc == WURAKETOZO_APC_RIGHT ? "right" : "wrong");
     }
     printf("\n");
+}
+
+static void show_reading(const uint8_t *payload, size_t length, const wuraketozo_reading *r)
+{
+    uint8_t list[128];
+    wuraketozo_listing listing = wuraketozo_list(payload, length, r->verdict, r->options, list, sizeof list);
+    show(payload + r->user.from, r->user.to - r->user.from, r->verdict, r->apc, list, listing);
+}
+
+static void show_rereading(const uint8_t *original, size_t length, const wuraketozo_rereading *r)
+{
+    uint8_t list[128];
+    wuraketozo_listing listing = wuraketozo_relist(original, length, r->verdict, r->options, list, sizeof list);
+    show(original + r->user.from, r->user.to - r->user.from, r->verdict, r->apc, list, listing);
 }
 
 /* Shows what came of a fragment; a whole original is read again. */
 static void show_answer(const wuraketozo_answer *answer)
 {
-    wuraketozo_reading reading;
+    wuraketozo_rereading rereading;
     switch (answer->outcome) {
     case WURAKETOZO_STORED:
         printf("fragment stored\n");
@@ -168,13 +178,13 @@ static void show_answer(const wuraketozo_answer *answer)
         printf("fragment in conflict, its original dropped\n");
         return;
     case WURAKETOZO_DELIVERED:
-        reading = wuraketozo_reread(out, answer->length, answer->option_start);
-        if (reading.refusal != 0) {
-            printf("original refused %" PRIu32 "\n", reading.refusal);
+        rereading = wuraketozo_reread(out, answer->length, answer->option_start);
+        if (rereading.refusal != 0) {
+            printf("original refused %" PRIu32 "\n", rereading.refusal);
             return;
         }
         printf("delivered %zu bytes: ", answer->length);
-        show_reading(out, answer->length, &reading);
+        show_rereading(out, answer->length, &rereading);
         return;
     default:
         printf("fragment refused %" PRIu32 "\n", answer->refusal);

@@ -5,16 +5,23 @@
  * leaves in every buffer and record is proved for every value of its arguments; docs/CLAIMS.md says where.
  *
  * What the pointers owe, and nothing else is asked:
- *  - a pointer with a length leads to that many bytes (or records) that can be read, and written where it is not const; it is not
- *    null, also where the length is 0;
- *  - buffers and records that one call is lent do not overlap where it may write to one of them;
- *  - each `bool` in a record is 0 or 1, as C itself has it. Zeroed memory (calloc) is fine, and so is whatever a call left;
+ *  - a pointer with a length leads to that many bytes (or records) that can be read, and written where it is not const. With a length
+ *    of 0 it may be anything, NULL too: nothing is read or written through it (tools/surface holds every call to that);
+ *  - a pointer to records is aligned as C aligns a `wuraketozo_client` (8 bytes: malloc, a static array and a local one all are). A
+ *    pointer to bytes may stand anywhere;
+ *  - what one call may write overlaps with nothing else that the call is lent: not the records, the store, `out` or `buffer` with each
+ *    other, and none of them with bytes that are read. What is proved is proved of buffers that are apart. Overlapping ones CAN CORRUPT
+ *    MEMORY, also outside of them: a number that was tested may be another one when it is used. What is only read may overlap;
+ *  - a record may hold any bytes: it has no padding, and each of its bytes counts. One that fails the record test is refused with 22;
  *  - no other thread uses them during the call. The library keeps no state of its own.
+ *
+ * Positions are of two kinds that must not mix. Bytes of a payload are a `wuraketozo_extent`, counted from the payload's UDP header.
+ * Bytes of an original that was put together from fragments are a `wuraketozo_original_extent`, counted from its first user byte. A
+ * single count from there is a place: `place`, `option_start` and, of a held fragment, `offset`. No other position stands alone.
  */
 #ifndef WURAKETOZO_H
 #define WURAKETOZO_H
 
-#include <stdbool.h>
 #include <stddef.h>
 #include <stdint.h>
 
@@ -26,6 +33,18 @@ extern "C" {
 typedef struct {
     uint8_t octets[4];
 } wuraketozo_address;
+
+/* Bytes of a payload: `from` up to `to`, counted from its UDP header. */
+typedef struct {
+    size_t from;
+    size_t to;
+} wuraketozo_extent;
+
+/* Bytes of an original: places `from` up to `to`, counted from its first user byte. */
+typedef struct {
+    size_t from;
+    size_t to;
+} wuraketozo_original_extent;
 
 /* ---- reading ---- */
 
@@ -47,30 +66,39 @@ enum {
 /* What the APC options say of the user data. */
 enum { WURAKETOZO_APC_NONE = 0, WURAKETOZO_APC_RIGHT = 1, WURAKETOZO_APC_WRONG = 2 };
 
+/* What a payload says. */
 typedef struct {
-    uint32_t refusal;        /* 0, or the reader's number; then every other field is 0 */
-    uint32_t verdict;        /* WURAKETOZO_NONE .. WURAKETOZO_PIECE */
-    size_t user_from;        /* the user data: bytes user_from up to user_to */
-    size_t user_to;
-    size_t options_from;     /* the option list with its fill, 0 and 0 unless the verdict is READ */
-    size_t options_to;
-    size_t count;            /* options in it, NOP and EOL not counted */
-    size_t fill;             /* bytes from EOL to the end */
-    uint32_t apc;            /* WURAKETOZO_APC_NONE .. WURAKETOZO_APC_WRONG */
-    uint32_t identification; /* from here on: PIECE only, else 0 */
-    size_t place;            /* where the fragment stands in the original */
-    size_t start;            /* its bytes: start up to end of this payload */
-    size_t end;
-    size_t option_start;     /* of the last fragment: where the original's options start */
-    uint32_t last;           /* 1 if it is the last one, else 0 */
+    uint32_t refusal;          /* 0, or the reader's number; then every other field is 0 */
+    uint32_t verdict;          /* WURAKETOZO_NONE .. WURAKETOZO_PIECE */
+    wuraketozo_extent user;    /* the user data */
+    wuraketozo_extent options; /* the option list with its fill, 0 and 0 unless the verdict is READ */
+    size_t count;              /* options in it, NOP and EOL not counted */
+    size_t fill;               /* bytes from EOL to the end */
+    uint32_t apc;              /* WURAKETOZO_APC_NONE .. WURAKETOZO_APC_WRONG */
+    uint32_t identification;   /* from here on: PIECE only, else 0 */
+    size_t place;              /* where the fragment stands in the original */
+    wuraketozo_extent part;    /* its bytes in this payload */
+    size_t option_start;       /* of the last fragment: the place where the original's options start */
+    uint32_t last;             /* 1 if it is the last one, else 0 */
 } wuraketozo_reading;
 
 /* Reads one IPv4 UDP payload. Refusals: 1 under 8 bytes, 2 over 65,515, 3 UDP length out of range, 4 UDP checksum wrong. */
 wuraketozo_reading wuraketozo_read(const uint8_t *payload, size_t length, wuraketozo_address source, wuraketozo_address destination);
 
-/* Reads an original again that was put together from fragments; its numbers count from the original's first user byte.
- * Refusals: 2 over 65,507 bytes, 6 option_start past the end, 5 an unsafe option: nothing of it is to be delivered. */
-wuraketozo_reading wuraketozo_reread(const uint8_t *original, size_t length, size_t option_start);
+/* What an original says. */
+typedef struct {
+    uint32_t refusal;                   /* 0, or the reader's number; then every other field is 0 */
+    uint32_t verdict;                   /* WURAKETOZO_NONE .. WURAKETOZO_READ, and not UNSAFE, which is refusal 5 */
+    wuraketozo_original_extent user;    /* the user data */
+    wuraketozo_original_extent options; /* the option list with its fill, 0 and 0 unless the verdict is READ */
+    size_t count;                       /* options in it, NOP and EOL not counted */
+    size_t fill;                        /* bytes from EOL to the end */
+    uint32_t apc;                       /* WURAKETOZO_APC_NONE .. WURAKETOZO_APC_WRONG */
+} wuraketozo_rereading;
+
+/* Reads an original again that was put together from fragments. Refusals: 2 over 65,507 bytes, 6 option_start past the end, 5 an
+ * unsafe option: nothing of it is to be delivered. */
+wuraketozo_rereading wuraketozo_reread(const uint8_t *original, size_t length, size_t option_start);
 
 /* ---- option lists ---- */
 
@@ -80,10 +108,14 @@ typedef struct {
     size_t fill;
 } wuraketozo_listing;
 
-/* Lists the options of a reading, of a payload or of an original, as an encoded option list at the front of `buffer`. `verdict`,
- * `options_from` and `options_to` are the reading's, `bytes` what was read. Any other values give a list without options. */
-wuraketozo_listing wuraketozo_list(const uint8_t *bytes, size_t length, uint32_t verdict, size_t options_from, size_t options_to,
-                                   uint8_t *buffer, size_t room);
+/* Lists the options of a reading as an encoded option list at the front of `buffer`. `verdict` and `options` are the reading's,
+ * `payload` what was read. Any other values give a list without options. */
+wuraketozo_listing wuraketozo_list(const uint8_t *payload, size_t length, uint32_t verdict, wuraketozo_extent options, uint8_t *buffer,
+                                   size_t room);
+
+/* The same of a rereading and its original. */
+wuraketozo_listing wuraketozo_relist(const uint8_t *original, size_t length, uint32_t verdict, wuraketozo_original_extent options,
+                                     uint8_t *buffer, size_t room);
 
 /* ---- writing ---- */
 
@@ -107,19 +139,19 @@ typedef struct {
     uint16_t destination_port;
 } wuraketozo_flow;
 
-/* A held fragment. */
+/* A held fragment. `last` is 0, or any other number for the last one. */
 typedef struct {
-    uint16_t offset;
+    uint16_t offset; /* its place in the original */
     uint16_t length;
     uint16_t option_start;
-    bool last;
+    uint16_t last;
 } wuraketozo_held;
 
 typedef struct {
     wuraketozo_flow flow;
     uint32_t identification;
     uint64_t opened;
-    uint8_t count;
+    uint64_t count;
     wuraketozo_held fragments[16];
 } wuraketozo_assembly;
 
@@ -135,6 +167,27 @@ typedef struct {
     uint64_t rejected;
     wuraketozo_assembly assemblies[4];
 } wuraketozo_client;
+
+/* The layout of the structs here has a number, which goes up with every change of one of them or of a call's arguments. A library has
+ * the call below with its own layout's number in its name and no other one. The reference to it that stands here goes into every
+ * object that includes this header, so that a host does not link against a library of another layout. It answers the bytes of a
+ * record, as wuraketozo_record_size does. */
+size_t wuraketozo_layout_2(void);
+#if defined(__has_attribute)
+#if __has_attribute(retain)
+#define WURAKETOZO_KEPT __attribute__((used, retain))
+#endif
+#endif
+#if !defined(WURAKETOZO_KEPT) && defined(__GNUC__)
+#define WURAKETOZO_KEPT __attribute__((used))
+#endif
+#ifdef WURAKETOZO_KEPT
+static size_t (*const wuraketozo_layout)(void) WURAKETOZO_KEPT = wuraketozo_layout_2;
+#endif
+#if defined(__STDC_VERSION__) && __STDC_VERSION__ >= 201112L
+_Static_assert(sizeof(wuraketozo_client) == 704, "a record is 704 bytes");
+_Static_assert(sizeof(wuraketozo_reading) == 104 && sizeof(wuraketozo_rereading) == 64, "readings are 104 and 64 bytes");
+#endif
 
 /* The bytes of a record, of a client's share of the store, of the smallest out buffer, and how many clients a table may have. */
 size_t wuraketozo_record_size(void);
@@ -169,7 +222,7 @@ typedef struct {
     uint32_t refusal;           /* 0, or 20 to 30 */
     uint32_t outcome;           /* WURAKETOZO_REFUSED .. WURAKETOZO_ACCOUNT */
     size_t length;              /* DELIVERED: the original is the first `length` bytes of out */
-    size_t option_start;        /* DELIVERED: where its options start, for wuraketozo_reread */
+    size_t option_start;        /* DELIVERED: the place where its options start, for wuraketozo_reread */
     wuraketozo_figures figures; /* ACCOUNT */
 } wuraketozo_answer;
 
@@ -182,8 +235,8 @@ typedef struct {
     uint64_t time;
     wuraketozo_flow flow;
     uint32_t identification;
-    size_t place;
-    size_t option_start; /* looked at only if it is the last one */
+    size_t place;        /* where it stands in the original */
+    size_t option_start; /* a place too, looked at only if it is the last one */
     uint32_t last;       /* 0: not the last one; anything else: the last one */
 } wuraketozo_fragment;
 

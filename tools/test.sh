@@ -4,6 +4,7 @@ set -u
 cd "$(dirname "$0")/.." || exit 2
 log=target-test.log
 passed=0 failed=0
+start=$(date +%s)
 
 # report NAME STATUS: counts one test.
 report() {
@@ -51,7 +52,9 @@ report stray-files $?
 { rt ci 2>&1; echo $? >"$log.status"; } | tee "$log" | grep -v '^[0-9]* passed, [0-9]* failed$'
 status=$(cat "$log.status")
 counts=$(tail -n 1 "$log" | sed -n 's/^\([0-9]*\) passed, \([0-9]*\) failed$/\1 \2/p')
-rm -f "$log" "$log.status"
+mv "$log" "$log.ci"
+rm -f "$log.status"
+proved=$(date +%s)
 test "$status" -eq 0
 report rt-ci $?
 if [ -n "$counts" ]; then
@@ -69,45 +72,68 @@ for sample in samples/*.bin; do
     report "$sample" $?
 done
 
-# The static library for hosts, and the C example on it against the output that stands beside it.
+# The static library for hosts, the C header held to it, and the C example on it against the output that stands beside it.
 quietly static-library rt staticlib host
 if command -v gcc >/dev/null 2>&1; then
+    quietly c-surface sh tools/surface/test.sh
     quietly c-example sh tools/example.sh examples/host.expected
 else
-    echo "note: gcc is missing, so test c-example is skipped"
+    echo "note: gcc is missing, so tests c-surface and c-example are skipped"
 fi
 
-# The wrapper for Rust, the plain reference, and the library against the reference on seeded inputs.
+# The wrapper for Rust, the scripts of packets, writings and table calls against the answers that stand beside them, the plain
+# reference, and the library against the reference on seeded inputs.
+scripts=
 if command -v cargo >/dev/null 2>&1; then
     CARGO_TARGET_DIR=$PWD/target/rust
     export CARGO_TARGET_DIR
     quietly rust-wrapper cargo test --offline --manifest-path rust/wuraketozo/Cargo.toml
+    quietly scripts-built cargo build --release --offline --manifest-path rust/scripts/Cargo.toml
+    scripts=$CARGO_TARGET_DIR/release/scripts
+    for list in readings writings calls; do
+        "$scripts" "$list" <"rust/scripts/lists/$list.txt" | cmp - "rust/scripts/lists/$list.expected"
+        report "$list" $?
+    done
     quietly rust-reference cargo test --release --offline --manifest-path rust/reference/Cargo.toml
     cargo run --quiet --release --offline --manifest-path rust/differential/Cargo.toml -- --seed 1 --payloads 200000 --calls 50000
     report differential $?
 else
-    echo "note: cargo is missing, so tests rust-wrapper, rust-reference and differential are skipped"
+    echo "note: cargo is missing, so tests rust-wrapper, readings, writings, calls, rust-reference and differential are skipped"
 fi
+
+hosts=$(date +%s)
 
 # What readers in Python, written from the papers apart from this code, say of the same bytes.
 if command -v python3 >/dev/null 2>&1; then
     PYTHONDONTWRITEBYTECODE=1
     export PYTHONDONTWRITEBYTECODE
-    python3 tools/vectors/make.py stdout | cmp -s - crates/vectors/stdout
+    quietly reader-by-hand python3 tools/vectors/make.py check
+    python3 tools/vectors/make.py numbers | cmp -s - crates/vectors/stdout
     report vectors-predicted $?
+    python3 tools/vectors/make.py script | cmp -s - rust/scripts/lists/readings.txt
+    report readings-listed $?
+    python3 tools/vectors/make.py readings | cmp -s - rust/scripts/lists/readings.expected
+    report readings-predicted $?
     python3 tools/vectors/writer.py example | cmp -s - crates/roundtrip/stdout
     report roundtrip-predicted $?
-    python3 tools/vectors/writer.py cases | cmp -s - crates/writings/stdout
+    python3 tools/vectors/writer.py script | cmp -s - rust/scripts/lists/writings.txt
+    report writings-listed $?
+    python3 tools/vectors/writer.py cases | cmp -s - rust/scripts/lists/writings.expected
     report writings-predicted $?
-    python3 tools/vectors/lists.py | cmp -s - crates/calls/stdin
+    python3 tools/vectors/lists.py | cmp -s - rust/scripts/lists/calls.txt
     report calls-listed $?
-    python3 tools/vectors/table.py calls | cmp -s - crates/calls/stdout
+    python3 tools/vectors/table.py calls | cmp -s - rust/scripts/lists/calls.expected
     report calls-predicted $?
-    python3 tools/vectors/table.py random 200
-    report random-calls $?
+    if [ -n "$scripts" ]; then
+        python3 tools/vectors/table.py random 300 "$scripts"
+        report random-calls $?
+    fi
     python3 tools/samples/compare_random.py 1000
     report random-datagrams $?
 fi
 
+clock="rt ci $((proved - start)), samples and hosts $((hosts - proved)), predictions $(($(date +%s) - hosts))"
+awk -v clock="$clock" -f tools/times.awk "$log.ci"
+rm -f "$log.ci"
 echo "$passed passed, $failed failed"
 [ "$failed" -eq 0 ] && [ "$passed" -gt 0 ]

@@ -1,4 +1,4 @@
-"""lists.py: the lists of calls that the program `calls` runs, as crates/calls/stdin has them. tools/vectors/table.py predicts its answers."""
+"""lists.py: the lists of calls that rust/scripts runs, as its lists/calls.txt has them. tools/vectors/table.py predicts the answers."""
 import random
 import sys
 
@@ -6,7 +6,9 @@ SHARE, MOST, LIMIT = 16384, 2**64 - 1, 10**15
 LINES = []
 
 # The fields that `forge` can set.
-(TIME, OFFERED, HELD, DELIVERED, EXPIRED, CLASHED, REPEATED, TURNED, IDENTIFICATION, PORT, OPENED, COUNT, PLACE, LENGTH, R, LAST) = range(16)
+(TIME, OFFERED, HELD, DELIVERED, EXPIRED, CLASHED, REPEATED, TURNED, IDENTIFICATION, PORT, OPENED, COUNT, PLACE, LENGTH, R, LAST, SOURCE,
+ DESTINATION, DESTINATION_PORT) = range(19)
+FIELDS = 19
 
 
 def say(text):
@@ -205,9 +207,63 @@ SOUND = [
 ]
 
 
-def forged_records():
-    begin("22: forged records, one clause each", 3)
-    for title, *fields in FORGED + SOUND:
+# The same of flows: 192.0.2.0 and 198.51.100.0 are those of flow 0, which both live places have.
+FROM, TO = 0xC0000200, 0xC6336400
+FORGED_FLOWS = [
+    ("an unused place has a source address", (SOURCE, 1, 2)),
+    ("an unused place has a destination address", (DESTINATION, 2**31, 3)),
+    ("an unused place has a destination port", (DESTINATION_PORT, 65535, 2)),
+    ("two equal keys, no part as it came", *((f, v, place) for place in (0, 1) for f, v in (
+        (SOURCE, 7), (DESTINATION, 8), (PORT, 9), (DESTINATION_PORT, 10), (IDENTIFICATION, 11)))),
+    ("two keys of zeros", *((f, 0, place) for place in (0, 1) for f in (SOURCE, DESTINATION, IDENTIFICATION))),
+]
+SOUND_FLOWS = [
+    *((f"another source address, byte {i}", (IDENTIFICATION, 1, 1), (SOURCE, FROM ^ 1 << 24 - 8 * i, 1)) for i in range(4)),
+    *((f"another destination address, byte {i}", (IDENTIFICATION, 1, 1), (DESTINATION, TO ^ 128 << 24 - 8 * i, 1)) for i in range(4)),
+    ("another destination port", (IDENTIFICATION, 1, 1), (DESTINATION_PORT, 256, 1)),
+    ("addresses exchanged", (IDENTIFICATION, 1, 1), (SOURCE, TO, 1), (DESTINATION, FROM, 1)),
+    ("a live place with a key of zeros", (IDENTIFICATION, 0, 1), (SOURCE, 0, 1), (DESTINATION, 0, 1)),
+]
+
+# Counts whose lowest byte would pass.
+FORGED_COUNTS = [
+    ("257 pieces", (COUNT, 257, 1)),
+    ("2^32 + 1 pieces", (COUNT, 2**32 + 1, 1)),
+    ("2^64 - 1 pieces", (COUNT, MOST, 0)),
+    ("an unused place counts 256", (COUNT, 256, 2)),
+    ("an unused place counts 2^56", (COUNT, 2**56, 3)),
+]
+
+
+def forged_marks(mark):
+    """Any number but 0 marks a last piece."""
+    return [
+        (f"two last pieces, one marked {mark}", (LAST, mark, 0, 0)),
+        (f"two last pieces, both marked {mark}", (LAST, mark, 0, 0), (LAST, mark, 0, 1)),
+        (f"an unused slot is marked {mark}", (LAST, mark, 1, 1)),
+        (f"an unused place is marked {mark}", (LAST, mark, 2, 15)),
+        (f"a piece past the end marked {mark}", (LAST, mark, 0, 1), (COUNT, 3, 0), (PLACE, 20, 0, 2), (LENGTH, 1, 0, 2), (HELD, 18), (OFFERED, 18)),
+        (f"an option start past the end marked {mark}", (LAST, mark, 0, 1), (R, 21, 0, 1)),
+        (f"whole, marked {mark}", (LAST, mark, 0, 1), (PLACE, 8, 0, 1), (R, 8, 0, 1)),
+        (f"the first piece is the last, marked {mark}", (LAST, mark, 1, 0)),
+    ]
+
+
+def sound_marks(mark):
+    return [
+        (f"the last piece is marked {mark}", (LAST, mark, 0, 1)),
+        (f"another piece is the last, marked {mark}", (LAST, 0, 0, 1), (PLACE, 30, 0, 0), (LAST, mark, 0, 0)),
+    ]
+
+
+MARKS = (2, 255, 65535)
+BROKEN = FORGED + FORGED_FLOWS + FORGED_COUNTS + [case for mark in MARKS for case in forged_marks(mark)]
+PASSING = SOUND + SOUND_FLOWS + [case for mark in MARKS for case in sound_marks(mark)]
+
+
+def tried(cases):
+    """Each on a record of its own, beside that of client 0."""
+    for title, *fields in cases:
         say(f"-- {title}")
         say("set up")
         piece(1, 100, 1, 0, 8)
@@ -219,6 +275,63 @@ def forged_records():
         piece(1, 130000, 3, 0, 8)
         bill(1)
         piece(0, 0, 1, 0, 1)
+
+
+def forged_fields():
+    begin("22: forged flows", 3)
+    tried(FORGED_FLOWS + SOUND_FLOWS)
+    end()
+    begin("22: forged counts", 3)
+    tried(FORGED_COUNTS)
+    end()
+    for mark in MARKS:
+        begin(f"22: last marks of {mark}", 3)
+        tried(forged_marks(mark) + sound_marks(mark))
+        end()
+    begin("a forged flow is the key")
+    for field, value, flow in ((SOURCE, FROM + 1, 1), (DESTINATION, TO + 1, 256), (PORT, 1, 65536), (DESTINATION_PORT, 1, 2**32)):
+        say("set up")
+        piece(0, 0, 1, 0, 8)
+        forge(0, (field, value))
+        piece(0, 0, 1, 0, 8)
+        last(0, 0, 1, 8, 4, flow=flow)
+        last(0, 0, 1, 8, 4)
+        bill(0)
+    end()
+    begin("what a last mark of 2, 255 or 65535 does")
+    for mark in MARKS:
+        for then in (lambda: last(0, 0, 1, 8, 4, 9), lambda: piece(0, 0, 1, 8, 4), lambda: last(0, 0, 1, 8, 4, 10), lambda: piece(0, 0, 1, 12, 1),
+                     lambda: last(0, 0, 1, 20, 4), lambda: last(0, 0, 1, 0, 4), lambda: piece(0, 0, 1, 0, 8)):
+            say(f"-- the last piece is marked {mark}")
+            say("set up")
+            last(0, 0, 1, 8, 4, 9)
+            forge(0, (LAST, mark))
+            then()
+            bill(0)
+            piece(0, 0, 1, 0, 8)
+            bill(0)
+        say(f"-- a piece is marked {mark}, and its r is 0")
+        say("set up")
+        piece(0, 0, 1, 8, 8)
+        forge(0, (LAST, mark))
+        last(0, 0, 1, 8, 8, 0)
+        piece(0, 0, 1, 0, 8)
+        bill(0)
+    say("-- the mark is taken away")
+    say("set up")
+    last(0, 0, 1, 8, 4, 9)
+    forge(0, (LAST, 0))
+    piece(0, 0, 1, 8, 4)
+    piece(0, 0, 1, 0, 8)
+    bill(0)
+    last(0, 0, 1, 12, 4)
+    bill(0)
+    end()
+
+
+def forged_records():
+    begin("22: forged records, one clause each", 3)
+    tried(FORGED + SOUND)
     say("-- 17 counted where 16 are held")
     say("set up")
     for i in range(16):
@@ -490,6 +603,18 @@ def fates():
     end()
 
 
+# ---- RFC 9868, sections 11.4 and 11.6: two fragments that each fit an MTU of 1,500 bytes, 2,926 bytes with the UDP header
+
+def least_sizes():
+    begin("two pieces of an MTU of 1,500 bytes, in either order")
+    piece(0, 0, 1, 0, 1460)
+    last(0, 1, 1, 1460, 1458, 2900)
+    last(0, 2, 2, 1460, 1458)
+    piece(0, 3, 2, 0, 1460)
+    bill(0)
+    end()
+
+
 # ---- several clients
 
 def others():
@@ -570,10 +695,10 @@ def others():
 # ---- random lists
 
 class Calls:
-    """Random calls on a table of `records`; `crumbs`: many pieces of one byte and few keys."""
+    """Random calls on a table of `records`; `crumbs`: many pieces of one byte and few keys; the first `fields` may be forged."""
 
-    def __init__(self, rng, records, crumbs=False):
-        self.rng, self.records, self.crumbs = rng, records, crumbs
+    def __init__(self, rng, records, crumbs=False, fields=16):
+        self.rng, self.records, self.crumbs, self.fields = rng, records, crumbs, fields
         self.time = dict.fromkeys(range(records + 1), 0)
 
     def some(self, n):
@@ -611,16 +736,16 @@ class Calls:
         k = self.rng.randrange(self.records)
         for _ in range(self.rng.randrange(1, 4)):
             value = self.rng.choice([0, 1, 2, 4, 8, 16, 17, 4095, 4096, 65535, MOST, LIMIT, self.rng.randrange(30)])
-            forge(k, (self.rng.randrange(16), value, self.rng.randrange(4), self.rng.choice([0, 0, 1, 2, 15])))
+            forge(k, (self.rng.randrange(self.fields), value, self.rng.randrange(4), self.rng.choice([0, 0, 1, 2, 15])))
 
 
 def random_list(seed):
-    """A script of its own."""
+    """A script of its own; from 200 on every field may be forged."""
     rng = random.Random(9868 + seed)
     del LINES[:]
     records = rng.choice([1, 2, 12])
     begin(f"random {seed}", records)
-    calls = Calls(rng, records, rng.random() < 0.2)
+    calls = Calls(rng, records, rng.random() < 0.2, 16 if seed < 200 else FIELDS)
     if rng.random() < 0.2:
         calls.time = {k: MOST - rng.randrange(400000) for k in calls.time}
     if rng.random() < 0.1:
@@ -648,6 +773,8 @@ def stored():
         begin(f"random calls, clients: {seed}", seed)
         Calls(random.Random(seed), seed, seed == 2).some(80)
         end()
+    forged_fields()
+    least_sizes()
     return "\n".join(LINES) + "\n"
 
 

@@ -30,11 +30,31 @@ def number(name, remark, text, want):
     return Record(name, remark, data, said)
 
 
+def words(remark, a, b):
+    value = reader.fold(a + b)
+    return Record("add-word", remark, n(a, 2) + n(b, 2), f"{a:04x} {b:04x} {value:04x} field {reader.sent(value):04x}")
+
+
+def encoding(value, at):
+    """An encoding into ten bytes ff from `at` on, and what is decoded there."""
+    e, b = reader.encode(value), bytearray(b"\xff" * 10)
+    said = "full"
+    if at + len(e) <= 10:
+        b[at:at + len(e)] = e
+        said = f"next {at + len(e)}"
+        assert reader.decode(b, at) == (value, at + len(e))
+    back = reader.decode(b, at)
+    told = f"refused {at}" if back is None else "value %d next %d" % back
+    text = f"{value} at {at} length {len(e)} {said} bytes {bytes(b).hex()} {told}"
+    return Record("encoding", f"{value} at {at}", n(value, 8) + n(at, 8), text)
+
+
+assert reader.encode(300).hex() == "ac02"
 PDU = bytes.fromhex("01c0000000000000000000000000000014000000000004000000001400000018280000000000000002000000" + "00000000")
 RFC1071 = bytes.fromhex("0001f203f4f5f6f7")
 
-TABLES = {
-    "crcs": ("Crc", "The published vectors of CRC32c: iSCSI's, the check value, the CRC of nothing; then other lengths.", [
+TABLES = [
+    ("The published vectors of CRC32c: iSCSI's, the check value, the CRC of nothing; then other lengths.", [
         crc("crc32c-zeros", "32 bytes of 00", bytes(32), 0xAA36918A),
         crc("crc32c-ones", "32 bytes of ff", b"\xff" * 32, 0x43ABA862),
         crc("crc32c-rising", "00 to 1f", bytes(range(32)), 0x4E79DD46),
@@ -50,7 +70,7 @@ TABLES = {
         crc("crc32c-16", "01 to 10", bytes(range(1, 17))),
         crc("crc32c-17", "01 to 11", bytes(range(1, 18))),
     ]),
-    "sums": ("Sum", "Checksums: the sum of a running sum and bytes, and the field that is sent for it.", [
+    ("Checksums: the sum of a running sum and bytes, and the field that is sent for it.", [
         total("sum-rfc-1071", "RFC 1071's example", 0, 0, RFC1071, 0xDDF2),
         total("sum-rfc-1071-odd", "the same at an odd offset: the bytes exchanged", 0, 1, RFC1071, 0xF2DD),
         total("sum-nothing", "no bytes", 0, 0, b"", 0),
@@ -67,7 +87,15 @@ TABLES = {
         total("sum-first-half", "the first half of RFC 1071's example", 0, 0, RFC1071[:4], 0xF204),
         total("sum-second-half", "the second half upon it", 0xF204, 0, RFC1071[4:], 0xDDF2),
     ]),
-    "numbers": ("Number", "Seven-bit numbers: the lowest group first, shortest form only, within 64 bits.", [
+    ("Two words added, and the field that is sent for the sum.", [
+        words("0 and 0", 0, 0),
+        words("all ones and 0", 0xFFFF, 0),
+        words("all ones and 1: the carry comes back", 0xFFFF, 1),
+        words("all ones twice", 0xFFFF, 0xFFFF),
+        words("8000 twice", 0x8000, 0x8000),
+        words("RFC 1071's sum and its complement", 0xDDF2, 0x220D),
+    ]),
+    ("Seven-bit numbers: the lowest group first, shortest form only, within 64 bits.", [
         number("number-0", "0", "00", "value 0 next 1"),
         number("number-127", "127", "7f", "value 127 next 1"),
         number("number-128", "128", "8001", "value 128 next 2"),
@@ -88,41 +116,12 @@ TABLES = {
         number("number-cut-short-2", "two such bytes", "ffff", "refused 0"),
         number("number-eleven-80s", "eleven bytes 80", "80" * 11, "refused 0"),
     ]),
-}
-
-
-def encoding_line(value, at):
-    """An encoding into ten bytes ff from `at` on, and what is decoded there."""
-    e, b = reader.encode(value), bytearray(b"\xff" * 10)
-    said = "full"
-    if at + len(e) <= 10:
-        b[at:at + len(e)] = e
-        said = f"next {at + len(e)}"
-        assert reader.decode(b, at) == (value, at + len(e))
-    back = reader.decode(b, at)
-    told = f"refused {at}" if back is None else "value %d next %d" % back
-    return f"encoding {value} at {at} length {len(e)} {said} bytes {bytes(b).hex()} {told}"
-
-
-def encoding_lines():
-    assert reader.encode(300).hex() == "ac02"
-    return [encoding_line(v, 0) for v in (0, 1, 127, 128, 300, 16383, 16384, 65531, 2**32 + 6, 2**63 - 1, 2**63, 2**64 - 1)]
-
-
-def small_buffer_lines():
-    pairs = ((300, 8), (300, 9), (0, 9), (0, 10), (0, 11), (2**64 - 1, 1), (0, 2**64 - 1))
-    return [encoding_line(v, at) for v, at in pairs]
-
-
-def word_lines():
-    out = []
-    for a, b in ((0, 0), (0xFFFF, 0), (0xFFFF, 1), (0xFFFF, 0xFFFF), (0x8000, 0x8000), (0xDDF2, 0x220D)):
-        t = reader.fold(a + b)
-        out.append(f"add-word {a:04x} {b:04x} {t:04x} field {reader.sent(t):04x}")
-    return out
+    ("Encodings at the limits of one, two, three, five and ten groups; then buffers with and without room.", [
+        *(encoding(v, 0) for v in (0, 1, 127, 128, 300, 16383, 16384, 65531, 2**32 + 6, 2**63 - 1, 2**63, 2**64 - 1)),
+        *(encoding(v, at) for v, at in ((300, 8), (300, 9), (0, 9), (0, 10), (0, 11), (2**64 - 1, 1), (0, 2**64 - 1))),
+    ]),
+]
 
 
 def number_lines():
-    def table(k):
-        return [f"{r.name} {r.text}" for r in TABLES[k][2]]
-    return (table("crcs") + table("sums") + word_lines() + table("numbers") + encoding_lines() + small_buffer_lines())
+    return [f"{r.name} {r.text}" for _, records in TABLES for r in records]

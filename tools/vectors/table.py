@@ -1,8 +1,8 @@
 """A table in plain Python, from document 01 alone, beside the plain book of each client.
 
-    table.py calls        what the program `calls` has to print for crates/calls/stdin
-    table.py count        how often each answer stands in that
-    table.py random N     N random lists, the program against this table
+    table.py calls             what has to come of rust/scripts/lists/calls.txt, its calls.expected
+    table.py count             how often each answer stands in that
+    table.py random N PROGRAM  N random lists, `PROGRAM calls` against this table
 """
 import os
 import re
@@ -64,6 +64,11 @@ def size(pieces):
 
 def overlap(p, q):
     return p.place < q.end() and q.place < p.end()
+
+
+def same_end(p, q):
+    """Same last mark (any number but 0 is one), same r; r counts only of a last piece."""
+    return bool(p.last) == bool(q.last) and (not p.last or p.r == q.r)
 
 
 def whole(pieces):
@@ -154,7 +159,7 @@ class Table:
         a, base = record.assemblies[at[0]], k * SHARE + at[0] * PLACE
         held = a.pieces()
         kept = self.store[base + p.place:base + p.end()]
-        if any((p.place, p.length, p.last, p.last and p.r) == (q.place, q.length, q.last, q.last and q.r) for q in held) and kept == data:
+        if any((p.place, p.length) == (q.place, q.length) and same_end(p, q) for q in held) and kept == data:
             figures["repeated"] += p.length
             return "repeated", None
         if clashes(p, held):
@@ -237,7 +242,7 @@ class Book:
             self.figures["turned"] += len(data)
             raise Refused(29)
         for _, _, q, held in mine:
-            if (p.place, data, bool(p.last)) == (q.place, held, bool(q.last)) and (not p.last or p.r == q.r):
+            if (p.place, data) == (q.place, held) and same_end(p, q):
                 self.figures["repeated"] += len(data)
                 return "repeated", None
         if clashes(p, [o[2] for o in mine]):
@@ -288,12 +293,16 @@ def forge(record, field, place, slot, value):
         record.offered = value
     elif field < 8:
         record.figures[FIGURES[field - 2]] = value
-    elif field == 9:
-        a.flow = a.flow[:2] + (value % 65536,) + a.flow[3:]
+    elif field in (9, 18):
+        at = {9: 2, 18: 3}[field]
+        a.flow = a.flow[:at] + (value % 2**16,) + a.flow[at + 1:]
+    elif field in (16, 17):
+        at = field - 16
+        a.flow = a.flow[:at] + (tuple((value % 2**32).to_bytes(4, "big")),) + a.flow[at + 1:]
     elif field in (8, 10, 11):
-        setattr(a, {8: "identification", 10: "opened", 11: "count"}[field], value % {8: 2**32, 10: 2**64, 11: 256}[field])
+        setattr(a, {8: "identification", 10: "opened", 11: "count"}[field], value % {8: 2**32, 10: 2**64, 11: 2**64}[field])
     else:
-        setattr(p, ("place", "length", "r", "last")[field - 12], value % 65536 if field < 15 else int(value == 1))
+        setattr(p, ("place", "length", "r", "last")[field - 12], value % 2**16)
 
 
 class Run:
@@ -378,8 +387,19 @@ def predict(script):
 
 
 def stored():
-    with open(os.path.join(ROOT, "crates", "calls", "stdin")) as file:
+    with open(os.path.join(ROOT, "rust", "scripts", "lists", "calls.txt")) as file:
         return file.read()
+
+
+def held_to_titles(text):
+    """The first bill behind the title of a forged record is 22 exactly where the title says that it breaks a clause."""
+    import lists
+    lines = text.split("\n")
+    for cases, refused in ((lists.BROKEN, True), (lists.PASSING, False)):
+        for title, *_ in cases:
+            bill = next(line for line in lines[lines.index("-- " + title):] if line.startswith("bill 1"))
+            assert (": refused 22" in bill) == refused, (title, bill)
+    return text
 
 
 def count(text):
@@ -393,7 +413,7 @@ def count(text):
 
 def main():
     if sys.argv[1] == "calls":
-        sys.stdout.write(predict(stored()))
+        sys.stdout.write(held_to_titles(predict(stored())))
     elif sys.argv[1] == "count":
         text = predict(stored())
         print(text.count("\nstore "), "lists,", sum(count(text).values()), "calls")
@@ -406,7 +426,7 @@ def main():
         for i in range(int(sys.argv[2])):
             script = lists.random_list(i)
             want = predict(script)
-            got = subprocess.run([os.path.join(ROOT, "target", "bin", "calls")], input=script.encode(), stdout=subprocess.PIPE).stdout.decode()
+            got = subprocess.run([sys.argv[3], "calls"], input=script.encode(), stdout=subprocess.PIPE).stdout.decode()
             seen += count(want)
             if got != want:
                 print("differs in list", i, [pair for pair in zip(want.split("\n"), got.split("\n")) if pair[0] != pair[1]][:3])

@@ -1,4 +1,9 @@
-"""writer.py example, or writer.py cases: what the programs `roundtrip` and `writings` have to print, worked out from document 01 alone."""
+"""A writer in plain Python, from document 01 alone.
+
+    writer.py example   what the program `roundtrip` has to print
+    writer.py script    cases as a script, rust/scripts/lists/writings.txt
+    writer.py cases     what has to come of it, rust/scripts/lists/writings.expected
+"""
 import os
 import sys
 
@@ -98,7 +103,7 @@ def example():
     return "written " + payload.hex() + "\n" + expected(SOURCE + DESTINATION + payload) + again
 
 
-# ---- the cases of `writings`: name, data, docket, fill, room. Long ones are data of one byte a5, and a docket's front and then c0.
+# ---- cases: name, data, docket, fill, room. Long ones are data of one byte a5, and a docket's front and then c0.
 
 ROOM = 65536
 UNTOUCHED = 0x5A
@@ -210,5 +215,19 @@ def cases():
     return "".join(lines)
 
 
+def spelled(data, then=None, total=0):
+    """Bytes in a script: in hexadecimal, and one byte over and over behind them."""
+    return (" " + data.hex() if data else "") + (f" then {then} up to {total}" if total > len(data) else "")
+
+
+def script():
+    lines = ["-- Made by tools/vectors/writer.py"]
+    for name, data, docket, fill, room in SMALL:
+        lines.append(f"write {name} data{spelled(data)} list{spelled(docket)} fill {fill} room {room}")
+    for name, size, front, total, fill, room in LARGE:
+        lines.append(f"write {name} data{spelled(b'', 'a5', size)} list{spelled(front, 'c0', total)} fill {fill} room {room}")
+    return "\n".join(lines) + "\n"
+
+
 if __name__ == "__main__":
-    sys.stdout.write({"example": example, "cases": cases}[sys.argv[1]]())
+    sys.stdout.write({"example": example, "script": script, "cases": cases}[sys.argv[1]]())

@@ -17,7 +17,7 @@ ghost use Rattle.offsets.specs.Offsets.{udpHeader};
 ghost use Rattle.options.specs.Area.{areaOf};
 ghost use Rattle.checksum.specs.Checksum.{folded, wordSum};
 ghost use Rattle.datagram.specs.Surplus.{startOf};
-ghost use Rattle.datagram.specs.Reading.{payloadLimit, pseudoHeader, isOdd, extent, quiet, verdictOf, walked, noData, started, reading, answerOf, isRead};
+ghost use Rattle.datagram.specs.Reading.{payloadLimit, pseudoHeader, isOdd, quiet, verdictOf, walked, noData, started, reading, answerOf, isRead};
 ghost use Rattle.datagram.specs.Private.{apcBy};
 
 // An IPv4 packet of 65,535 bytes less its header.
@@ -27,6 +27,7 @@ pub const PAYLOAD_LIMIT: usize = 65515;
 const UDP: u16 = 17;
 
 // Bytes of a packet, counted from its UDP header.
+#[repr(C)]
 pub struct Extent {
     pub from: PacketOffset,
     pub to: PacketOffset,
@@ -125,21 +126,28 @@ fn accept(payload: &[u8], size: usize, unused: bool) -> Reading
         Start::Pad => quiet(size, Verdict::Pad),
         Start::Unsummed => quiet(size, Verdict::Unsummed),
         Start::BadSum => quiet(size, Verdict::BadSum),
-        Start::List(at) => listed(payload, size, size + at),
+        Start::List(at) => listed(payload, size, PacketOffset(size + at)),
     }
 }
 
-// The reading whose option list starts at packet offset `from`.
-fn listed(payload: &[u8], size: usize, from: usize) -> Reading
-    requires { ⌜ (udpHeader ≤ size) × (size ≤ from) × (from ≤ length (now payload)) ⌝ }
-    ensures { λ r. ⌜ r ≡ walked (now (payload .entry)) size from (areaOf (noData size) from (drop from (now (payload .entry)))) ⌝ }
+// The reading whose option list starts at `from`.
+fn listed(payload: &[u8], size: usize, from: PacketOffset) -> Reading
+    requires { ⌜ (udpHeader ≤ size) × (size ≤ from .0) × (from .0 ≤ length (now payload)) ⌝ }
+    ensures { λ r. ⌜ r ≡ walked (now (payload .entry)) size (from .0) (areaOf (noData size) (from .0) (drop (from .0) (now (payload .entry)))) ⌝ }
 {
-    let list = area::walk_area(&payload[from..], PacketOffset(from), size == UDP_HEADER);
+    let at = from.0;
+    let list = area::walk_area(&payload[at..], from, size == UDP_HEADER);
     match list {
         Area::Listed { count, fill, apcs } => Reading {
-            user: span(UDP_HEADER, size),
+            user: Extent {
+                from: PacketOffset(UDP_HEADER),
+                to: PacketOffset(size),
+            },
             verdict: Verdict::Read,
-            options: span(from, payload.len()),
+            options: Extent {
+                from,
+                to: PacketOffset(payload.len()),
+            },
             count,
             fill,
             apc: apc_of(&payload[UDP_HEADER..size], apcs),
@@ -200,20 +208,17 @@ fn quiet(size: usize, verdict: Verdict) -> Reading
     ensures { λ r. ⌜ r ≡ quiet size verdict ⌝ }
 {
     Reading {
-        user: span(UDP_HEADER, size),
+        user: Extent {
+            from: PacketOffset(UDP_HEADER),
+            to: PacketOffset(size),
+        },
         verdict,
-        options: span(0, 0),
+        options: Extent {
+            from: PacketOffset(0),
+            to: PacketOffset(0),
+        },
         count: 0,
         fill: 0,
         apc: Apc::Absent,
-    }
-}
-
-fn span(from: usize, to: usize) -> Extent
-    ensures { λ r. ⌜ r ≡ extent from to ⌝ }
-{
-    Extent {
-        from: PacketOffset(from),
-        to: PacketOffset(to),
     }
 }

@@ -12,12 +12,13 @@ ghost use mathlib.Core.Path.{_≡_};
 ghost use Prim.Native.Nat.{_≤_};
 ghost use lib.ListN.{length, drop};
 ghost use Rattle.options.specs.Walk.{walkFrom, optionLimit};
-ghost use Rattle.datagram.specs.Rereading.{places, quietly, faultily, rewalked, rereading, reAnswerOf};
+ghost use Rattle.datagram.specs.Rereading.{quietly, faultily, rewalked, rereading, reAnswerOf};
 
 // The largest payload less a UDP header.
 pub const ORIGINAL_LIMIT: usize = 65507;
 
 // Bytes of an original, counted from its first user byte.
+#[repr(C)]
 pub struct OriginalExtent {
     pub from: OriginalOffset,
     pub to: OriginalOffset,
@@ -45,7 +46,7 @@ pub enum RereadOutcome {
     Accepted(Rereading),
 }
 
-// Reads a reassembled original whose options start at `option_start`.
+// Reads a reassembled original whose options start at `option_start`, document 01's r.
 pub fn reread(original: &[u8], option_start: OriginalOffset) -> RereadOutcome
     ensures { λ r. ⌜ reAnswerOf r ≡ rereading (now (original .entry)) («option_start» .0) ⌝ }
 {
@@ -58,36 +59,44 @@ pub fn reread(original: &[u8], option_start: OriginalOffset) -> RereadOutcome
     }
     let start = surplus::start_of(&original[r..], r % 2 == 1, true);
     match start {
-        Start::Empty => quietly(r, Verdict::Bare),
-        Start::Short => quietly(r, Verdict::Short),
-        Start::Pad => quietly(r, Verdict::Pad),
-        Start::Unsummed => quietly(r, Verdict::Unsummed),
-        Start::BadSum => quietly(r, Verdict::BadSum),
-        Start::List(at) => relisted(original, r, r + at),
+        Start::Empty => quietly(option_start, Verdict::Bare),
+        Start::Short => quietly(option_start, Verdict::Short),
+        Start::Pad => quietly(option_start, Verdict::Pad),
+        Start::Unsummed => quietly(option_start, Verdict::Unsummed),
+        Start::BadSum => quietly(option_start, Verdict::BadSum),
+        Start::List(at) => relisted(original, option_start, OriginalOffset(r + at)),
     }
 }
 
-// The rereading whose option list starts at place `from`.
-fn relisted(original: &[u8], r: usize, from: usize) -> RereadOutcome
-    requires { ⌜ (r ≤ from) × (from ≤ length (now original)) ⌝ }
-    ensures { λ a. ⌜ reAnswerOf a ≡ rewalked (now (original .entry)) r from (walkFrom optionLimit 0 (drop from (now (original .entry)))) ⌝ }
+// The rereading whose option list starts at `from`.
+fn relisted(original: &[u8], r: OriginalOffset, from: OriginalOffset) -> RereadOutcome
+    requires { ⌜ (r .0 ≤ from .0) × (from .0 ≤ length (now original)) ⌝ }
+    ensures { λ a. ⌜ reAnswerOf a ≡ rewalked (now (original .entry)) (r .0) (from .0) (walkFrom optionLimit 0 (drop (from .0) (now (original .entry)))) ⌝ }
 {
-    let list = walk::walk_list(&original[from..], walk::OPTION_LIMIT);
+    let at = from.0;
+    let user_end = r.0;
+    let list = walk::walk_list(&original[at..], walk::OPTION_LIMIT);
     match list {
         Walk::Listed { count, fill, apcs } => RereadOutcome::Accepted(Rereading {
-            user: places(0, r),
+            user: OriginalExtent {
+                from: OriginalOffset(0),
+                to: r,
+            },
             verdict: Verdict::Read,
-            options: places(from, original.len()),
+            options: OriginalExtent {
+                from,
+                to: OriginalOffset(original.len()),
+            },
             count,
             fill,
-            apc: reading::apc_of(&original[..r], apcs),
+            apc: reading::apc_of(&original[..user_end], apcs),
         }),
         Walk::Faulty(fault) => faultily(r, fault),
     }
 }
 
-fn faultily(r: usize, fault: Fault) -> RereadOutcome
-    ensures { λ a. ⌜ reAnswerOf a ≡ faultily r fault ⌝ }
+fn faultily(r: OriginalOffset, fault: Fault) -> RereadOutcome
+    ensures { λ a. ⌜ reAnswerOf a ≡ faultily (r .0) fault ⌝ }
 {
     match fault {
         Fault::Unsafe => RereadOutcome::Refused(RereadRefusal::UnsafeOption),
@@ -98,24 +107,21 @@ fn faultily(r: usize, fault: Fault) -> RereadOutcome
 }
 
 // A rereading that reports no option.
-fn quietly(r: usize, verdict: Verdict) -> RereadOutcome
-    ensures { λ a. ⌜ reAnswerOf a ≡ quietly r verdict ⌝ }
+fn quietly(r: OriginalOffset, verdict: Verdict) -> RereadOutcome
+    ensures { λ a. ⌜ reAnswerOf a ≡ quietly (r .0) verdict ⌝ }
 {
     RereadOutcome::Accepted(Rereading {
-        user: places(0, r),
+        user: OriginalExtent {
+            from: OriginalOffset(0),
+            to: r,
+        },
         verdict,
-        options: places(0, 0),
+        options: OriginalExtent {
+            from: OriginalOffset(0),
+            to: OriginalOffset(0),
+        },
         count: 0,
         fill: 0,
         apc: Apc::Absent,
     })
-}
-
-fn places(from: usize, to: usize) -> OriginalExtent
-    ensures { λ r. ⌜ r ≡ places from to ⌝ }
-{
-    OriginalExtent {
-        from: OriginalOffset(from),
-        to: OriginalOffset(to),
-    }
 }

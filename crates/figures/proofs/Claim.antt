@@ -27,11 +27,12 @@ use Rattle.reassembly.specs.Answer as Answer
 use Rattle.ledger.specs.Book.{empty, size, endOf, total, heldBytes, held, sameKey, of, mine, keep, others, openedAt, keys, due, outdated}
 use Rattle.ledger.specs.Book.{advance, repeats, overlap, contradicts, within, complete, lastOne, byteAt, bytesTo, rejecting, conflicting}
 use Rattle.ledger.specs.Book.{storing, taking, noRoom, isRepeat, isConflict, isFull, fate, entry, offerTests, clockTests, figures}
-use Rattle.ledger.specs.Lent.{Lent, sized, lentTests, answered, keeping, bookOf}
+use Rattle.ledger.specs.Lent.{countOff, storeOff, misfits, noClient, lentTests, answered, keeping, bookOf}
 use Rattle.ledger.specs.Stands.{offerOf}
-use Rattle.ledger.specs.History.{Given}
-use Rattle.table.specs.Table.{lentOf}
-use Rattle.table.specs.Events.{Event, Keeps, owes}
+use Rattle.ledger.specs.History.{Lent, Given}
+use Rattle.table.specs.Table.{lentOf, sized}
+use Rattle.table.specs.Events.{Event, Keeps}
+use Rattle.table.specs.Owed.{owes}
 use Rattle.table.specs.Demand3.{Terms, opening}
 use Rattle.table.proofs.Demand3.{demand-3}
 use Rattle.figures.specs.Figures.{Line, refusal, calls, both, table, told, called, inOrder, lastFirst, overlapping, expiring, fiveKeys}
@@ -112,7 +113,7 @@ on-book es keeps =
     (demand-3 .answers table es (terms es keeps) 0 ∙ ap (λ (l : Lent). owes 0 l [] (opening es)) sizes)
 
 book : Unit {0}
-unfolding lent owed sized lentTests answered keeping bookOf owes offerOf Answer.firstOf empty size endOf total heldBytes held sameKey of mine
+unfolding lent owed countOff storeOff misfits noClient lentTests answered keeping bookOf owes offerOf Answer.firstOf empty size endOf total heldBytes held sameKey of mine
     keep others openedAt keys due outdated advance repeats overlap contradicts within complete lastOne byteAt bytesTo rejecting conflicting
     storing taking noRoom isRepeat isConflict isFull fate entry offerTests clockTests figures sameFlow sameBytes any sum datagramLimit
     fragmentLimit assemblyLimit lifetime offeredLimit shareSize clientLimit stated

@@ -3,7 +3,10 @@
 use Prim.Native.Nat.{ℕ}
 use mathlib.Core.Path.{_≡_, ap, subst, _∙_}
 use mathlib.Core.List.{List}
+use Rattle.datagram.specs.declared.reading.Extent.{Extent}
 use Rattle.datagram.specs.declared.reading.Reading.{Reading}
+use Rattle.datagram.specs.declared.rereading.OriginalExtent.{OriginalExtent}
+use Rattle.datagram.specs.declared.rereading.Rereading.{Rereading}
 use Rattle.transcribe.specs.Listing.{listedAnswer, ListedInto}
 use Rattle.transcribe.specs.declared.Listed.{Listed}
 use Rattle.catalogue.specs.Catalogue.{walkOfValue}
@@ -19,7 +22,7 @@ use Rattle.table.specs.Table as Table
 use Rattle.receiver.specs.Receive as Receive
 use Rattle.receiver.specs.Receive.{fateIn}
 use Rattle.receiver.specs.declared.Received as Receiver
-use Rattle.surface.specs.Lists.{verdictFor, readingFor, hostListing, hostWritten}
+use Rattle.surface.specs.Lists.{verdictFor, readingFor, rereadingFor, hostListing, hostWritten}
 use Rattle.surface.specs.Answer.{hostAnswer, arrivalFrom, hostFate}
 use Rattle.surface.specs.declared.Listing.{Listing}
 use Rattle.surface.specs.declared.Written.{Written}
@@ -29,14 +32,19 @@ use Rattle.surface.specs.declared.Received.{Received}
 use Rattle.host.specs.Left.{Lists, Writes, Leaves, Receives}
 
 -- the option list of a reading value with these numbers
-abbrev Into : List ℕ → List ℕ → Listed → List ℕ → Reading → Type 0
-Into bytes buffer listed left r = ListedInto (walkOfValue bytes (r .verdict) (r .options .from .0) (r .options .to .0)) buffer listed left
+pub lists : (bytes : List ℕ) (number : ℕ) (options : Extent) {buffer left : List ℕ} {listed : Listed} {answer : Listing} {r : Reading}
+    → r ≡ readingFor number options → ListedInto (walkOfValue bytes (r .verdict) (r .options .from .0) (r .options .to .0)) buffer listed left
+    → answer ≡ hostListing (listedAnswer listed) → Lists (walkOfValue bytes (verdictFor number) (options .from .0) (options .to .0)) buffer answer left
+lists bytes number options {buffer} {left} {listed} is into says =
+    let h = subst (λ (r : Reading). ListedInto (walkOfValue bytes (r .verdict) (r .options .from .0) (r .options .to .0)) buffer listed left) is into in
+    record { answers = says ∙ ap hostListing (h .answered); buffer-left = h .written }
 
-pub lists : (bytes : List ℕ) (number from to : ℕ) {buffer left : List ℕ} {listed : Listed} {answer : Listing} {r : Reading} → r ≡ readingFor number from to
-    → ListedInto (walkOfValue bytes (r .verdict) (r .options .from .0) (r .options .to .0)) buffer listed left
-    → answer ≡ hostListing (listedAnswer listed) → Lists (walkOfValue bytes (verdictFor number) from to) buffer answer left
-lists bytes number from to {buffer} {left} {listed} is into says =
-    let h = subst (Into bytes buffer listed left) is into in
+-- and of a rereading value
+pub relists : (bytes : List ℕ) (number : ℕ) (options : OriginalExtent) {buffer left : List ℕ} {listed : Listed} {answer : Listing} {r : Rereading}
+    → r ≡ rereadingFor number options → ListedInto (walkOfValue bytes (r .verdict) (r .options .from .0) (r .options .to .0)) buffer listed left
+    → answer ≡ hostListing (listedAnswer listed) → Lists (walkOfValue bytes (verdictFor number) (options .from .0) (options .to .0)) buffer answer left
+relists bytes number options {buffer} {left} {listed} is into says =
+    let h = subst (λ (r : Rereading). ListedInto (walkOfValue bytes (r .verdict) (r .options .from .0) (r .options .to .0)) buffer listed left) is into in
     record { answers = says ∙ ap hostListing (h .answered); buffer-left = h .written }
 
 pub writes : {o : Compose.Outcome} {written : Compose′.Written} {answer : Written} {left : List ℕ} → Wrote o written left

@@ -4,25 +4,37 @@ use Prim.Native.Nat.{ℕ}
 use mathlib.Core.Path.{_≡_, refl}
 use mathlib.Core.List.{List, [], _∷_}
 use prog.Memory.{size}
+use Rattle.datagram.proofs.reading.Extent.Laws as Extent
+use Rattle.datagram.proofs.rereading.OriginalExtent.Laws as OriginalExtent
 use Rattle.record.proofs.Flow.Laws as Flow
 use Rattle.record.proofs.Fragment.Laws as Held
 use Rattle.record.proofs.Assembly.Laws as Assembly
+use Rattle.record.proofs.Client.Laws as Client
 use Rattle.surface.proofs.Address.Laws as Address
 use Rattle.surface.proofs.Reading.Laws as Reading
+use Rattle.surface.proofs.Rereading.Laws as Rereading
 use Rattle.surface.proofs.Listing.Laws as Listing
 use Rattle.surface.proofs.Written.Laws as Written
 use Rattle.surface.proofs.Figures.Laws as Figures
 use Rattle.surface.proofs.Answer.Laws as Answer
 use Rattle.surface.proofs.Fragment.Laws as Fragment
 use Rattle.surface.proofs.Received.Laws as Received
-use Rattle.host.specs.Left.{recordSize}
+use Rattle.host.specs.Left.{recordSize, fieldBytes}
 
 pub record-size-is : recordSize ≡ 704
 unfolding recordSize
 record-size-is = refl
 
--- an address, a reading, a listing, what was written
-pub read-and-written : size Address.mir ∷ size Reading.mir ∷ size Listing.mir ∷ size Written.mir ∷ [] ≡ 4 ∷ 104 ∷ 24 ∷ 16 ∷ []
+-- an address, bytes of a payload, bytes of an original; a reading, a rereading, a listing, what was written
+pub read-and-written : size Address.mir
+    ∷ size Extent.mir
+    ∷ size OriginalExtent.mir
+    ∷ size Reading.mir
+    ∷ size Rereading.mir
+    ∷ size Listing.mir
+    ∷ size Written.mir
+    ∷ []
+    ≡ 4 ∷ 16 ∷ 16 ∷ 104 ∷ 64 ∷ 24 ∷ 16 ∷ []
 read-and-written = refl
 
 -- a flow, a held fragment, an assembly; an account, an answer, a fragment that is offered, what was received
@@ -36,3 +48,10 @@ pub of-the-table : size Flow.mir
     ∷ []
     ≡ 12 ∷ 8 ∷ 160 ∷ 56 ∷ 80 ∷ 48 ∷ 192 ∷ []
 of-the-table = refl
+
+-- ---- no gap
+
+-- a flow, a held fragment, an assembly, a record: the bytes of the fields are all the bytes there are, so each byte of a record counts
+pub no-gap : fieldBytes Flow.mir ∷ fieldBytes Held.mir ∷ fieldBytes Assembly.mir ∷ fieldBytes Client.mir ∷ []
+    ≡ size Flow.mir ∷ size Held.mir ∷ size Assembly.mir ∷ size Client.mir ∷ []
+no-gap = refl

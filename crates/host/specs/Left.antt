@@ -1,5 +1,5 @@
 -- What each exported call answers and leaves: the value of include/wuraketozo.h for the answer of the papers, and all that was lent.
-use Prim.Native.Nat.{ℕ}
+use Prim.Native.Nat.{ℕ, _+_}
 use mathlib.Core.Path.{_≡_}
 use mathlib.Core.Bool.{cond}
 use mathlib.Core.List.{List, _++_}
@@ -10,6 +10,7 @@ use Rattle.listing.specs.Encoding.{given, refused}
 use Rattle.transcribe.specs.Listing as Transcribe
 use Rattle.transcribe.specs.Listing.{listing, fillOf, roomFor, tooSmall}
 use Rattle.compose.specs.Answer as Compose
+use mir.Syntax.{Ty, tyInt, tyBool, tyFloat, tyPtr, tyRef, tyArray, tyUnit, tyStruct, tyEnum, tyNamed, Tys, tnil, tcons}
 use prog.Memory.{size}
 use Rattle.record.specs.declared.Client.{Client}
 use Rattle.record.proofs.Client.Laws as Client′
@@ -25,6 +26,23 @@ use Rattle.surface.specs.declared.Received.{Received}
 -- the bytes of a client's record, as it is laid out
 unfoldable pub recordSize : ℕ
 recordSize = size Client′.mir
+
+-- the bytes of a struct's fields, without what may lie between them
+abbrev pub sizes : Tys → ℕ
+sizes tnil = 0
+sizes (tcons τ τs) = size τ + sizes τs
+
+abbrev pub fieldBytes : Ty → ℕ
+fieldBytes (tyStruct name τs) = sizes τs
+fieldBytes (tyInt w) = size (tyInt w)
+fieldBytes tyBool = size tyBool
+fieldBytes (tyFloat f) = size (tyFloat f)
+fieldBytes tyPtr = size tyPtr
+fieldBytes (tyRef κ μ τ) = size (tyRef κ μ τ)
+fieldBytes (tyArray τ n) = size (tyArray τ n)
+fieldBytes tyUnit = size tyUnit
+fieldBytes (tyEnum name τss) = size (tyEnum name τss)
+fieldBytes (tyNamed name) = size (tyNamed name)
 
 -- "8 if too small", else the size of the list and its fill: what `ListedInto` says of the answer
 abbrev pub listedFor : Walked → List ℕ → Encoding.Answer Transcribe.Listing

@@ -1,7 +1,9 @@
 // The library for C and Rust: the calls of include/wuraketozo.h under their names there. A slice is a pointer and a length in C. No
 // call asks anything of the values of its arguments.
 use datagram::reading;
+use datagram::reading::Extent;
 use datagram::rereading;
+use datagram::rereading::OriginalExtent;
 use offsets::OriginalOffset;
 use record::Client;
 use surface::Address;
@@ -10,6 +12,7 @@ use surface::Fragment;
 use surface::Listing;
 use surface::Reading;
 use surface::Received;
+use surface::Rereading;
 use surface::Written;
 ghost use mathlib.Core.Path.{_≡_};
 ghost use mathlib.Core.List.{[]};
@@ -40,27 +43,40 @@ pub extern "C" fn wuraketozo_read(payload: &[u8], source: Address, destination: 
 
 // Reads an original again that was put together from fragments.
 #[no_mangle]
-pub extern "C" fn wuraketozo_reread(original: &[u8], option_start: usize) -> Reading
-    ensures { λ r. ⌜ r ≡ hostRereading (rereading (now (original .entry)) «option_start») ⌝ }
+pub extern "C" fn wuraketozo_reread(original: &[u8], option_start: OriginalOffset) -> Rereading
+    ensures { λ r. ⌜ r ≡ hostRereading (rereading (now (original .entry)) («option_start» .0)) ⌝ }
 {
-    surface::rereading_of(rereading::reread(original, OriginalOffset(option_start)))
+    surface::rereading_of(rereading::reread(original, option_start))
 }
 
 // ---- option lists and payloads
 
-// Lists the options of a reading of `bytes`, which is given by its verdict's number and the ends of its option list.
+// Lists the options of a reading of `payload`, which is given by its verdict's number and its option list.
 #[no_mangle]
 pub extern "C" fn wuraketozo_list(
-    bytes: &[u8],
+    payload: &[u8],
     verdict: u32,
-    options_from: usize,
-    options_to: usize,
+    options: Extent,
     buffer: &mut [u8],
 ) -> Listing
-    ensures { λ r. ⌜ Lists (walkOfValue (now (bytes .entry)) (verdictFor verdict) «options_from» «options_to») (now (buffer .entry)) r (now (buffer .exit)) ⌝ }
+    ensures { λ r. ⌜ Lists (walkOfValue (now (payload .entry)) (verdictFor verdict) (options .from .0) (options .to .0)) (now (buffer .entry)) r (now (buffer .exit)) ⌝ }
 {
-    let reading = surface::reading_for(verdict, options_from, options_to);
-    surface::listing_of(catalogue::list_reading(bytes, reading, buffer))
+    let reading = surface::reading_for(verdict, options);
+    surface::listing_of(catalogue::list_reading(payload, reading, buffer))
+}
+
+// Lists the options of a rereading of `original`.
+#[no_mangle]
+pub extern "C" fn wuraketozo_relist(
+    original: &[u8],
+    verdict: u32,
+    options: OriginalExtent,
+    buffer: &mut [u8],
+) -> Listing
+    ensures { λ r. ⌜ Lists (walkOfValue (now (original .entry)) (verdictFor verdict) (options .from .0) (options .to .0)) (now (buffer .entry)) r (now (buffer .exit)) ⌝ }
+{
+    let rereading = surface::rereading_for(verdict, options);
+    surface::listing_of(catalogue::list_rereading(original, rereading, buffer))
 }
 
 // Writes a whole payload.
@@ -95,13 +111,22 @@ pub extern "C" fn wuraketozo_write(
 
 // ---- sizes
 
-// The bytes of a record: 64 for the eight numbers, and 160 for each of the four assemblies (12 for the flow, 4, 8, 1 and 1 of
-// padding, 8 for each of the 16 fragments, and 6 of padding). `recordSize` is the size of the layout, so no other number is proved.
+// The bytes of a record: 64 for the eight numbers, and 160 for each of the four assemblies (12 for the flow, 4, 8 and 8, and 8 for each of
+// the 16 fragments), with no gap between them. `recordSize` is the size of the layout, so no other number is proved.
 #[no_mangle]
 pub extern "C" fn wuraketozo_record_size() -> usize
     ensures { λ r. ⌜ r ≡ recordSize ⌝ }
 {
     704
+}
+
+// The same under a name that has the number of the header's layout. The header and the wrapper for Rust refer to it, so that a host that was
+// compiled for another layout does not link. The number goes up with every change of a struct or of a call's arguments.
+#[no_mangle]
+pub extern "C" fn wuraketozo_layout_2() -> usize
+    ensures { λ r. ⌜ r ≡ recordSize ⌝ }
+{
+    wuraketozo_record_size()
 }
 
 // The bytes of a client's share of the store.

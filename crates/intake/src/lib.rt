@@ -27,7 +27,7 @@ enum Checked {
 fn check(client: Client, out_length: usize, o: Arrival, n: usize) -> Checked
     ensures { λ r. ⌜ checkedNumber r ≡ firstOf (offerTests client «out_length» o n) ⌝ }
 {
-    if record::sound(client) {
+    if record_test::sound(client) {
         let offset = o.offset.0;
         let options = o.option_start.0;
         if out_length < record::DATAGRAM_LIMIT {
@@ -68,14 +68,14 @@ fn fragment_of(o: Arrival, n: usize) -> Fragment
             offset: offset,
             length: length,
             option_start: o.option_start.0 as u16,
-            last: true,
+            last: 1,
         };
     }
     Fragment {
         offset: offset,
         length: length,
         option_start: 0,
-        last: false,
+        last: 0,
     }
 }
 
@@ -86,7 +86,7 @@ fn join(c: Client, share: &[u8], out: &mut [u8], p: usize, a: Assembly, f: Fragm
     requires { ⌜ Joining c (now share) (now out) p a f ⌝ }
     ensures { λ r. ⌜ Left (joined c (now (share .entry)) (now (out .entry)) p a f) r (now (share .entry)) (now (out .exit)) ⌝ }
 {
-    let b = reassembly::added(a, f);
+    let b = placement::added(a, f);
     let n = f.length as u64;
     if record::whole(b) {
         let last = record::last_of(b);
@@ -96,7 +96,7 @@ fn join(c: Client, share: &[u8], out: &mut [u8], p: usize, a: Assembly, f: Fragm
         let stop = start + length;
         octets::copy(&share[start..stop], out, 0);
         return Step {
-            client: reassembly::delivering(c, p, a, n),
+            client: placement::delivering(c, p, a, n),
             answer: Answer::Delivered {
                 length: length,
                 option_start: OriginalOffset(options),
@@ -104,7 +104,7 @@ fn join(c: Client, share: &[u8], out: &mut [u8], p: usize, a: Assembly, f: Fragm
         };
     }
     Step {
-        client: reassembly::storing(c, p, b, n),
+        client: placement::storing(c, p, b, n),
         answer: Answer::Stored,
     }
 }
@@ -125,22 +125,22 @@ fn place(
     let n = f.length as u64;
     let start = p * record::DATAGRAM_LIMIT + (f.offset as usize);
     let stop = start + (f.length as usize);
-    if reassembly::repeats(a, f, &share[start..stop], bytes) {
+    if placement::repeats(a, f, &share[start..stop], bytes) {
         return Step {
-            client: reassembly::repeating(c, n),
+            client: placement::repeating(c, n),
             answer: Answer::Repeated,
         };
     }
     if record::conflicts_any(a, f) {
         return Step {
-            client: reassembly::conflicting(c, p, a, n),
+            client: placement::conflicting(c, p, a, n),
             answer: Answer::Conflict,
         };
     }
     let count = a.count as usize;
     if count == record::FRAGMENT_LIMIT {
         return Step {
-            client: reassembly::rejecting(c, n),
+            client: placement::rejecting(c, n),
             answer: Answer::Refused(Refusal::AssemblyFull),
         };
     }
@@ -154,14 +154,14 @@ fn take(c: Client, share: &mut [u8], out: &mut [u8], o: Arrival, bytes: &[u8]) -
     ensures { λ r. ⌜ Left (taken c (now (share .entry)) (now (out .entry)) o (now (bytes .entry))) r (now (share .exit)) (now (out .exit)) ⌝ }
 {
     let f = fragment_of(o, bytes.len());
-    let p = reassembly::place_for(c, o);
+    let p = placement::place_for(c, o);
     if p == record::ASSEMBLY_LIMIT {
         return Step {
-            client: reassembly::rejecting(c, bytes.len() as u64),
+            client: placement::rejecting(c, bytes.len() as u64),
             answer: Answer::Refused(Refusal::NoFreeAssembly),
         };
     }
-    let a = reassembly::assembly_for(c, p, o);
+    let a = placement::assembly_for(c, p, o);
     place(c, share, out, p, a, f, bytes)
 }
 

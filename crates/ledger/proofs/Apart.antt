@@ -17,7 +17,8 @@ use Rattle.ledger.specs.Book.{taking, noRoom, isRepeat, isConflict, isFu
 use Rattle.ledger.specs.Book.{clockTests, refuseOr, call, Offer}
 use Rattle.ledger.specs.Book as Book
 use Rattle.ledger.specs.Whole.{assembled}
-use Rattle.ledger.specs.Lent.{Own, outOf, lentTests, answered, keeping, bookOf}
+use Rattle.ledger.specs.Lent.{Own, answered, keeping, bookOf}
+use Rattle.ledger.proofs.Own.{own-either}
 use Rattle.ledger.proofs.Keys.{of-key, mine-joined, mine-other}
 
 -- a later fragment g does not contradict f
@@ -145,11 +146,10 @@ call-peaceful (clock t) b h = refused-peaceful [] b (firstOf (clockTests t b)) _
 call-peaceful bill b h = h
 
 keeping-peaceful : (os : List Own) (b : Book) → Peaceful (b .open-ones) → Peaceful (keeping os b .open-ones)
-unfolding keeping answered
+unfolding keeping
 keeping-peaceful [] b h = h
 keeping-peaceful (o ∷ os) b h =
-    keeping-peaceful os (answered o b .book)
-    (refused-peaceful (outOf (o .call)) b (firstOf (lentTests (o .lent) (o .client))) (call (o .call) b) h (call-peaceful (o .call) b h))
+    keeping-peaceful os (answered o b .book) (own-either (λ c. Peaceful (c .open-ones)) o b h (call-peaceful (o .call) b h))
 
 -- in the book of every history
 pub peaceful : (os : List Own) → Peaceful (bookOf os .open-ones)

@@ -17,8 +17,9 @@ use Rattle.record.specs.declared.Assembly.{Assembly}
 use Rattle.record.specs.declared.Client.{Client}
 use Rattle.record.specs.Limits.{datagramLimit, fragmentLimit, assemblyLimit, shareSize}
 use Rattle.record.specs.Lists.{if, all, any}
-use Rattle.record.specs.Record.{freshAssembly, end, fits, overlaps, conflicts, live, heldFragments}
+use Rattle.record.specs.Record.{freshAssembly, isLast, end, fits, overlaps, conflicts, live, heldFragments}
 use Rattle.record.proofs.Tests.{both-true}
+use Rattle.record.proofs.Held.{marks-last}
 use Rattle.reassembly.specs.declared.Arrival.{Arrival}
 use Rattle.reassembly.specs.Offer
 use Rattle.reassembly.specs.Offer.{fragmentOf, added, base, startOf}
@@ -97,7 +98,7 @@ content-same : (s t : List ℕ) (j : ℕ) (g : Fragment) → part (base j + g .o
     → contentOf s j g ≡ contentOf t j g
 unfolding contentOf
 content-same s t j g q =
-    λ i. record { place = g .offset; bytes = q i; last = g .last; start = if (g .last) (g .«option_start») 0 }
+    λ i. record { place = g .offset; bytes = q i; last = isLast g; start = if (isLast g) (g .«option_start») 0 }
 
 -- fragments at other places than p say the same in both shares
 pub record Unmoved (s t : List ℕ) (p : ℕ) : Type 0 where
@@ -279,7 +280,11 @@ module _ (c : Client) (share : List ℕ) (b : Book) (o : Arrival) (bytes : List 
   new-content =
       let there = part-overlay share (base p + o .offset .0) bytes (room share p (fragmentOf o (length bytes)) bytes size-of h refl fit) in
       let twice = start-twice (o .last) (o .«option_start» .0) in
-      λ i. record { place = o .offset .0; bytes = there i; last = o .last; start = twice i }
+      let mark = marks-last (fragmentOf o (length bytes)) (o .last) refl in
+      ap
+      (λ (m : Bool). record { place = o .offset .0; bytes = part (base p + o .offset .0) (length bytes) (overlay share (base p + o .offset .0) bytes); last = m; start = if m (if (o .last) (o .«option_start» .0) 0) 0 })
+      mark
+      ∙ (λ i. record { place = o .offset .0; bytes = there i; last = o .last; start = twice i })
 
   -- the key's open fragments with the new one, as the assembly holds them
   pub joined-content : Offer.isConflict a (fragmentOf o (length bytes)) ≡ false → Offer.isFull a ≡ false

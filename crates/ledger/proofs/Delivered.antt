@@ -1,4 +1,5 @@
--- An own fragment call of a client is delivered exactly when it is taken and its original is then whole; otherwise out is as it was.
+-- An own fragment call of a client is delivered exactly when it is taken and its original is then whole; then the original stands at the front of
+-- out, and otherwise out is as it was.
 -- Assumes nothing.
 use Prim.Native.Nat.{ℕ}
 use mathlib.Core.Path.{_≡_, refl, sym, ap, subst, _∙_}
@@ -13,8 +14,9 @@ use Rattle.reassembly.specs.Answer.{refused, repeated, conflict, delivered, fir
 use Rattle.ledger.specs.Book.{Entry, Book, Result, Offer, leaving, size, advance, rejecting, repeating, conflicting, taking, noRoom, isRepeat}
 use Rattle.ledger.specs.Book.{isConflict, isFull, fate, fragment, entry, offerTests, refuseOr, call}
 use Rattle.ledger.specs.Book as Book
-use Rattle.ledger.specs.Lent.{Lent, lentTests, answered}
-use Rattle.ledger.specs.Whole.{Whole, Taken, assembled}
+use Rattle.ledger.specs.History.{Lent}
+use Rattle.ledger.specs.Lent.{lentTests, answered}
+use Rattle.ledger.specs.Whole.{Whole, handed, Taken, assembled}
 use Rattle.ledger.proofs.Whole.{delivered-whole, whole-delivered, untouched}
 
 -- a delivery has passed the four tests
@@ -64,10 +66,12 @@ module _ (l : Lent) (k : ℕ) (o : Offer) (out : List ℕ) (b : Book) where
       go none none p q = g p q
 
   module _ (n r : ℕ) where
-    handed-out : answered (record { lent = l; client = k; call = fragment o out }) b .reply ≡ delivered n r
-        → Taken l k o out b × Whole (assembled o b) out n r (answered (record { lent = l; client = k; call = fragment o out }) b .out)
-    handed-out =
-        by-tests (λ x. x .reply ≡ delivered n r → Taken l k o out b × Whole (assembled o b) out n r (x .out))
+    delivery : answered (record { lent = l; client = k; call = fragment o out }) b .reply ≡ delivered n r
+        → Taken l k o (length out) b
+        × (Whole (assembled o b) n r × (answered (record { lent = l; client = k; call = fragment o out }) b .out ≡ handed (assembled o b) n out))
+    delivery =
+        by-tests
+        (λ x. x .reply ≡ delivered n r → Taken l k o (length out) b × (Whole (assembled o b) n r × (x .out ≡ handed (assembled o b) n out)))
         (λ m d. absurd (let w : _≡_ {A = ℕ} 0 1 = cc in omega arith))
         (λ p q d.
         let t = passes (entry o) out (advance (o .time) b) n r d in (
@@ -75,17 +79,23 @@ module _ (l : Lent) (k : ℕ) (o : Offer) (out : List ℕ) (b : Book) where
           delivered-whole (entry o) out (advance (o .time) b) n r d,
         ))
 
-    whole-out : (out′ : List ℕ) → Taken l k o out b → Whole (assembled o b) out n r out′
+    whole-out : Taken l k o (length out) b → Whole (assembled o b) n r
         → answered (record { lent = l; client = k; call = fragment o out }) b .reply ≡ delivered n r
-    whole-out out′ t w =
+    whole-out t w =
         ap (λ (x : Result). x .reply) (admitted (t .admitted) (t .passed))
         ∙ whole-delivered (entry o) out (advance (o .time) b) (t .room) (t .fresh) (t .fitting) (t .slot) (w .last) (w .found)
         (subst (λ (m : ℕ). Book.complete m (assembled o b) ≡ true) (sym (w .length-is)) (w .all-there))
         ∙ (λ i. delivered (w .length-is i) (w .start-is i))
 
+    -- taken and whole, hence delivered, and the other way round
     pub own-delivery : (answered (record { lent = l; client = k; call = fragment o out }) b .reply ≡ delivered n r)
-        ↔ (Taken l k o out b × Whole (assembled o b) out n r (answered (record { lent = l; client = k; call = fragment o out }) b .out))
-    own-delivery = (handed-out, λ x. whole-out (answered (record { lent = l; client = k; call = fragment o out }) b .out) (x .0) (x .1))
+        ↔ (Taken l k o (length out) b × Whole (assembled o b) n r)
+    own-delivery = (λ d. let w = delivery d in (w .0, w .1 .0), λ x. whole-out (x .0) (x .1))
+
+    -- delivered, hence its bytes are in front of out
+    pub own-bytes : answered (record { lent = l; client = k; call = fragment o out }) b .reply ≡ delivered n r
+        → answered (record { lent = l; client = k; call = fragment o out }) b .out ≡ handed (assembled o b) n out
+    own-bytes d = delivery d .1 .1
 
   pub own-untouched : ((n r : ℕ) → answered (record { lent = l; client = k; call = fragment o out }) b .reply ≡ delivered n r → ⊥)
       → answered (record { lent = l; client = k; call = fragment o out }) b .out ≡ out

@@ -14,7 +14,7 @@ use Rattle.octets.specs.Octets.{part}
 use Rattle.record.specs.declared.Fragment.{Fragment}
 use Rattle.record.specs.Limits.{datagramLimit, assemblyLimit, shareSize}
 use Rattle.record.specs.Lists.{if, all, any}
-use Rattle.record.specs.Record.{freshFragment, end, fits, covers, coveredTo, lastOf}
+use Rattle.record.specs.Record.{freshFragment, isLast, end, fits, covers, coveredTo, lastOf}
 use Rattle.record.proofs.Tests.{both-true}
 use Rattle.reassembly.specs.Offer.{base}
 use Rattle.ledger.specs.Book.{lastOne, byteAt, bytesTo}
@@ -27,30 +27,30 @@ use Rattle.ledger.proofs.Tests.{same-within}
 pub last-fits : (fs : List Fragment) → all fits fs ≡ true → fits (lastOf fs) ≡ true
 unfolding lastOf all fits end freshFragment
 last-fits [] e = le-leb 0 datagramLimit (omega arith)
-last-fits (f ∷ fs) e = go (f .last) (both-true (fits f) (all fits fs) e .0) (last-fits fs (both-true (fits f) (all fits fs) e .1))
+last-fits (f ∷ fs) e = go (isLast f) (both-true (fits f) (all fits fs) e .0) (last-fits fs (both-true (fits f) (all fits fs) e .1))
   where
     go : (t : Bool) → fits f ≡ true → fits (lastOf fs) ≡ true → fits (if t f (lastOf fs)) ≡ true
     go true h k = h
     go false h k = k
 
 module _ (share : List ℕ) (p : ℕ) where
-  pub last-none : (fs : List Fragment) → lastOf fs .last ≡ false → lastOne (map (contentOf share p) fs) ≡ none
+  pub last-none : (fs : List Fragment) → isLast (lastOf fs) ≡ false → lastOne (map (contentOf share p) fs) ≡ none
   unfolding lastOf lastOne contentOf
   last-none [] e = refl
-  last-none (f ∷ fs) e = go (f .last) refl (last-none fs) e
+  last-none (f ∷ fs) e = go (isLast f) refl (last-none fs) e
     where
-      go : (t : Bool) → f .last ≡ t → (lastOf fs .last ≡ false → lastOne (map (contentOf share p) fs) ≡ none) → (if t f (lastOf fs)) .last ≡ false
+      go : (t : Bool) → isLast f ≡ t → (isLast (lastOf fs) ≡ false → lastOne (map (contentOf share p) fs) ≡ none) → isLast (if t f (lastOf fs)) ≡ false
           → if t (some (contentOf share p f)) (lastOne (map (contentOf share p) fs)) ≡ none
       go true t ih e = absurd (true-false (sym t ∙ e))
       go false t ih e = ih e
 
-  pub last-some : (fs : List Fragment) → lastOf fs .last ≡ true → lastOne (map (contentOf share p) fs) ≡ some (contentOf share p (lastOf fs))
-  unfolding lastOf lastOne contentOf freshFragment
+  pub last-some : (fs : List Fragment) → isLast (lastOf fs) ≡ true → lastOne (map (contentOf share p) fs) ≡ some (contentOf share p (lastOf fs))
+  unfolding lastOf lastOne contentOf freshFragment isLast
   last-some [] e = absurd (true-false (sym e))
-  last-some (f ∷ fs) e = go (f .last) (last-some fs) e
+  last-some (f ∷ fs) e = go (isLast f) (last-some fs) e
     where
-      go : (t : Bool) → (lastOf fs .last ≡ true → lastOne (map (contentOf share p) fs) ≡ some (contentOf share p (lastOf fs)))
-          → (if t f (lastOf fs)) .last ≡ true
+      go : (t : Bool) → (isLast (lastOf fs) ≡ true → lastOne (map (contentOf share p) fs) ≡ some (contentOf share p (lastOf fs)))
+          → isLast (if t f (lastOf fs)) ≡ true
           → if t (some (contentOf share p f)) (lastOne (map (contentOf share p) fs)) ≡ some (contentOf share p (if t f (lastOf fs)))
       go true ih e = refl
       go false ih e = ih e

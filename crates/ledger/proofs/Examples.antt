@@ -1,10 +1,11 @@
--- The book on document 01's own figures (lines 9 to 12 of its list): each is computed.
+-- The book on document 01's own figures (lines 9 to 12 of its list), and its tests for 20 and 21 at their limits: each is computed.
 -- Assumes nothing.
 use Prim.Native.Nat.{ℕ}
 use mathlib.Core.Path.{_≡_, refl}
 use mathlib.Core.Bool.{Bool, true, false}
 use mathlib.Core.List.{List, [], _∷_}
-use Rattle.record.specs.Limits.{datagramLimit, fragmentLimit, assemblyLimit, lifetime, offeredLimit}
+use mathlib.Core.Option.{Option, none, some}
+use Rattle.record.specs.Limits.{datagramLimit, fragmentLimit, assemblyLimit, lifetime, offeredLimit, shareSize, clientLimit}
 use Rattle.record.specs.Lists.{sameBytes, any, sum}
 use Rattle.record.specs.Record.{sameFlow}
 use Rattle.reassembly.specs.Answer.{refused, stored, conflict, delivered, firstOf}
@@ -12,6 +13,7 @@ use Rattle.ledger.specs.Book.{Book, empty, size, endOf, total, heldBytes
 use Rattle.ledger.specs.Book.{outdated, advance, repeats, overlap, contradicts, within, complete, lastOne, byteAt, bytesTo, rejecting}
 use Rattle.ledger.specs.Book.{repeating, conflicting, storing, delivering, taking, noRoom, isRepeat, isConflict, isFull, fate, Offer}
 use Rattle.ledger.specs.Book.{entry, clockTests, clock, call}
+use Rattle.ledger.specs.Lent.{countOff, storeOff, misfits, noClient, lentTests}
 
 -- a fragment of the datagram with this identification
 abbrev offer : ℕ → ℕ → ℕ → List ℕ → Bool → Offer
@@ -106,3 +108,14 @@ unfolding empty size endOf total heldBytes held sameKey of mine keep others open
     complete lastOne byteAt bytesTo rejecting repeating conflicting storing delivering taking noRoom isRepeat isConflict isFull fate entry clockTests
     firstOf sameFlow sameBytes any sum datagramLimit fragmentLimit assemblyLimit lifetime offeredLimit four-keys
 fifth-later = refl
+
+-- 20 and 21: which of them a call meets first, by record count, store length and client
+met-first : ℕ → ℕ → ℕ → Option ℕ
+met-first count bytes k = firstOf (lentTests (record { count = count; bytes = bytes }) k)
+
+-- 12 records and their store, clients 0 to 11; no record, 13 records, a byte too few or too many; and 20 comes before 21
+limits : met-first 12 196608 0 ∷ met-first 12 196608 11 ∷ met-first 1 16384 0 ∷ met-first 12 196608 12 ∷ met-first 0 0 0 ∷ met-first 13 212992 0
+    ∷ met-first 12 196607 0 ∷ met-first 12 196609 0 ∷ met-first 1 16383 1 ∷ []
+    ≡ none ∷ none ∷ none ∷ some 21 ∷ some 20 ∷ some 20 ∷ some 20 ∷ some 20 ∷ some 20 ∷ []
+unfolding met-first lentTests misfits countOff storeOff noClient firstOf clientLimit shareSize
+limits = refl

@@ -16,7 +16,7 @@ use Rattle.record.specs.declared.Assembly.{Assembly}
 use Rattle.record.specs.declared.Client.{Client}
 use Rattle.record.specs.Limits.{datagramLimit, fragmentLimit, assemblyLimit, shareSize}
 use Rattle.record.specs.Lists.{if, all}
-use Rattle.record.specs.Record.{freshAssembly, end, fits, coveredTo, lastOf, live, heldFragments, bytesHeld, soundRecord}
+use Rattle.record.specs.Record.{freshAssembly, isLast, end, fits, coveredTo, lastOf, live, heldFragments, bytesHeld, soundRecord}
 use Rattle.record.proofs.Lists.{all-append}
 use Rattle.reassembly.specs.declared.Arrival.{Arrival}
 use Rattle.reassembly.specs.Answer.{stored, repeated, delivered}
@@ -219,7 +219,7 @@ entered-as o bytes = entry (offerOf o bytes)
 abbrev pub laid : List ℕ → ℕ → Arrival → List ℕ → List ℕ
 laid share p o bytes = overlay share (startOf p (fragmentOf o (length bytes))) bytes
 
-last-start : (share : List ℕ) (p : ℕ) (g : Fragment) → g .last ≡ true → g .«option_start» ≡ contentOf share p g .start
+last-start : (share : List ℕ) (p : ℕ) (g : Fragment) → isLast g ≡ true → g .«option_start» ≡ contentOf share p g .start
 unfolding contentOf
 last-start share p g t = sym (ap (λ (x : Bool). if x (g .«option_start») 0) t)
 
@@ -270,7 +270,7 @@ module _ (c : Client) (share : List ℕ) (b : Book) (st : Stands c share b) (out
     }
 
     -- the one that is marked last is held
-    module _ (t : lastOf (heldFragments (added a (held-as o bytes))) .last ≡ true) where
+    module _ (t : isLast (lastOf (heldFragments (added a (held-as o bytes)))) ≡ true) where
       abbrev end-one : Fragment
       end-one = lastOf (heldFragments (added a (held-as o bytes)))
 

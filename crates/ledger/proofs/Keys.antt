@@ -4,6 +4,7 @@ use Prim.Native.Nat.{ℕ, suc, _+_}
 use mathlib.Core.Path.{_≡_, refl, sym, ap, ap₂, _∙_}
 use mathlib.Core.Bool.{Bool, true, false, not, _&&_, _||_}
 use mathlib.Core.List.{List, [], _∷_, _++_}
+use mathlib.Core.Logic.{_↔_}
 use native.Mathlib.Omega.{arith}
 use lib.Dec.{eqb}
 use borrow.Author.Tests.{eqb-true, eq-eqb}
@@ -58,6 +59,13 @@ flow-same x =
 pub key-same : (k : Key) → sameKey k k ≡ true
 unfolding sameKey
 key-same k = ap₂ _&&_ (flow-same (k .flow)) (eq-eqb (k .identification) (k .identification) refl)
+
+-- the tests hold exactly of equal flows, and of equal keys; of the addresses nothing is asked
+pub same-flow-exactly : (x y : Flow) → (sameFlow x y ≡ true) ↔ (x ≡ y)
+same-flow-exactly x y = (same-flow x y, λ e. ap (sameFlow x) (sym e) ∙ flow-same x)
+
+pub same-key-exactly : (k j : Key) → (sameKey k j ≡ true) ↔ (k ≡ j)
+same-key-exactly k j = (same-key k j, λ e. ap (sameKey k) (sym e) ∙ key-same k)
 
 pub true-false : true ≡ false → ⊥
 true-false e = let z : _≡_ {A = ℕ} 0 1 = cc in omega arith

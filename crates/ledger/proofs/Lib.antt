@@ -1,4 +1,5 @@
 pub mod Sum
+pub mod Shares
 pub mod Keys
 pub mod Agreement
 pub mod Clock

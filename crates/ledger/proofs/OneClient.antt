@@ -9,6 +9,7 @@ use native.Mathlib.Omega.{arith}
 use lib.Dec.{eqb}
 use lib.ListN.{length}
 use borrow.Author.Tests.{eqb-false, not-true}
+use Rattle.record.specs.declared.Client.{Client}
 use Rattle.record.specs.Lists.{if, all}
 use Rattle.record.proofs.Tests.{both-true}
 use Rattle.reassembly.specs.Answer.{Reply, refused, advanced, firstOf}
@@ -29,18 +30,20 @@ use Rattle.ledger.specs.Book.{
   isConflict,
   isFull,
   fate,
-  Offer,
   entry,
   advance,
   offerTests,
   clockTests,
   refuseOr,
+  Call,
   fragment,
   clock,
   bill,
   call,
 }
-use Rattle.ledger.specs.Stands.{offerOf}
+use Rattle.ledger.specs.Stands.{Stands, Fulfils}
+use Rattle.ledger.specs.History.{Ask, offering, advancing, accounting, on}
+use Rattle.ledger.specs.Bookkeeping.{callOf}
 use Rattle.ledger.specs.OneClient.{Lasts, OneClient}
 use Rattle.ledger.proofs.Clock.{stands-fresh, account-stands, advance-stands}
 use Rattle.ledger.proofs.Sum.{if-either}
@@ -88,31 +91,36 @@ refuse-other out b xs r a h = go (firstOf xs) refl
     go none e = h
     go (some n) e = other-number n (first-other xs a n e)
 
-fragment-other : (o : Offer) (out : List ℕ) (b : Book) → Other (call (fragment o out) b .reply)
-unfolding offerTests all
-fragment-other o out b =
+book-other : (c : Call) (b : Book) → Other (call c b .reply)
+unfolding offerTests clockTests all
+book-other (fragment o out) b =
     refuse-other out b (offerTests o (length out) b) (fate (entry o) out (advance (o .time) b)) refl (fate-other (entry o) out (advance (o .time) b))
-
-clock-other : (t : ℕ) (b : Book) → Other (call (clock t) b .reply)
-unfolding clockTests all
-clock-other t b =
+book-other (clock t) b =
     refuse-other [] b (clockTests t b) (leaving advanced [] (advance t b)) refl (λ q. let z : _≡_ {A = ℕ} 0 1 = cc in omega arith)
-
-account-other : (b : Book) → Other (call bill b .reply)
-account-other b q = let z : _≡_ {A = ℕ} 0 1 = cc in omega arith
+book-other bill b = λ q. let z : _≡_ {A = ℕ} 0 1 = cc in omega arith
 
 -- ---- the theorem
 
-pub one-client : Lasts → OneClient
+-- the clock lends no out buffer
+clock-out : (t : ℕ) (b : Book) → [] ≡ call (clock t) b .out
+clock-out t b = go (firstOf (clockTests t b))
+  where
+    go : (o : Option ℕ) → [] ≡ refuseOr [] b o (leaving advanced [] (advance t b)) .out
+    go none = refl
+    go (some n) = refl
+
+-- each call on the record does what the book does
+each-call : Lasts → (c : Client) (share : List ℕ) (b : Book) → Stands c share b → (a : Ask) → Fulfils (on c share a) (call (callOf a) b)
 unfolding Lasts
+each-call lasts c share b st (offering o bytes out) = fragment-stands c share b st out o bytes (lasts c share out o bytes (st .sound) (st .shape))
+each-call lasts c share b st (advancing t) =
+    let f = advance-stands t c share b st in record { reply = f .reply; out = clock-out t b; stands = f .stands }
+each-call lasts c share b st accounting =
+    let f = account-stands c share b st in record { reply = f .reply; out = refl; stands = f .stands }
+
+pub one-client : Lasts → OneClient
 one-client lasts = record {
   fresh = stands-fresh;
-  account-call = account-stands;
-  clock-call = λ c share b t st. advance-stands t c share b st;
-  fragment-call = λ c share b out o bytes st. fragment-stands c share b st out o bytes (lasts c share out o bytes (st .sound) (st .shape));
-  account-22 = λ c share b st q. account-other b (sym (account-stands c share b st .reply) ∙ q);
-  clock-22 = λ c share b t st q. clock-other t b (sym (advance-stands t c share b st .reply) ∙ q);
-  fragment-22 = λ c share b out o bytes st q.
-      fragment-other (offerOf o bytes) out b
-      (sym (fragment-stands c share b st out o bytes (lasts c share out o bytes (st .sound) (st .shape)) .reply) ∙ q);
+  each-call = each-call lasts;
+  never-22 = λ c share b st a q. book-other (callOf a) b (sym (each-call lasts c share b st a .reply) ∙ q);
 }

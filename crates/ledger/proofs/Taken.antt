@@ -14,7 +14,7 @@ use Rattle.record.specs.declared.Fragment.{Fragment}
 use Rattle.record.specs.declared.Assembly.{Assembly}
 use Rattle.record.specs.declared.Client.{Client}
 use Rattle.record.specs.Limits.{datagramLimit, offeredLimit, assemblyLimit}
-use Rattle.record.specs.Record.{end, fits, coveredTo, lastOf, whole, heldFragments, soundRecord}
+use Rattle.record.specs.Record.{isLast, end, fits, coveredTo, lastOf, whole, heldFragments, soundRecord}
 use Rattle.reassembly.specs.declared.Arrival.{Arrival}
 use Rattle.reassembly.specs.Answer.{refused, stored, repeated, conflict, delivered, firstOf}
 use Rattle.reassembly.specs.Advance.{elapse}
@@ -73,7 +73,7 @@ module _ (c : Client) (share : List ℕ) (b : Book) (st : Stands c share b) (out
   joined-fulfils : soundRecord (Offer.joined c (laid share p o bytes) out p a (held-as o bytes) .client) ≡ true
       → Fulfils (Offer.joined c (laid share p o bytes) out p a (held-as o bytes)) (taking (entered-as o bytes) out b)
   unfolding Offer.joined whole taking handedOut fragmentOf
-  joined-fulfils s = go (lastOf fs .last) refl
+  joined-fulfils s = go (isLast (lastOf fs)) refl
     where
       fs : List Fragment
       fs = heldFragments (added a (held-as o bytes))
@@ -100,26 +100,26 @@ module _ (c : Client) (share : List ℕ) (b : Book) (st : Stands c share b) (out
       handed =
           Book.leaving (delivered (endOf l) (l .start)) (bytesTo (endOf l) (with e b) ++ drop (endOf l) out) (Book.delivering (e .key) (size (e .content)) b)
 
-      cover : (t : lastOf fs .last ≡ true) → (u : Bool) → coveredTo (end (lastOf fs)) fs ≡ u
+      cover : (t : isLast (lastOf fs) ≡ true) → (u : Bool) → coveredTo (end (lastOf fs)) fs ≡ u
           → Fulfils (Offer.joined c s′ out p a (held-as o bytes)) (taking e out b)
       cover t true u =
           fulfil-of (Offer.joined c s′ out p a (held-as o bytes)) hand-out (taking e out b) handed
-          (if-yes (lastOf fs .last && coveredTo (end (lastOf fs)) fs) hand-out keep-on (ap₂ _&&_ t u))
+          (if-yes (isLast (lastOf fs) && coveredTo (end (lastOf fs)) fs) hand-out keep-on (ap₂ _&&_ t u))
           (ap (finished e out b) (ap lastOne (joins c share b st out o bytes fit p a at-home free slot) ∙ last-some s′ p fs t)
           ∙ if-yes (complete (endOf l) (with e b)) handed listed (final-cover c share b st out o bytes fit p a at-home free slot t ∙ u)) s
           (delivered-fulfils c share b st out o bytes fit p a at-home free slot t u)
       cover t false u =
           fulfil-of (Offer.joined c s′ out p a (held-as o bytes)) keep-on (taking e out b) listed
-          (if-no (lastOf fs .last && coveredTo (end (lastOf fs)) fs) hand-out keep-on (ap₂ _&&_ t u))
+          (if-no (isLast (lastOf fs) && coveredTo (end (lastOf fs)) fs) hand-out keep-on (ap₂ _&&_ t u))
           (ap (finished e out b) (ap lastOne (joins c share b st out o bytes fit p a at-home free slot) ∙ last-some s′ p fs t)
           ∙ if-no (complete (endOf l) (with e b)) handed listed (final-cover c share b st out o bytes fit p a at-home free slot t ∙ u)) s
           (stored-fulfils c share b st out o bytes fit p a at-home free slot)
 
-      go : (t : Bool) → lastOf fs .last ≡ t → Fulfils (Offer.joined c s′ out p a (held-as o bytes)) (taking e out b)
+      go : (t : Bool) → isLast (lastOf fs) ≡ t → Fulfils (Offer.joined c s′ out p a (held-as o bytes)) (taking e out b)
       go true t = cover t (coveredTo (end (lastOf fs)) fs) refl
       go false t =
           fulfil-of (Offer.joined c s′ out p a (held-as o bytes)) keep-on (taking e out b) listed
-          (if-no (lastOf fs .last && coveredTo (end (lastOf fs)) fs) hand-out keep-on (ap (λ (x : Bool). x && coveredTo (end (lastOf fs)) fs) t))
+          (if-no (isLast (lastOf fs) && coveredTo (end (lastOf fs)) fs) hand-out keep-on (ap (λ (x : Bool). x && coveredTo (end (lastOf fs)) fs) t))
           (ap (finished e out b) (ap lastOne (joins c share b st out o bytes fit p a at-home free slot) ∙ last-none s′ p fs t)) s
           (stored-fulfils c share b st out o bytes fit p a at-home free slot)
 

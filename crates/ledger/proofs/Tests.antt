@@ -14,9 +14,10 @@ use Rattle.record.specs.declared.Assembly.{Assembly}
 use Rattle.record.specs.declared.Client.{Client}
 use Rattle.record.specs.Limits.{fragmentLimit, assemblyLimit, shareSize}
 use Rattle.record.specs.Lists.{if, sameMark, sameBytes, all, any}
-use Rattle.record.specs.Record.{end, fits, overlaps, bothLast, outruns, conflicts, covers, coveredTo, heldFragments}
+use Rattle.record.specs.Record.{isLast, end, fits, overlaps, bothLast, outruns, conflicts, covers, coveredTo, heldFragments}
 use Rattle.record.proofs.Lists.{and-true, and-false}
 use Rattle.record.proofs.Tests.{both-true}
+use Rattle.record.proofs.Held.{marks-last}
 use Rattle.reassembly.specs.declared.Arrival.{Arrival}
 use Rattle.reassembly.specs.Offer
 use Rattle.reassembly.specs.Offer.{fragmentOf, alike, base, startOf}
@@ -100,22 +101,34 @@ module _ (share : List ℕ) (p : ℕ) (size-of : length share ≡ shareSize) (h 
   same-cover (suc n) fs e = ap₂ _&&_ (same-cover n fs e) (same-any-within n fs e)
 
   module _ (o : Arrival) (bytes : List ℕ) where
+    -- the mark that is stored
+    mark-is : isLast (fragmentOf o (length bytes)) ≡ o .last
+    unfolding fragmentOf
+    mark-is = marks-last (fragmentOf o (length bytes)) (o .last) refl
+
     -- ---- a repeat
 
     same-repeat : (g : Fragment) → fits g ≡ true
         → Book.repeats (entry (offerOf o bytes) .content) (contentOf share p g)
         ≡ alike (fragmentOf o (length bytes)) g && sameBytes bytes (part (startOf p (fragmentOf o (length bytes))) (length bytes) share)
     unfolding Book.repeats alike fragmentOf entry offerOf contentOf startOf size
-    same-repeat g e = go (eqb (o .offset .0) (g .offset)) (eqb (length bytes) (g .length)) refl refl
+    same-repeat g e =
+        go (eqb (o .offset .0) (g .offset)) (eqb (length bytes) (g .length)) refl refl
+        ∙ ap
+        (λ (m : Bool). (eqb (o .offset .0) (g .offset) && (eqb (length bytes) (g .length) && (sameMark m (isLast g) && (not m || starting)))) && here)
+        (sym mark-is)
       where
         marks : Bool
-        marks = sameMark (o .last) (g .last)
+        marks = sameMark (o .last) (isLast g)
 
         left : Bool
-        left = eqb (if (o .last) (o .«option_start» .0) 0) (if (g .last) (g .«option_start») 0)
+        left = eqb (if (o .last) (o .«option_start» .0) 0) (if (isLast g) (g .«option_start») 0)
+
+        starting : Bool
+        starting = eqb (if (o .last) (o .«option_start» .0) 0) (g .«option_start»)
 
         right : Bool
-        right = not (o .last) || eqb (if (o .last) (o .«option_start» .0) 0) (g .«option_start»)
+        right = not (o .last) || starting
 
         there : Bool
         there = sameBytes bytes (part (base p + g .offset) (g .length) share)
@@ -136,7 +149,7 @@ module _ (share : List ℕ) (p : ℕ) (size-of : length share ≡ shareSize) (h 
         go true true ex ey =
             ap₂ (λ (i n : ℕ). sameBytes bytes (part (base p + i) n share) && (marks && left))
             (sym (eqb-true (o .offset .0) (g .offset) ex)) (sym (eqb-true (length bytes) (g .length) ey))
-            ∙ swap here marks left right (starts (o .last) (g .last) (o .«option_start» .0) (g .«option_start»))
+            ∙ swap here marks left right (starts (o .last) (isLast g) (o .«option_start» .0) (g .«option_start»))
         go true false ex ey = ap (λ (b : Bool). b && (marks && left)) (unlike ey there refl)
 
     -- ---- a conflict
@@ -146,9 +159,12 @@ module _ (share : List ℕ) (p : ℕ) (size-of : length share ≡ shareSize) (h 
     unfolding contradicts conflicts overlap overlaps bothLast outruns fragmentOf entry offerOf contentOf size end endOf
     same-conflict g e =
         let f : ℕ = o .offset .0 + length bytes in
-        ap (λ (n : ℕ). (ltb (o .offset .0) n && ltb (g .offset) f) || ((o .last && g .last) || ((g .last && ltb n f) || (o .last && ltb f n)))) (same-end g e)
+        ap (λ (n : ℕ). (ltb (o .offset .0) n && ltb (g .offset) f) || ((o .last && isLast g) || ((isLast g && ltb n f) || (o .last && ltb f n)))) (same-end g e)
         ∙ ap₂ _||_ (and-comm (ltb (o .offset .0) (end g)) (ltb (g .offset) f))
-        (ap₂ _||_ (and-comm (o .last) (g .last)) (or-comm (g .last && ltb (end g) f) (o .last && ltb f (end g))))
+        (ap₂ _||_ (and-comm (o .last) (isLast g)) (or-comm (isLast g && ltb (end g) f) (o .last && ltb f (end g))))
+        ∙ ap
+        (λ (m : Bool). (ltb (g .offset) f && ltb (o .offset .0) (end g)) || ((isLast g && m) || ((m && ltb f (end g)) || (isLast g && ltb (end g) f))))
+        (sym mark-is)
 
 -- ---- the tests of the record and of the book
 

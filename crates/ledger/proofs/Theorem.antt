@@ -8,9 +8,10 @@ use Rattle.record.specs.Limits.{shareSize}
 use Rattle.record.specs.Record.{freshClient}
 use Rattle.reassembly.proofs.Lasting.{shaped, fragment-call-sound}
 use Rattle.ledger.specs.Book.{empty}
-use Rattle.ledger.specs.Stands.{slotted}
+use Rattle.ledger.specs.Shapes.{slotted}
 use Rattle.ledger.specs.OneClient.{Lasts, OneClient}
-use Rattle.ledger.specs.History.{Ask, recordGives, bookGives}
+use Rattle.ledger.specs.History.{Ask, recordGives}
+use Rattle.ledger.specs.Bookkeeping.{bookGives}
 use Rattle.ledger.proofs.OneClient.{one-client}
 use Rattle.ledger.proofs.History.{whole-history}
 

@@ -15,7 +15,7 @@ use Rattle.record.specs.Lists.{if}
 use Rattle.reassembly.specs.Answer.{stored, delivered}
 use Rattle.ledger.specs.Book.{Content, Entry, Book, size, endOf, complete, lastOne, byteAt, bytesTo, Result, storing, delivering}
 use Rattle.ledger.specs.Book.{leaving, with, finished, taking, noRoom, isRepeat, isConflict, isFull, fate}
-use Rattle.ledger.specs.Whole.{Whole}
+use Rattle.ledger.specs.Whole.{Whole, handed}
 use Rattle.reassembly.proofs.Laws.{if-yes}
 use Rattle.ledger.proofs.Sum.{if-either}
 use Rattle.ledger.proofs.Taken.{book-taken}
@@ -30,41 +30,39 @@ module _ (e : Entry) (out : List ℕ) (b : Book) where
   -- a delivery is of a whole original
   module _ (n r : ℕ) where
     abbrev Owed : Result → Type 0
-    Owed x = x .reply ≡ delivered n r → Whole (with e b) out n r (x .out)
+    Owed x = x .reply ≡ delivered n r → Whole (with e b) n r × (x .out ≡ handed (with e b) n out)
 
-    handed : (l : Content) → lastOne (with e b) ≡ some l → (t : Bool) → complete (endOf l) (with e b) ≡ t
+    handed-out : (l : Content) → lastOne (with e b) ≡ some l → (t : Bool) → complete (endOf l) (with e b) ≡ t
         → Owed
         (if t
         (leaving (delivered (endOf l) (l .start)) (bytesTo (endOf l) (with e b) ++ drop (endOf l) out) (delivering (e .key) (size (e .content)) b))
         (leaving stored out (storing e b)))
-    handed l f true c q =
+    handed-out l f true c q =
         let i : endOf l ≡ n = cc in
-        let j : l .start ≡ r = cc in
-        record {
-          last = l;
-          found = f;
-          length-is = i;
-          start-is = j;
-          all-there = subst (λ (m : ℕ). complete m (with e b) ≡ true) i c;
-          out-is = ap (λ (m : ℕ). bytesTo m (with e b) ++ drop m out) i;
-        }
-    handed l f false c q = let z : _≡_ {A = ℕ} 0 1 = cc in absurd (omega arith)
+        let j : l .start ≡ r = cc in (
+          record {
+            last = l;
+            found = f;
+            length-is = i;
+            start-is = j;
+            all-there = subst (λ (m : ℕ). complete m (with e b) ≡ true) i c;
+          },
+          ap (λ (m : ℕ). bytesTo m (with e b) ++ drop m out) i,
+        )
+    handed-out l f false c q = let z : _≡_ {A = ℕ} 0 1 = cc in absurd (omega arith)
 
     finished-whole : (o : Option Content) → lastOne (with e b) ≡ o → Owed (finished e out b o)
     finished-whole none f = λ q. let z : _≡_ {A = ℕ} 0 1 = cc in absurd (omega arith)
-    finished-whole (some l) f = handed l f (complete (endOf l) (with e b)) refl
+    finished-whole (some l) f = handed-out l f (complete (endOf l) (with e b)) refl
 
-    pub delivered-whole : fate e out b .reply ≡ delivered n r → Whole (with e b) out n r (fate e out b .out)
+    pub delivered-whole : fate e out b .reply ≡ delivered n r → Whole (with e b) n r × (fate e out b .out ≡ handed (with e b) n out)
     unfolding fate taking
     delivered-whole =
-        if-either (λ (x : Result). x .reply ≡ delivered n r → Whole (with e b) out n r (x .out)) (noRoom e b) _ _
-        (λ q. let z : _≡_ {A = ℕ} 0 1 = cc in absurd (omega arith))
-        (if-either (λ (x : Result). x .reply ≡ delivered n r → Whole (with e b) out n r (x .out)) (isRepeat e b) _ _
-        (λ q. let z : _≡_ {A = ℕ} 0 1 = cc in absurd (omega arith))
-        (if-either (λ (x : Result). x .reply ≡ delivered n r → Whole (with e b) out n r (x .out)) (isConflict e b) _ _
-        (λ q. let z : _≡_ {A = ℕ} 0 1 = cc in absurd (omega arith))
-        (if-either (λ (x : Result). x .reply ≡ delivered n r → Whole (with e b) out n r (x .out)) (isFull e b) _ _
-        (λ q. let z : _≡_ {A = ℕ} 0 1 = cc in absurd (omega arith)) (finished-whole (lastOne (with e b)) refl))))
+        if-either Owed (noRoom e b) _ _ (λ q. let z : _≡_ {A = ℕ} 0 1 = cc in absurd (omega arith))
+        (if-either Owed (isRepeat e b) _ _ (λ q. let z : _≡_ {A = ℕ} 0 1 = cc in absurd (omega arith))
+        (if-either Owed (isConflict e b) _ _ (λ q. let z : _≡_ {A = ℕ} 0 1 = cc in absurd (omega arith))
+        (if-either Owed (isFull e b) _ _ (λ q. let z : _≡_ {A = ℕ} 0 1 = cc in absurd (omega arith))
+        (finished-whole (lastOne (with e b)) refl))))
 
   -- a fragment that is taken and makes its original whole is delivered
   pub whole-delivered : noRoom e b ≡ false → isRepeat e b ≡ false → isConflict e b ≡ false → isFull e b ≡ false → (l : Content)

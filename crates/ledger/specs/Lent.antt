@@ -1,25 +1,33 @@
 -- What the table adds to a client's book: refusals 20 and 21 come before all others. Of the table a history has the record count and the
--- store's length, and nothing else.
+-- store's length, and nothing else. The tests are the book's own, from document 01's words; the table has others, and the two agree
+-- (`table/proofs/Tests.antt`: `tests-agree`).
 use Prim.Native.Nat.{ℕ, _*_}
-use mathlib.Core.Bool.{Bool, not, _&&_}
+use mathlib.Core.Bool.{Bool, not, _||_}
 use mathlib.Core.List.{List, [], _∷_}
-use lib.Dec.{leb, eqb}
+use lib.Dec.{ltb, eqb}
 use Rattle.record.specs.Limits.{shareSize, clientLimit}
 use Rattle.reassembly.specs.Answer.{firstOf}
 use Rattle.ledger.specs.Book.{Book, empty, Result, Call, fragment, clock, bill, refuseOr, call}
+use Rattle.ledger.specs.History.{Lent}
 
--- the table that a call was lent: how many records, how many bytes of store
-pub record Lent : Type 0 where
-  pub count : ℕ
-  pub bytes : ℕ
+-- "record count not 1 to 12"
+unfoldable pub countOff : Lent → Bool
+countOff l = eqb (l .count) 0 || ltb clientLimit (l .count)
 
--- "record count not 1 to 12, or store not 16,384 bytes for each" does not apply
-unfoldable pub sized : Lent → Bool
-sized l = leb 1 (l .count) && (leb (l .count) clientLimit && eqb (l .bytes) (l .count * shareSize))
+-- "store not 16,384 bytes for each"
+unfoldable pub storeOff : Lent → Bool
+storeOff l = not (eqb (shareSize * l .count) (l .bytes))
+
+unfoldable pub misfits : Lent → Bool
+misfits l = countOff l || storeOff l
+
+-- "no such client": they are 0 to one less than the record count
+unfoldable pub noClient : Lent → ℕ → Bool
+noClient l k = not (ltb k (l .count))
 
 -- 20 and 21 in order
 unfoldable pub lentTests : Lent → ℕ → List (Bool × ℕ)
-lentTests l k = (not (sized l), 20) ∷ (leb (l .count) k, 21) ∷ []
+lentTests l k = (misfits l, 20) ∷ (noClient l k, 21) ∷ []
 
 -- a client's own call: its arguments, with the sizes of the table that it was lent
 pub record Own : Type 0 where

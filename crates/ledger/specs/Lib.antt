@@ -1,6 +1,8 @@
 pub mod Book
-pub mod Lent
-pub mod Stands
-pub mod OneClient
 pub mod History
+pub mod Lent
+pub mod Shapes
+pub mod Stands
+pub mod Bookkeeping
+pub mod OneClient
 pub mod Whole

@@ -9,10 +9,12 @@ use Rattle.record.specs.Limits.{shareSize}
 use Rattle.record.specs.Record.{freshClient, soundRecord}
 use Rattle.reassembly.specs.declared.Arrival.{Arrival}
 use Rattle.reassembly.specs.Answer.{refused}
-use Rattle.reassembly.specs.Advance.{advanceOn, accountOn}
 use Rattle.reassembly.specs.Offer.{fragmentOn}
-use Rattle.ledger.specs.Book.{Book, empty, fragment, clock, bill, call}
-use Rattle.ledger.specs.Stands.{Shaped, offerOf, Stands, Follows, Fulfils}
+use Rattle.ledger.specs.Book.{Book, empty, call}
+use Rattle.ledger.specs.Shapes.{Shaped}
+use Rattle.ledger.specs.Stands.{Stands, Fulfils}
+use Rattle.ledger.specs.History.{Ask, on}
+use Rattle.ledger.specs.Bookkeeping.{callOf}
 
 -- the record test passes again after a fragment call: a fact of the record's own rules
 unfoldable pub Lasts : Type 0
@@ -24,11 +26,5 @@ Lasts =
 -- the book leaves there, and leaves a record and share that stand for the book after it; refusal 22 never comes
 pub record OneClient : Type 0 where
   pub fresh : (share : List ℕ) → length share ≡ shareSize → Stands freshClient share empty
-  pub account-call : (c : Client) (share : List ℕ) (b : Book) → Stands c share b → Follows (accountOn c) share (call bill b)
-  pub clock-call : (c : Client) (share : List ℕ) (b : Book) (t : ℕ) → Stands c share b → Follows (advanceOn c t) share (call (clock t) b)
-  pub fragment-call : (c : Client) (share : List ℕ) (b : Book) (out : List ℕ) (o : Arrival) (bytes : List ℕ) → Stands c share b
-      → Fulfils (fragmentOn c share out o bytes) (call (fragment (offerOf o bytes) out) b)
-  pub account-22 : (c : Client) (share : List ℕ) (b : Book) → Stands c share b → accountOn c .reply ≡ refused 22 → ⊥
-  pub clock-22 : (c : Client) (share : List ℕ) (b : Book) (t : ℕ) → Stands c share b → advanceOn c t .reply ≡ refused 22 → ⊥
-  pub fragment-22 : (c : Client) (share : List ℕ) (b : Book) (out : List ℕ) (o : Arrival) (bytes : List ℕ) → Stands c share b
-      → fragmentOn c share out o bytes .reply ≡ refused 22 → ⊥
+  pub each-call : (c : Client) (share : List ℕ) (b : Book) → Stands c share b → (a : Ask) → Fulfils (on c share a) (call (callOf a) b)
+  pub never-22 : (c : Client) (share : List ℕ) (b : Book) → Stands c share b → (a : Ask) → on c share a .reply ≡ refused 22 → ⊥

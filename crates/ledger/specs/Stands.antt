@@ -4,18 +4,18 @@ use Prim.Native.Nat.{ℕ, _+_, _<_}
 use mathlib.Core.Path.{_≡_}
 use mathlib.Core.Bool.{Bool, true, false, _&&_}
 use mathlib.Core.List.{List, [], map}
-use lib.Dec.{eqb}
 use lib.ListN.{length, getD}
 use Rattle.octets.specs.Octets.{part}
 use Rattle.record.specs.declared.Fragment.{Fragment}
 use Rattle.record.specs.declared.Assembly.{Assembly}
 use Rattle.record.specs.declared.Client.{Client}
-use Rattle.record.specs.Limits.{fragmentLimit, assemblyLimit, shareSize}
-use Rattle.record.specs.Lists.{if, all, any}
-use Rattle.record.specs.Record.{freshAssembly, live, heldFragments, soundRecord}
+use Rattle.record.specs.Lists.{if, any}
+use Rattle.record.specs.Record.{isLast, freshAssembly, live, heldFragments, soundRecord}
 use Rattle.reassembly.specs.declared.Arrival.{Arrival}
 use Rattle.reassembly.specs.Advance.{Turn}
 use Rattle.reassembly.specs.Offer.{base, Outcome}
+unfoldable pub use Rattle.ledger.specs.Shapes.{slotted}
+pub use Rattle.ledger.specs.Shapes.{Shaped}
 use Rattle.ledger.specs.Book.{Key, Content, Entry, Book, held, sameKey, mine, openedAt, Result, Offer}
 
 unfoldable pub keyOf : Assembly → Key
@@ -34,8 +34,8 @@ unfoldable pub contentOf : List ℕ → ℕ → Fragment → Content
 contentOf share p f = record {
   place = f .offset;
   bytes = part (base p + f .offset) (f .length) share;
-  last = f .last;
-  start = if (f .last) (f .«option_start») 0;
+  last = isLast f;
+  start = if (isLast f) (f .«option_start») 0;
 }
 
 -- the live assembly a at place p is what the entries have of its key, in order, opened when the first came
@@ -47,16 +47,6 @@ pub record Shows (share : List ℕ) (es : List Entry) (p : ℕ) (a : Assembly) :
 pub record Agrees (share : List ℕ) (es : List Entry) (xs : List Assembly) : Type 0 where
   pub each : (p : ℕ) → p < length xs → live (at xs p) ≡ true → Shows share es p (at xs p)
   pub known : (k : Key) → any (owns k) xs ≡ false → mine k es ≡ []
-
--- an assembly has as many slots as the code's array
-unfoldable pub slotted : Assembly → Bool
-slotted a = eqb (length (a .fragments)) fragmentLimit
-
--- the lists are as long as the code's arrays, and the share is whole
-pub record Shaped (c : Client) (share : List ℕ) : Type 0 where
-  pub places : length (c .assemblies) ≡ assemblyLimit
-  pub slots : all slotted (c .assemblies) ≡ true
-  pub size : length share ≡ shareSize
 
 pub record Stands (c : Client) (share : List ℕ) (b : Book) : Type 0 where
   pub shape : Shaped c share

@@ -10,12 +10,10 @@ use lib.Dec.{ltb}
 use lib.ListN.{length, drop, length-drop}
 use lib.Seq.{drop-drop}
 use Rattle.varint.specs.SevenBit.{Taken, taken, untaken, number as frontNumber}
-use Rattle.varint.specs.Answer.{decodedAs, decodedAt}
-use Rattle.varint.specs.declared.Decoded.the-variants.{Number, Refused as Untaken}
+use Rattle.varint.specs.Answer.{found, unfound, decodedAs, decodedAt}
 use Rattle.varint.proofs.Laws as varint
-use Rattle.listing.specs.Encoding.{Read, got, failed, unreadable, belowLimit, readNumber}
-use Rattle.listing.specs.Answer.{fieldBefore, numberAt}
-use Rattle.listing.specs.declared.entry.Field.the-variants.{Value, Refused}
+use Rattle.listing.specs.Encoding.{given, refused, Read, got, failed, unreadable, belowLimit, readNumber}
+use Rattle.listing.specs.Answer.{located, fieldBefore, numberAt}
 use Rattle.listing.proofs.Numbers.{number-read}
 
 pub place-of : (s : List ℕ) (next : ℕ) → next ≤ length s → length s - length (drop next s) ≡ next
@@ -43,11 +41,11 @@ value-read limit s at value rest e =
       within = omega arith;
     }
 
-pub value-there : (limit : ℕ) (s : List ℕ) (at value next : ℕ) → numberAt limit s at ≡ Value value next → ValueAt limit s at value next
+pub value-there : (limit : ℕ) (s : List ℕ) (at value next : ℕ) → numberAt limit s at ≡ given (located value next) → ValueAt limit s at value next
 unfolding numberAt
 value-there limit s at value next e = go (readNumber limit (drop at s)) refl e
   where
-    go : (t : Read ℕ) → readNumber limit (drop at s) ≡ t → fieldBefore (length s) t ≡ Value value next → ValueAt limit s at value next
+    go : (t : Read ℕ) → readNumber limit (drop at s) ≡ t → fieldBefore (length s) t ≡ given (located value next) → ValueAt limit s at value next
     go (failed n) p q = absurd (let z : _≡_ {A = ℕ} 0 1 = cc in omega arith)
     go (got v rest) p q =
         let same : v ≡ value = cc in
@@ -66,18 +64,18 @@ failed-seven limit l n e = go (frontNumber l) e
     go untaken q = cc
     go (taken v w) q = within v w (ltb v limit) q
 
-pub none-there : (limit : ℕ) (s : List ℕ) (at : ℕ) → numberAt limit s at ≡ Refused → readNumber limit (drop at s) ≡ failed unreadable
+pub none-there : (limit : ℕ) (s : List ℕ) (at : ℕ) → numberAt limit s at ≡ refused unreadable → readNumber limit (drop at s) ≡ failed unreadable
 unfolding numberAt
 none-there limit s at e = go (readNumber limit (drop at s)) refl e
   where
-    go : (t : Read ℕ) → readNumber limit (drop at s) ≡ t → fieldBefore (length s) t ≡ Refused → readNumber limit (drop at s) ≡ failed unreadable
+    go : (t : Read ℕ) → readNumber limit (drop at s) ≡ t → fieldBefore (length s) t ≡ refused unreadable → readNumber limit (drop at s) ≡ failed unreadable
     go (failed n) p q = p ∙ ap failed (failed-seven limit (drop at s) n p)
     go (got v rest) p q = absurd (let z : _≡_ {A = ℕ} 0 1 = cc in omega arith)
 
 -- ---- what `varint::decode` answers
 
 module _ (limit : ℕ) (s : List ℕ) (at : ℕ) where
-  pub decoded-below : (value next : ℕ) → Number value next ≡ decodedAt s at → value < limit → Value value next ≡ numberAt limit s at
+  pub decoded-below : (value next : ℕ) → found value next ≡ decodedAt s at → value < limit → given (located value next) ≡ numberAt limit s at
   unfolding numberAt readNumber
   decoded-below value next e h =
       let d = varint.decoded-taken s at value next (sym e) in
@@ -85,18 +83,18 @@ module _ (limit : ℕ) (s : List ℕ) (at : ℕ) where
       let a = varint.decoded-ahead s at value next (sym e) in
       let end : length s - length (drop w (drop at s)) ≡ next =
       ap (λ (l : List ℕ). length s - length l) (drop-drop w at s) ∙ ap (λ (n : ℕ). length s - length (drop n s)) (sym (d .2)) ∙ place-of s next (a .1) in
-      sym (ap (λ (t : Taken). fieldBefore (length s) (belowLimit limit (drop at s) t)) (d .1) ∙ rw (lt-ltb value limit h) (ap (Value value) end))
+      sym (ap (λ (t : Taken). fieldBefore (length s) (belowLimit limit (drop at s) t)) (d .1) ∙ rw (lt-ltb value limit h) (ap (λ (n : ℕ). given (located value n)) end))
 
-  pub decoded-over : (value next : ℕ) → Number value next ≡ decodedAt s at → limit ≤ value → Refused ≡ numberAt limit s at
+  pub decoded-over : (value next : ℕ) → found value next ≡ decodedAt s at → limit ≤ value → refused unreadable ≡ numberAt limit s at
   unfolding numberAt readNumber
   decoded-over value next e h =
       let d = varint.decoded-taken s at value next (sym e) in
       sym (ap (λ (t : Taken). fieldBefore (length s) (belowLimit limit (drop at s) t)) (d .1) ∙ rw (le-ltb value limit h))
 
-  pub decoded-none : (at′ : ℕ) → Untaken at′ ≡ decodedAt s at → Refused ≡ numberAt limit s at
+  pub decoded-none : (at′ : ℕ) → unfound unreadable at′ ≡ decodedAt s at → refused unreadable ≡ numberAt limit s at
   unfolding numberAt readNumber decodedAt decodedAs
   decoded-none at′ e = go (frontNumber (drop at s)) e
     where
-      go : (t : Taken) → Untaken at′ ≡ decodedAs at t → Refused ≡ fieldBefore (length s) (belowLimit limit (drop at s) t)
+      go : (t : Taken) → unfound unreadable at′ ≡ decodedAs at t → refused unreadable ≡ fieldBefore (length s) (belowLimit limit (drop at s) t)
       go untaken q = refl
       go (taken v w) q = absurd (let z : _≡_ {A = ℕ} 0 1 = cc in omega arith)

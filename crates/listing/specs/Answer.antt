@@ -62,10 +62,19 @@ entryAnswer (Body kind start size next) = given (body kind start size next)
 entryAnswer Unreadable = refused unreadable
 entryAnswer Forbidden = refused forbidden
 
--- The number below a limit that stands at a position.
-abbrev pub fieldBefore : ℕ → Read ℕ → Field
-fieldBefore end (got value rest) = Value value (end - length rest)
-fieldBefore end (failed refusal) = Refused
+-- a number, and the position behind it
+pub data Located : Type 0 where
+  located : (value next : ℕ) → Located
 
-unfoldable pub numberAt : ℕ → List ℕ → ℕ → Field
+-- The numbers of document 01 for what `number_at` answers.
+abbrev pub fieldAnswer : Field → Answer Located
+fieldAnswer (Value value next) = given (located value next)
+fieldAnswer Refused = refused unreadable
+
+-- The number below a limit that stands at a position.
+abbrev pub fieldBefore : ℕ → Read ℕ → Answer Located
+fieldBefore end (got value rest) = given (located value (end - length rest))
+fieldBefore end (failed refusal) = refused refusal
+
+unfoldable pub numberAt : ℕ → List ℕ → ℕ → Answer Located
 numberAt limit s at = fieldBefore (length s) (readNumber limit (drop at s))

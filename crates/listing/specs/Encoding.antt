@@ -9,17 +9,9 @@ use lib.Dec.{ltb, leb}
 use lib.ListN.{length, take, drop}
 use Rattle.octets.specs.Octets.{Octets, number, octets}
 use Rattle.varint.specs.SevenBit.{Taken, taken, untaken, number as frontNumber, encoded}
+pub use Rattle.varint.specs.Answer.{Answer, given, refused, unreadable}
 use Rattle.options.specs.Walk.{Item, optionLimit}
 use Rattle.listing.specs.Shape.{Shape, fields, raw, barred, shapeOf}
-
--- A call gives what is asked, or refuses by a number of document 01.
-pub data Answer (A : Type 0) : Type 0 where
-  given : A → Answer A
-  refused : ℕ → Answer A
-
--- "7 docket unreadable, a field too wide or bytes left over"
-abbrev pub unreadable : ℕ
-unreadable = 7
 
 -- "9 kind 0, 1, 3 or 192 to 255 in a docket"
 abbrev pub forbidden : ℕ

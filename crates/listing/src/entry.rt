@@ -5,7 +5,7 @@ ghost use Prim.Native.Nat.{_≤_};
 ghost use lib.ListN.{length, drop};
 ghost use Rattle.listing.specs.Shape.{raw, shapeOf};
 ghost use Rattle.listing.specs.Encoding.{readKind};
-ghost use Rattle.listing.specs.Answer.{entryAnswer, entryAt, numberAt, spelledBefore, fieldsBefore, readOne, readBehind, readTwo};
+ghost use Rattle.listing.specs.Answer.{entryAnswer, entryAt, fieldAnswer, numberAt, spelledBefore, fieldsBefore, readOne, readBehind, readTwo};
 
 // What a list holds at a position: an option with its fields, 0 where it has fewer than two, or with the place of its raw body; and where the
 // next one stands. Or what can't be taken.
@@ -56,7 +56,7 @@ pub fn entry_at(list: &[u8], at: usize) -> Entry
 
 // The number below `limit` that stands at `at`.
 pub fn number_at(list: &[u8], at: usize, limit: u64) -> Field
-    ensures { λ r. ⌜ r ≡ numberAt limit (now (list .entry)) at ⌝ }
+    ensures { λ r. ⌜ fieldAnswer r ≡ numberAt limit (now (list .entry)) at ⌝ }
 {
     let decoded = varint::decode(list, at);
     match decoded {

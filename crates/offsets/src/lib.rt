@@ -6,9 +6,11 @@ ghost use Rattle.offsets.specs.Offsets.{placeOf};
 pub const UDP_HEADER: usize = 8;
 
 // A count of bytes from the UDP header of a packet.
+#[repr(C)]
 pub struct PacketOffset(pub usize);
 
 // A count of bytes from the first user byte of an original: document 01's place.
+#[repr(C)]
 pub struct OriginalOffset(pub usize);
 
 // What a field that counts from the original's UDP header names (RFC 9868 section 11.4).

@@ -63,17 +63,17 @@ pub fragment-within : (fields : Fields) (base behind size : ℕ) (f : Fragment) 
     → (base + behind ≤ f .start .0) × (f .start .0 ≤ base + size)
 unfolding fragmentOf
 fragment-within fields base behind size f =
-    go (leb (base + behind) (fields .start)) (leb (fields .start) (base + size)) (placeOf (fields .offset)) (placeOf (fields .«option_start»)) refl refl
+    go (leb (base + behind) (fields .start .0)) (leb (fields .start .0) (base + size)) (placeOf (fields .offset)) (placeOf (fields .«option_start»)) refl refl
   where
-    go : (s t : Bool) (o r : Origin) → leb (base + behind) (fields .start) ≡ s → leb (fields .start) (base + size) ≡ t
+    go : (s t : Bool) (o r : Origin) → leb (base + behind) (fields .start .0) ≡ s → leb (fields .start .0) (base + size) ≡ t
         → cond (s && t) (placedAt fields (base + size) o r) Refused ≡ Sound f → (base + behind ≤ f .start .0) × (f .start .0 ≤ base + size)
     go false t o r p q e = absurd (let z : _≡_ {A = ℕ} 0 1 = cc in omega arith)
     go true false o r p q e = absurd (let z : _≡_ {A = ℕ} 0 1 = cc in omega arith)
     go true true BeforeData r p q e = absurd (let z : _≡_ {A = ℕ} 0 1 = cc in omega arith)
     go true true (At o) BeforeData p q e = absurd (let z : _≡_ {A = ℕ} 0 1 = cc in omega arith)
     go true true (At o) (At r) p q e =
-        let same : fields .start ≡ f .start .0 = ap startOf e in
-        (omega (arith, leb-true (base + behind) (fields .start) p), omega (arith, leb-true (fields .start) (base + size) q))
+        let same : fields .start .0 ≡ f .start .0 = ap startOf e in
+        (omega (arith, leb-true (base + behind) (fields .start .0) p), omega (arith, leb-true (fields .start .0) (base + size) q))
 
 -- ---- a list whose walk gives options
 
@@ -146,7 +146,7 @@ endOf Refused = 0
 fragment-ends : (fields : Fields) (base behind size : ℕ) (f : Fragment) → fragmentOf fields base behind size ≡ Sound f → f .end .0 ≡ base + size
 unfolding fragmentOf
 fragment-ends fields base behind size f =
-    go (leb (base + behind) (fields .start) && leb (fields .start) (base + size)) (placeOf (fields .offset)) (placeOf (fields .«option_start»))
+    go (leb (base + behind) (fields .start .0) && leb (fields .start .0) (base + size)) (placeOf (fields .offset)) (placeOf (fields .«option_start»))
   where
     go : (t : Bool) (o r : Origin) → cond t (placedAt fields (base + size) o r) Refused ≡ Sound f → f .end .0 ≡ base + size
     go false o r e = absurd (let z : _≡_ {A = ℕ} 0 1 = cc in omega arith)

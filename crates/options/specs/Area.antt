@@ -31,7 +31,7 @@ nopsOf (b ∷ bs) = cond (eqb b nop) (1 + nopsOf bs) 0
 -- reassembled option start. Where the piece is not the last, that start stands at the origin.
 unfoldable pub fieldsOf : ℕ → List ℕ → Fields
 fieldsOf size l = record {
-  start = number (part 2 2 l);
+  start = record { 0 = number (part 2 2 l) };
   identification = number (part 4 4 l);
   offset = number (part 8 2 l);
   last = eqb size lastFragSize;
@@ -45,7 +45,7 @@ placedAt fields end (At place) BeforeData = Refused
 placedAt fields end (At place) (At r) = Sound (record {
   identification = fields .identification;
   place = place;
-  start = record { 0 = fields .start };
+  start = fields .start;
   end = record { 0 = end };
   last = fields .last;
   «option_start» = r;
@@ -55,7 +55,7 @@ placedAt fields end (At place) (At r) = Sound (record {
 -- nor past the payload, which ends with the list.
 unfoldable pub fragmentOf : Fields → ℕ → ℕ → ℕ → Placed
 fragmentOf fields base behind size =
-    cond (leb (base + behind) (fields .start) && leb (fields .start) (base + size))
+    cond (leb (base + behind) (fields .start .0) && leb (fields .start .0) (base + size))
     (placedAt fields (base + size) (placeOf (fields .offset)) (placeOf (fields .«option_start»)))
     Refused
 

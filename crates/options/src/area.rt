@@ -23,9 +23,10 @@ const FRAG: u8 = 3;
 // The whole length of FRAG in the last piece.
 const LAST_FRAG_SIZE: usize = 12;
 
-// FRAG's fields as they stand on the wire; the last two count from the original's UDP header.
+// FRAG's fields: where the piece starts in this packet, and the others as they stand on the wire. `offset` and `option_start` count from
+// the original's UDP header.
 pub struct Fields {
-    pub start: usize,
+    pub start: PacketOffset,
     pub identification: u32,
     pub offset: u16,
     pub last: bool,
@@ -112,9 +113,9 @@ fn led(list: &[u8], base: PacketOffset, nops: usize, empty: bool) -> Area
 // The fields of a FRAG of `size` bytes.
 fn fields_of(option: &[u8], size: usize) -> Fields
     requires { ⌜ (10 ≤ length (now option)) × (size ≤ length (now option)) ⌝ }
-    ensures { λ r. ⌜ (r ≡ fieldsOf size (now (option .entry))) × (r .start < 65536) ⌝ }
+    ensures { λ r. ⌜ (r ≡ fieldsOf size (now (option .entry))) × (r .start .0 < 65536) ⌝ }
 {
-    let start = octets::get_u16(option, 2) as usize;
+    let start = PacketOffset(octets::get_u16(option, 2) as usize);
     let identification = octets::get_u32(option, 4);
     let offset = octets::get_u16(option, 8);
     if size == LAST_FRAG_SIZE {
@@ -138,10 +139,10 @@ fn fields_of(option: &[u8], size: usize) -> Fields
 
 // The fragment that FRAG's fields describe, if they pass its tests. FRAG ends `behind` bytes into a list of `size` bytes.
 fn fragment_of(fields: Fields, base: PacketOffset, behind: usize, size: usize) -> Placed
-    requires { ⌜ (behind ≤ size) × (size < 9223372036854775808) × (fields .start < 65536) ⌝ }
+    requires { ⌜ (behind ≤ size) × (size < 9223372036854775808) × (fields .start .0 < 65536) ⌝ }
     ensures { λ r. ⌜ r ≡ fragmentOf fields (base .0) behind size ⌝ }
 {
-    let start = fields.start;
+    let start = fields.start.0;
     if start < base.0 {
         return Placed::Refused;
     }
@@ -166,10 +167,11 @@ fn at_places(fields: Fields, end: PacketOffset, place: Origin, option_start: Ori
     let Origin::At(option_start) = option_start else {
         return Placed::Refused;
     };
+    let start = fields.start;
     Placed::Sound(Fragment {
         identification: fields.identification,
         place,
-        start: PacketOffset(fields.start),
+        start,
         end,
         last: fields.last,
         option_start,
@@ -178,7 +180,7 @@ fn at_places(fields: Fields, end: PacketOffset, place: Origin, option_start: Ori
 
 // What is behind FRAG, which ends `behind` bytes into the list.
 fn behind_frag(list: &[u8], base: PacketOffset, behind: usize, empty: bool, fields: Fields) -> Area
-    requires { ⌜ (behind ≤ length (now list)) × (fields .start < 65536) ⌝ }
+    requires { ⌜ (behind ≤ length (now list)) × (fields .start .0 < 65536) ⌝ }
     ensures { λ r. ⌜ r ≡ toldArea (behindFrag empty (now (list .entry)) (base .0) behind (fragmentOf fields (base .0) behind (length (now (list .entry))))) ⌝ }
 {
     let origin = base.0;

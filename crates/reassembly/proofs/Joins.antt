@@ -13,7 +13,7 @@ use Rattle.record.specs.declared.Fragment.{Fragment}
 use Rattle.record.specs.declared.Assembly.{Assembly}
 use Rattle.record.specs.Limits.{datagramLimit}
 use Rattle.record.specs.Lists.{if, all}
-use Rattle.record.specs.Record.{freshFragment, end, fits, lastOf, heldFragments}
+use Rattle.record.specs.Record.{freshFragment, isLast, end, fits, lastOf, heldFragments}
 use Rattle.record.proofs.Lists.{all-append}
 use Rattle.record.proofs.Tests.{both-true}
 use Rattle.reassembly.specs.Offer.{added}
@@ -35,7 +35,7 @@ fits-within f t = leb-true _ _ t
 last-within : (fs : List Fragment) → all fits fs ≡ true → end (lastOf fs) ≤ datagramLimit
 unfolding lastOf all
 last-within [] e = none-within
-last-within (f ∷ fs) e = go (f .last) (last-within fs (both-true (fits f) (all fits fs) e .1)) (fits-within f (both-true (fits f) (all fits fs) e .0))
+last-within (f ∷ fs) e = go (isLast f) (last-within fs (both-true (fits f) (all fits fs) e .1)) (fits-within f (both-true (fits f) (all fits fs) e .0))
   where
     go : (b : Bool) → end (lastOf fs) ≤ datagramLimit → end f ≤ datagramLimit → end (if b f (lastOf fs)) ≤ datagramLimit
     go true h k = k

@@ -1,5 +1,4 @@
 pub mod Bytes
-pub mod Examples
 pub mod Expiry
 pub mod Fates
 pub mod Joins

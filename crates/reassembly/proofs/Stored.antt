@@ -17,6 +17,7 @@ use Rattle.record.specs.Lists.{if, sameBytes, all, pairs, sum}
 use Rattle.record.specs.Record.{
   freshFragment,
   freshAssembly,
+  isLast,
   end,
   nonEmpty,
   fits,
@@ -38,6 +39,7 @@ use Rattle.record.specs.Record.{
 }
 use Rattle.record.proofs.Lists.{all-append, all-not, all-left, pairs-append, sum-append}
 use Rattle.record.proofs.Tests.{both-true}
+use Rattle.record.proofs.Held.{marks-last}
 use Rattle.reassembly.specs.declared.Arrival.{Arrival}
 use Rattle.reassembly.specs.Offer.{fragmentOf, opening, isConflict, added}
 use Rattle.reassembly.specs.Post.{Sized}
@@ -50,7 +52,7 @@ pub fragment-sound : (o : Arrival) (n : ℕ) → Sized o n → (n ≡ 0 → ⊥)
 unfolding fragmentOf soundFragment nonEmpty fits end startsOptionsInside
 fragment-sound o n s some =
     ap₂ _&&_ (ap not (ne-eqb n 0 some))
-    (ap₂ _&&_ (le-leb (o .offset .0 + n) datagramLimit (s .ends)) (inside (o .last) (s .starts)))
+    (ap₂ _&&_ (le-leb (o .offset .0 + n) datagramLimit (s .ends)) (ap (λ (b : Bool). not b || leb (if (o .last) (o .«option_start» .0) 0) (o .offset .0 + n)) (marks-last (fragmentOf o n) (o .last) refl) ∙ inside (o .last) (s .starts)))
   where
     inside : (b : Bool) → b && ltb (o .offset .0 + n) (o .«option_start» .0) ≡ false
         → not b || leb (if b (o .«option_start» .0) 0) (o .offset .0 + n) ≡ true
@@ -103,7 +105,7 @@ added-parts t a f k free slots ok apart open-still =
 -- ---- an assembly that the fragment opens
 
 no-fragment : whole [] ≡ false
-unfolding whole lastOf freshFragment
+unfolding whole isLast lastOf freshFragment
 no-fragment = refl
 
 lifetime-positive : 0 < lifetime

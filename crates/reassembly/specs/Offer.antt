@@ -13,6 +13,8 @@ use Rattle.record.specs.Limits.{datagramLimit, fragmentLimit, offeredLimit}
 use Rattle.record.specs.Lists.{if, sameMark, sameBytes, all, any}
 use Rattle.record.specs.Record.{
   freshAssembly,
+  isLast,
+  markOf,
   end,
   conflicts,
   lastOf,
@@ -45,7 +47,7 @@ offerTests c m o n =
 
 -- the fragment as it is stored: r is 0 unless it is the last one
 unfoldable pub fragmentOf : Arrival → ℕ → Fragment
-fragmentOf o n = record { offset = o .offset .0; length = n; «option_start» = if (o .last) (o .«option_start» .0) 0; last = o .last }
+fragmentOf o n = record { offset = o .offset .0; length = n; «option_start» = if (o .last) (o .«option_start» .0) 0; last = markOf (o .last) }
 
 -- the live assembly of the offer's key
 unfoldable pub matches : Arrival → Assembly → Bool
@@ -85,7 +87,7 @@ unfoldable pub alike : Fragment → Fragment → Bool
 alike f g =
     eqb (f .offset) (g .offset)
     && (eqb (f .length) (g .length)
-    && (sameMark (f .last) (g .last) && (not (f .last) || eqb (f .«option_start») (g .«option_start»))))
+    && (sameMark (isLast f) (isLast g) && (not (isLast f) || eqb (f .«option_start») (g .«option_start»))))
 
 -- a held fragment is alike, and the bytes that are stored in its range are these
 unfoldable pub repeats : Assembly → Fragment → List ℕ → List ℕ → Bool

@@ -1,13 +1,12 @@
 -- What the reader's outcome tells the receiver: with a fragment its bytes lie in the payload and it is the one that `reading` finds; without one
 -- there is none. And what `receive` leaves in either case.
 -- Assumes nothing.
-use Prim.Native.Nat.{ℕ, _-_, _≤_}
-use mathlib.Core.Path.{_≡_, refl, sym, ap, ap₂, subst, _∙_}
+use Prim.Native.Nat.{ℕ, _≤_}
+use mathlib.Core.Path.{_≡_, refl, sym, ap, subst, _∙_}
 use mathlib.Core.List.{List}
 use mathlib.Core.Option.{Option, none, some}
 use native.Mathlib.Omega.{arith}
 use lib.ListN.{length}
-use Rattle.octets.specs.Octets.{part}
 use Rattle.offsets.specs.Offsets.{udpHeader}
 use Rattle.options.specs.declared.area.Fragment.{Fragment}
 use Rattle.datagram.specs.Reading.{reading, answerOf}
@@ -116,17 +115,14 @@ other-leaves k p out t o r a e q =
     (sym (not-received k p out t (met-other (p .payload) (p .source) (p .destination) o a e)))
     (record { answers = q ∙ ap fateOf a; records-left = refl; store-left = refl; out-left = refl })
 
-pub fragment-leaves : (k : ℕ) (p : Packet) (out : List ℕ) (t : Table) (f : Fragment) (arrival : Arrival) (start end : ℕ) (answer : Answer)
+pub fragment-leaves : (k : ℕ) (p : Packet) (out : List ℕ) (t : Table) (f : Fragment) (arrival : Arrival) (answer : Answer)
     (records : List Client) (store out′ : List ℕ) (r : Received)
-    → pieceIn (readingOf p) ≡ some f → arrival ≡ arrivalOf (p .payload) (p .source) (p .destination) (p .time) f → start ≡ f .start .0
-    → end ≡ f .end .0
-    → Table.Leaves (askOn k (offering arrival (part start (end - start) (p .payload)) out) t) answer records store out′ → r ≡ Offered answer
+    → pieceIn (readingOf p) ≡ some f → arrival ≡ arrivalOf (p .payload) (p .source) (p .destination) (p .time) f
+    → Table.Leaves (askOn k (offering arrival (bytesOf (p .payload) f) out) t) answer records store out′ → r ≡ Offered answer
     → Leaves (receiveOn k p out t) r records store out′
-fragment-leaves k p out t f arrival start end answer records store out′ r e ar st en l q =
-    let bytes : part start (end - start) (p .payload) ≡ bytesOf (p .payload) f =
-    ap₂ (λ (x y : ℕ). part x (y - x) (p .payload)) st en in
-    let same : askOn k (offering arrival (part start (end - start) (p .payload)) out) t ≡ askOn k (offerOf p f out) t =
-    ap₂ (λ (x : Arrival) (y : List ℕ). askOn k (offering x y out) t) ar bytes in
+fragment-leaves k p out t f arrival answer records store out′ r e ar l q =
+    let same : askOn k (offering arrival (bytesOf (p .payload) f) out) t ≡ askOn k (offerOf p f out) t =
+    ap (λ (x : Arrival). askOn k (offering x (bytesOf (p .payload) f) out) t) ar in
     let left : Table.Leaves (askOn k (offerOf p f out) t) answer records store out′ =
     subst (λ (x : After). Table.Leaves x answer records store out′) same l in
     subst (λ (x : Outcome′). Leaves x r records store out′) (sym (received k p out t f e))

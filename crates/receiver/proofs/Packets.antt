@@ -1,4 +1,5 @@
--- A list of datagrams does to the table what the list of its fragments does, so demand 3 holds of it: a datagram that is no fragment is no event.
+-- A list of datagrams and calls does to the table what the list of its fragments and calls does, so demand 3 holds of it: a datagram that is no
+-- fragment is no event.
 -- Assumes nothing.
 use Prim.Native.Nat.{ℕ, _<_}
 use mathlib.Core.Path.{_≡_, refl, sym, ap, ap₂, subst, _∙_}
@@ -18,12 +19,14 @@ use Rattle.datagram.specs.Reading as Reading
 use Rattle.datagram.specs.Reading.{Answer}
 use Rattle.ledger.specs.Book as Book
 use Rattle.ledger.specs.Book.{Content, size}
-use Rattle.ledger.specs.Whole.{Whole, Taken, assembled}
-use Rattle.ledger.specs.History.{advancing, accounting, Given}
+use Rattle.ledger.specs.Whole.{Whole, handed, Taken, assembled}
+use Rattle.ledger.specs.History.{Given}
 use Rattle.table.specs.Table.{Table, lentOf, shareOf, recordOf, askOn}
-use Rattle.table.specs.Events.{Lending, current, another, Event, resetting, asking, tableFor, next, final, givenBy, gives, owes, ownOnly}
+use Rattle.table.specs.Events.{Lending, current, another, Event, resetting, asking, tableFor, next, final, givenBy, gives, ownOnly}
+use Rattle.table.specs.Owed.{owes}
+use Rattle.table.specs.Apart.{Sums}
 use Rattle.table.specs.Demand3 as Table
-use Rattle.table.specs.Demand3.{Terms, Sums}
+use Rattle.table.specs.Demand3.{Terms}
 use Rattle.table.proofs.Demand3.{demand-3}
 use Rattle.receiver.specs.Receive.{
   pieceIn,
@@ -44,8 +47,7 @@ use Rattle.receiver.specs.Packets.{
   Call,
   setUp,
   arriving,
-  clocking,
-  billing,
+  calling,
   after,
   finally,
   toldOf,
@@ -76,8 +78,7 @@ after-is t (arriving (another u) k p out) = go (pieceIn (readingOf p))
     go : (o : Option Fragment) → t ≡ final t (offers (another u) k p out o)
     go none = refl
     go (some f) = refl
-after-is t (clocking g k time) = refl
-after-is t (billing g k) = refl
+after-is t (calling g k a) = refl
 
 final-append : (xs ys : List Event) (t : Table) → final t (xs ++ ys) ≡ final (final t xs) ys
 unfolding final
@@ -117,10 +118,7 @@ told-is k t (arriving g j p out) es = go (pieceIn (readingOf p))
         (ap (λ (l : List Given). if (eqb j k) l []) (reader-silent (readingOf p) out) ∙ if-none (eqb j k))
     go (some f) =
         if-front (eqb j k) (givenBy (askOn j (offerOf p f out) (tableFor g t))) (gives k (next t (asking g j (offerOf p f out))) es)
-told-is k t (clocking g j time) es =
-    if-front (eqb j k) (givenBy (askOn j (advancing time) (tableFor g t))) (gives k (next t (asking g j (advancing time))) es)
-told-is k t (billing g j) es =
-    if-front (eqb j k) (givenBy (askOn j accounting (tableFor g t))) (gives k (next t (asking g j accounting)) es)
+told-is k t (calling g j a) es = if-front (eqb j k) (givenBy (askOn j a (tableFor g t))) (gives k (next t (asking g j a)) es)
 
 tells-is : (k : ℕ) (cs : List Call) (t : Table) → tells k t cs ≡ gives k t (allEvents cs)
 unfolding tells allEvents gives
@@ -155,14 +153,9 @@ own-call k (arriving g j p out) cs = go (eqb j k) refl (pieceIn (readingOf p)) r
         ∙ ap (λ (o : Option Fragment). offers g j p out o ++ allEvents cs) (sym q)
     go false e none q = refl
     go false e (some f) q = ap (λ (x : Bool). if x (asking g j (offerOf p f out) ∷ []) [] ++ allEvents cs) e
-own-call k (clocking g j time) cs = go (eqb j k)
+own-call k (calling g j a) cs = go (eqb j k)
   where
-    go : (x : Bool) → if x (asking g j (advancing time) ∷ []) [] ++ allEvents cs ≡ allEvents (if x (clocking g j time ∷ cs) cs)
-    go true = refl
-    go false = refl
-own-call k (billing g j) cs = go (eqb j k)
-  where
-    go : (x : Bool) → if x (asking g j accounting ∷ []) [] ++ allEvents cs ≡ allEvents (if x (billing g j ∷ cs) cs)
+    go : (x : Bool) → if x (asking g j a ∷ []) [] ++ allEvents cs ≡ allEvents (if x (calling g j a ∷ cs) cs)
     go true = refl
     go false = refl
 
@@ -211,26 +204,27 @@ module _ (t : Table) (cs : List Call) (terms : Terms t (allEvents cs)) (k : ℕ)
 
     delivered-when : (n r : ℕ)
         → (receiveOn k p out (tableAfter t cs) .fate ≡ offered (delivered n r))
-        ↔ (Taken (lentOf (tableAfter t cs)) k (offerIn p f) out (bookFrom k t cs)
-        × Whole (assembled (offerIn p f) (bookFrom k t cs)) out n r (receiveOn k p out (tableAfter t cs) .out))
+        ↔ (Taken (lentOf (tableAfter t cs)) k (offerIn p f) (length out) (bookFrom k t cs) × Whole (assembled (offerIn p f) (bookFrom k t cs)) n r)
     delivered-when n r =
         let both =
         demand-3 .delivery t (allEvents cs) terms k (arrivalOf (p .payload) (p .source) (p .destination) (p .time) f) (bytesOf (p .payload) f) out n r in
         let there = both .0 in
         let back = both .1 in (
           λ d.
-              let w = there (reply-of (delivered n r) d) in (
-                subst (λ (u : Table). Taken (lentOf u) k (offerIn p f) out (bookFrom k t cs)) (sym (table-is t cs terms)) (w .0),
-                subst (Whole (assembled (offerIn p f) (bookFrom k t cs)) out n r) (sym out-is) (w .1),
-              ),
+              let w = there (reply-of (delivered n r) d) in
+              (subst (λ (u : Table). Taken (lentOf u) k (offerIn p f) (length out) (bookFrom k t cs)) (sym (table-is t cs terms)) (w .0), w .1),
           λ w.
               fate-is
               ∙ ap offered
-              (back (
-                subst (λ (u : Table). Taken (lentOf u) k (offerIn p f) out (bookFrom k t cs)) (table-is t cs terms) (w .0),
-                subst (Whole (assembled (offerIn p f) (bookFrom k t cs)) out n r) out-is (w .1),
-              )),
+              (back (subst (λ (u : Table). Taken (lentOf u) k (offerIn p f) (length out) (bookFrom k t cs)) (table-is t cs terms) (w .0), w .1)),
         )
+
+    bytes-delivered : (n r : ℕ) → receiveOn k p out (tableAfter t cs) .fate ≡ offered (delivered n r)
+        → receiveOn k p out (tableAfter t cs) .out ≡ handed (assembled (offerIn p f) (bookFrom k t cs)) n out
+    bytes-delivered n r d =
+        out-is
+        ∙ demand-3 .delivered-bytes t (allEvents cs) terms k (arrivalOf (p .payload) (p .source) (p .destination) (p .time) f)
+        (bytesOf (p .payload) f) out n r (reply-of (delivered n r) d)
 
     placed-each : (n r : ℕ) → receiveOn k p out (tableAfter t cs) .fate ≡ offered (delivered n r)
         → (before : List Content) (g : Content) (behind : List Content) → assembled (offerIn p f) (bookFrom k t cs) ≡ before ++ g ∷ behind
@@ -274,14 +268,16 @@ isolated t cs cs′ terms terms′ k same =
       ap (shareOf k) (table-is t cs terms) ∙ i .2 ∙ sym (ap (shareOf k) (table-is t cs′ terms′)),
     )
 
--- demand 3 for lists of datagrams as they arrive
+-- demand 3 for lists of datagrams as they arrive, mixed with the table's calls
 pub demand-3-over-payloads : OverPayloads
 demand-3-over-payloads = record {
   no-fragment = not-received;
+  events = table-is;
   answers = answers-told;
   accounts = figures-same;
   sum = sums;
   delivery = λ t cs terms k p out f n r e. delivered-when t cs terms k p out f e n r;
+  delivered-bytes = λ t cs terms k p out f n r e. bytes-delivered t cs terms k p out f e n r;
   placed = λ t cs terms k p out f n r e. placed-each t cs terms k p out f e n r;
   untouched = left-alone;
   isolation = isolated;

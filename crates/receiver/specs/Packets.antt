@@ -1,4 +1,5 @@
--- Demand 3 over demand 2's reading: lists of calls in which the fragments are those that `reading` finds in payloads as they arrive.
+-- Demand 3 over demand 2's reading: lists in which `receive` and the table's four calls may be mixed. The fragments are those that `reading` finds in
+-- payloads as they arrive, and those that a host offers itself.
 use Prim.Native.Nat.{ℕ, _<_}
 use mathlib.Core.Path.{_≡_}
 use mathlib.Core.List.{List, [], _∷_, _++_}
@@ -14,12 +15,14 @@ use Rattle.options.specs.declared.area.Fragment.{Fragment}
 use Rattle.ledger.specs.Book as Book
 use Rattle.ledger.specs.Book.{Book, Content, size, Offer}
 use Rattle.ledger.specs.Stands as Stands
-use Rattle.ledger.specs.Whole.{Whole, Taken, assembled}
-use Rattle.ledger.specs.History.{Ask, advancing, accounting, Given}
+use Rattle.ledger.specs.Whole.{Whole, handed, Taken, assembled}
+use Rattle.ledger.specs.History.{Ask, Given}
 use Rattle.table.specs.Table.{Table, lentOf, shareOf, recordOf, resetOn, askOn}
-use Rattle.table.specs.Events.{Lending, current, another, Event, resetting, asking, tableFor, next, givenBy, owes}
+use Rattle.table.specs.Events.{Lending, current, another, Event, resetting, asking, tableFor, next, givenBy}
+use Rattle.table.specs.Owed.{owes}
+use Rattle.table.specs.Apart.{Sums}
 use Rattle.table.specs.Demand3 as Table
-use Rattle.table.specs.Demand3.{Terms, bookAfter, Sums}
+use Rattle.table.specs.Demand3.{Terms, bookAfter}
 use Rattle.receiver.specs.Receive.{
   pieceIn,
   arrivalOf,
@@ -36,12 +39,11 @@ use Rattle.receiver.specs.Receive.{
   receiveOn,
 }
 
--- a set-up, a datagram that arrives for a client, with an out buffer, a client's clock, its account
+-- a set-up, a datagram that arrives for a client, with an out buffer, or a fragment, clock or account call of a client
 pub data Call : Type 0 where
   setUp : Lending → Call
   arriving : Lending → ℕ → Packet → List ℕ → Call
-  clocking : Lending → ℕ → ℕ → Call
-  billing : Lending → ℕ → Call
+  calling : Lending → ℕ → Ask → Call
 
 -- ---- what the calls do
 
@@ -50,8 +52,7 @@ abbrev pub after : Table → Call → Table
 after t (setUp g) = next t (resetting g)
 after t (arriving current k p out) = receiveOn k p out t .table
 after t (arriving (another u) k p out) = t
-after t (clocking g k time) = next t (asking g k (advancing time))
-after t (billing g k) = next t (asking g k accounting)
+after t (calling g k a) = next t (asking g k a)
 
 unfoldable pub finally : Table → List Call → Table
 finally t [] = t
@@ -70,8 +71,7 @@ toldBy o = toldOf (o .fate) (o .out)
 abbrev pub told : ℕ → Table → Call → List Given
 told k t (setUp g) = givenBy (resetOn (tableFor g t)) ∷ []
 told k t (arriving g j p out) = if (eqb j k) (toldBy (receiveOn j p out (tableFor g t))) []
-told k t (clocking g j time) = if (eqb j k) (givenBy (askOn j (advancing time) (tableFor g t)) ∷ []) []
-told k t (billing g j) = if (eqb j k) (givenBy (askOn j accounting (tableFor g t)) ∷ []) []
+told k t (calling g j a) = if (eqb j k) (givenBy (askOn j a (tableFor g t)) ∷ []) []
 
 unfoldable pub tells : ℕ → Table → List Call → List Given
 tells k t [] = []
@@ -87,8 +87,7 @@ offers g k p out (some f) = asking g k (offerOf p f out) ∷ []
 abbrev pub eventsOf : Call → List Event
 eventsOf (setUp g) = resetting g ∷ []
 eventsOf (arriving g k p out) = offers g k p out (pieceIn (readingOf p))
-eventsOf (clocking g k time) = asking g k (advancing time) ∷ []
-eventsOf (billing g k) = asking g k accounting ∷ []
+eventsOf (calling g k a) = asking g k a ∷ []
 
 unfoldable pub allEvents : List Call → List Event
 allEvents [] = []
@@ -98,8 +97,7 @@ allEvents (c ∷ cs) = eventsOf c ++ allEvents cs
 abbrev pub ownIf : ℕ → Call → List Call → List Call
 ownIf k (setUp g) cs = setUp g ∷ cs
 ownIf k (arriving g j p out) cs = if (eqb j k) (arriving g j p out ∷ cs) cs
-ownIf k (clocking g j time) cs = if (eqb j k) (clocking g j time ∷ cs) cs
-ownIf k (billing g j) cs = if (eqb j k) (billing g j ∷ cs) cs
+ownIf k (calling g j a) cs = if (eqb j k) (calling g j a ∷ cs) cs
 
 unfoldable pub ownCalls : ℕ → List Call → List Call
 ownCalls k [] = []
@@ -113,7 +111,7 @@ opening cs = setUp current ∷ cs
 abbrev pub tableAfter : Table → List Call → Table
 tableAfter t cs = finally t (opening cs)
 
--- client k's plain book after the list: its history has the fragments that were read
+-- client k's plain book after the list: its history has the fragments that were read, and its other calls
 abbrev pub bookFrom : ℕ → Table → List Call → Book
 bookFrom k t cs = bookAfter k t (allEvents cs)
 
@@ -125,17 +123,23 @@ pub record OverPayloads : Type 0 where
   -- a datagram that is no fragment leaves every record, the store and out as they were
   pub no-fragment : (k : ℕ) (p : Packet) (out : List ℕ) (t : Table) → pieceIn (readingOf p) ≡ none
       → receiveOn k p out t ≡ record { table = t; out = out; fate = fateOf (readingOf p) }
+  -- the table after a mixed list is the one that its fragments and its other calls leave: so what demand 3 says of any call that follows holds here
+  pub events : (t : Table) (cs : List Call) → Terms t (allEvents cs) → tableAfter t cs ≡ Table.tableAfter t (allEvents cs)
   pub answers : (t : Table) (cs : List Call) → Terms t (allEvents cs) → (k : ℕ)
       → tells k t (opening cs) ≡ owes k (lentOf t) [] (Table.opening (allEvents cs))
   pub accounts : (t : Table) (cs : List Call) → Terms t (allEvents cs) → (k : ℕ) → k < length (tableAfter t cs .records)
       → figures (recordOf k (tableAfter t cs)) ≡ Book.figures (bookFrom k t cs)
   pub sum : (t : Table) (cs : List Call) → Terms t (allEvents cs) → (k : ℕ) → k < length (tableAfter t cs .records)
       → Sums (recordOf k (tableAfter t cs))
+  -- of a datagram that follows: its fragment is delivered exactly when it is taken and whole
   pub delivery : (t : Table) (cs : List Call) → Terms t (allEvents cs) → (k : ℕ) (p : Packet) (out : List ℕ) (f : Fragment) (n r : ℕ)
       → pieceIn (readingOf p) ≡ some f
       → (receiveOn k p out (tableAfter t cs) .fate ≡ offered (delivered n r))
-      ↔ (Taken (lentOf (tableAfter t cs)) k (offerIn p f) out (bookFrom k t cs)
-      × Whole (assembled (offerIn p f) (bookFrom k t cs)) out n r (receiveOn k p out (tableAfter t cs) .out))
+      ↔ (Taken (lentOf (tableAfter t cs)) k (offerIn p f) (length out) (bookFrom k t cs) × Whole (assembled (offerIn p f) (bookFrom k t cs)) n r)
+  -- then the bytes of out before n are the original's, and the rest of out is as it was
+  pub delivered-bytes : (t : Table) (cs : List Call) → Terms t (allEvents cs) → (k : ℕ) (p : Packet) (out : List ℕ) (f : Fragment) (n r : ℕ)
+      → pieceIn (readingOf p) ≡ some f → receiveOn k p out (tableAfter t cs) .fate ≡ offered (delivered n r)
+      → receiveOn k p out (tableAfter t cs) .out ≡ handed (assembled (offerIn p f) (bookFrom k t cs)) n out
   pub placed : (t : Table) (cs : List Call) → Terms t (allEvents cs) → (k : ℕ) (p : Packet) (out : List ℕ) (f : Fragment) (n r : ℕ)
       → pieceIn (readingOf p) ≡ some f → receiveOn k p out (tableAfter t cs) .fate ≡ offered (delivered n r)
       → (before : List Content) (g : Content) (behind : List Content)

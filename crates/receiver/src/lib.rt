@@ -101,18 +101,6 @@ fn arrival_of(
     }
 }
 
-fn start_of(fragment: area::Fragment) -> usize
-    ensures { λ r. ⌜ r ≡ fragment .start .0 ⌝ }
-{
-    fragment.start.0
-}
-
-fn end_of(fragment: area::Fragment) -> usize
-    ensures { λ r. ⌜ r ≡ fragment .end .0 ⌝ }
-{
-    fragment.end.0
-}
-
 fn offered(answer: Answer) -> Received
     ensures { λ r. ⌜ r ≡ Received.Fragment answer ⌝ }
 {
@@ -139,8 +127,8 @@ pub fn receive(
         Found::Other => other(outcome),
         Found::Fragment(fragment) => {
             let arrival = arrival_of(payload, source, destination, time, fragment);
-            let start = start_of(fragment);
-            let end = end_of(fragment);
+            let start = fragment.start.0;
+            let end = fragment.end.0;
             let answer = table::offer(records, store, k, arrival, &payload[start..end], out);
             offered(answer)
         }

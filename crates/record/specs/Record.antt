@@ -14,7 +14,7 @@ use Rattle.record.specs.Lists.{if, sameBytes, all, any, pairs, sum}
 -- ---- a fresh record: last time 0, no assembly, all figures 0
 
 unfoldable pub freshFragment : Fragment
-freshFragment = record { offset = 0; length = 0; «option_start» = 0; last = false }
+freshFragment = record { offset = 0; length = 0; «option_start» = 0; last = 0 }
 
 unfoldable pub freshFlow : Flow
 freshFlow = record { source = replicate addressSize 0; destination = replicate addressSize 0; «source_port» = 0; «destination_port» = 0 }
@@ -37,6 +37,15 @@ freshClient = record {
 
 -- ---- one fragment, and two
 
+-- the last mark: 0 is not last, any other number is
+unfoldable pub isLast : Fragment → Bool
+isLast f = not (eqb (f .last) 0)
+
+-- the mark of a fragment that is stored
+abbrev pub markOf : Bool → ℕ
+markOf true = 1
+markOf false = 0
+
 -- the first place behind it
 unfoldable pub end : Fragment → ℕ
 end f = f .offset + f .length
@@ -55,11 +64,11 @@ unfoldable pub overlaps : Fragment → Fragment → Bool
 overlaps f g = ltb (f .offset) (end g) && ltb (g .offset) (end f)
 
 unfoldable pub bothLast : Fragment → Fragment → Bool
-bothLast f g = f .last && g .last
+bothLast f g = isLast f && isLast g
 
 -- f ends past the end that g, the last one, makes known
 unfoldable pub outruns : Fragment → Fragment → Bool
-outruns f g = g .last && ltb (end g) (end f)
+outruns f g = isLast g && ltb (end g) (end f)
 
 -- a fragment and a held one contradict each other: they overlap, both are last, or one ends past the end that the other makes known
 unfoldable pub conflicts : Fragment → Fragment → Bool
@@ -67,14 +76,14 @@ conflicts f g = overlaps f g || (bothLast f g || (outruns f g || outruns g f))
 
 -- r is not over the end; of a fragment that is not last, r is ignored
 unfoldable pub startsOptionsInside : Fragment → Bool
-startsOptionsInside f = not (f .last) || leb (f .«option_start») (end f)
+startsOptionsInside f = not (isLast f) || leb (f .«option_start») (end f)
 
 -- what the record test asks of a held fragment by itself
 unfoldable pub soundFragment : Fragment → Bool
 soundFragment f = nonEmpty f && (fits f && startsOptionsInside f)
 
 unfoldable pub isFreshFragment : Fragment → Bool
-isFreshFragment f = eqb (f .offset) 0 && (eqb (f .length) 0 && (eqb (f .«option_start») 0 && not (f .last)))
+isFreshFragment f = eqb (f .offset) 0 && (eqb (f .length) 0 && (eqb (f .«option_start») 0 && eqb (f .last) 0))
 
 -- ---- the fragments of one assembly
 
@@ -90,11 +99,11 @@ coveredTo (suc n) fs = coveredTo n fs && any (covers n) fs
 -- the fragment that is marked last; a fresh one, which is not, if there is none
 unfoldable pub lastOf : List Fragment → Fragment
 lastOf [] = freshFragment
-lastOf (f ∷ fs) = if (f .last) f (lastOf fs)
+lastOf (f ∷ fs) = if (isLast f) f (lastOf fs)
 
 -- the last one is held, and with it 0 to T, its end, is covered
 unfoldable pub whole : List Fragment → Bool
-whole fs = lastOf fs .last && coveredTo (end (lastOf fs)) fs
+whole fs = isLast (lastOf fs) && coveredTo (end (lastOf fs)) fs
 
 -- ---- one assembly
 

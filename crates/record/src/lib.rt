@@ -1,16 +1,12 @@
-// The record of one client: its figures and its assemblies, each with the fragments that it holds; a fresh record, and the record
-// test of document 01 (refusal 22).
+// The record of one client: its figures and its assemblies, each with the fragments that it holds; a fresh record, what two fragments
+// are to each other, and when an assembly is whole. The record test stands in `record_test`.
 ghost use mathlib.Core.Path.{_≡_};
 ghost use mathlib.Core.Bool.{_&&_, _||_};
-ghost use Prim.Native.Nat.{_+_, _≤_};
-ghost use lib.ListN.{length, take};
-ghost use Rattle.record.specs.Limits.{assemblyLimit};
-ghost use Rattle.record.specs.Lists.{sameMark, sameBytes, all, any, sum};
+ghost use lib.ListN.{take};
+ghost use Rattle.record.specs.Lists.{sameMark, sameBytes, any};
 ghost use Rattle.record.specs.Post.{HeldCount, HeldFront, beyond};
-ghost use Rattle.record.specs.Record.{freshFragment, freshFlow, freshAssembly, freshClient, end, covers, conflicts};
-ghost use Rattle.record.specs.Record.{soundFragment, isFreshFragment, outruns, overlaps, compatible, coveredTo, lastOf, whole};
-ghost use Rattle.record.specs.Record.{live, heldFragments, spareSlots, bytesHeld, sameFlow, hasKey, isFreshAssembly, openedWithin, soundLive};
-ghost use Rattle.record.specs.Record.{soundAssembly, sameLiveKey, keysDiffer, sumsTo, balanced, soundRecord};
+ghost use Rattle.record.specs.Record.{freshFragment, freshFlow, freshAssembly, freshClient, isLast, end, covers, conflicts};
+ghost use Rattle.record.specs.Record.{outruns, overlaps, coveredTo, lastOf, whole, live, heldFragments, bytesHeld, sameFlow, hasKey};
 
 // The bytes of an original that an assembly holds at most.
 pub const DATAGRAM_LIMIT: usize = 4096;
@@ -45,13 +41,14 @@ pub struct Flow {
     pub destination_port: u16,
 }
 
-// A held fragment (document 01's piece): where it stands in the original, and the option start if it is the last one.
+// A held fragment (document 01's piece): where it stands in the original, whether it is the last one, and then the option start.
+// `last` is 0, or any other number for the last one, so that every bit pattern is a fragment.
 #[repr(C)]
 pub struct Fragment {
     pub offset: u16,
     pub length: u16,
     pub option_start: u16,
-    pub last: bool,
+    pub last: u16,
 }
 
 // The fragments of one key. It is live while it holds any: with `count` 0 every other field is as in a fresh record.
@@ -60,7 +57,7 @@ pub struct Assembly {
     pub flow: Flow,
     pub identification: u32,
     pub opened: u64,
-    pub count: u8,
+    pub count: u64,
     pub fragments: [Fragment; FRAGMENT_LIMIT],
 }
 
@@ -87,11 +84,11 @@ pub fn fresh_fragment() -> Fragment
         offset: 0,
         length: 0,
         option_start: 0,
-        last: false,
+        last: 0,
     }
 }
 
-fn fresh_flow() -> Flow
+pub fn fresh_flow() -> Flow
     ensures { λ r. ⌜ r ≡ freshFlow ⌝ }
 {
     let zero = [0; ADDRESS];
@@ -160,6 +157,13 @@ pub fn same_mark(a: bool, b: bool) -> bool
 
 // ---- one fragment, and two
 
+// It is the last one of its original.
+pub fn is_last(f: Fragment) -> bool
+    ensures { λ r. ⌜ r ≡ isLast f ⌝ }
+{
+    f.last != 0
+}
+
 // The first place behind it.
 pub fn end_of(f: Fragment) -> usize
     ensures { λ r. ⌜ r ≡ end f ⌝ }
@@ -176,30 +180,11 @@ pub fn covers(f: Fragment, i: usize) -> bool
     both(start <= i, i < past)
 }
 
-fn fresh_slot(f: Fragment) -> bool
-    ensures { λ r. ⌜ r ≡ isFreshFragment f ⌝ }
-{
-    both(
-        f.offset == 0,
-        both(f.length == 0, both(f.option_start == 0, !f.last)),
-    )
-}
-
-// What the record test asks of a held fragment by itself. The option start of one that is not last is ignored.
-fn fragment_sound(f: Fragment) -> bool
-    ensures { λ r. ⌜ r ≡ soundFragment f ⌝ }
-{
-    let past = end_of(f);
-    let options = f.option_start as usize;
-    let inside = either(!f.last, options <= past);
-    both(f.length != 0, both(past <= DATAGRAM_LIMIT, inside))
-}
-
 // `f` ends past the end that `g`, the last one, makes known.
 fn outruns(f: Fragment, g: Fragment) -> bool
     ensures { λ r. ⌜ r ≡ outruns f g ⌝ }
 {
-    both(g.last, end_of(g) < end_of(f))
+    both(is_last(g), end_of(g) < end_of(f))
 }
 
 fn overlaps(f: Fragment, g: Fragment) -> bool
@@ -214,7 +199,7 @@ fn overlaps(f: Fragment, g: Fragment) -> bool
 pub fn conflicts(f: Fragment, g: Fragment) -> bool
     ensures { λ r. ⌜ r ≡ conflicts f g ⌝ }
 {
-    let lasts = both(f.last, g.last);
+    let lasts = both(is_last(f), is_last(g));
     either(
         overlaps(f, g),
         either(lasts, either(outruns(f, g), outruns(g, f))),
@@ -235,22 +220,8 @@ pub fn held_count(a: Assembly) -> usize
     }
 }
 
-fn fragments_sound(a: Assembly) -> bool
-    ensures { λ r. ⌜ r ≡ all soundFragment (heldFragments a) ⌝ }
-{
-    let n = held_count(a);
-    let mut ok = true;
-    let mut i = 0;
-    while i < n {
-        let f = a.fragments[i];
-        ok = both(ok, fragment_sound(f));
-        i += 1;
-    }
-    ok
-}
-
 // One of the first `n` fragments conflicts with `f`.
-fn conflicts_among(a: Assembly, n: usize, f: Fragment) -> bool
+pub fn conflicts_among(a: Assembly, n: usize, f: Fragment) -> bool
     requires { ⌜ HeldFront a n ⌝ }
     ensures { λ r. ⌜ r ≡ any (λ g. conflicts g f) (take n (heldFragments a)) ⌝ }
 {
@@ -269,21 +240,6 @@ pub fn conflicts_any(a: Assembly, f: Fragment) -> bool
     ensures { λ r. ⌜ r ≡ any (λ g. conflicts g f) (heldFragments a) ⌝ }
 {
     conflicts_among(a, held_count(a), f)
-}
-
-// No fragment conflicts with an earlier one.
-fn fragments_compatible(a: Assembly) -> bool
-    ensures { λ r. ⌜ r ≡ compatible (heldFragments a) ⌝ }
-{
-    let n = held_count(a);
-    let mut ok = true;
-    let mut i = 0;
-    while i < n {
-        let f = a.fragments[i];
-        ok = both(ok, !conflicts_among(a, i, f));
-        i += 1;
-    }
-    ok
 }
 
 // The place behind the first fragment that holds the place `at`; `at` itself if none does.
@@ -325,7 +281,7 @@ pub fn last_of(a: Assembly) -> Fragment
     let mut i = 0;
     while i < n {
         let f = a.fragments[i];
-        if f.last {
+        if is_last(f) {
             return f;
         }
         i += 1;
@@ -339,21 +295,7 @@ pub fn whole(a: Assembly) -> bool
 {
     let last = last_of(a);
     let past = end_of(last);
-    both(last.last, covered_to(a, past))
-}
-
-// The slots behind the held fragments are as in a fresh record.
-fn spare_fresh(a: Assembly) -> bool
-    ensures { λ r. ⌜ r ≡ all isFreshFragment (spareSlots a) ⌝ }
-{
-    let mut ok = true;
-    let mut i = held_count(a);
-    while i < FRAGMENT_LIMIT {
-        let f = a.fragments[i];
-        ok = both(ok, fresh_slot(f));
-        i += 1;
-    }
-    ok
+    both(is_last(last), covered_to(a, past))
 }
 
 fn length_of(f: Fragment) -> u16
@@ -392,7 +334,7 @@ fn same_address(a: [u8; ADDRESS], b: [u8; ADDRESS]) -> bool
     ok
 }
 
-fn same_flow(x: Flow, y: Flow) -> bool
+pub fn same_flow(x: Flow, y: Flow) -> bool
     ensures { λ r. ⌜ r ≡ sameFlow x y ⌝ }
 {
     let source = x.source;
@@ -423,181 +365,4 @@ pub fn live(a: Assembly) -> bool
     ensures { λ r. ⌜ r ≡ live a ⌝ }
 {
     a.count != 0
-}
-
-// It is as in a fresh record.
-fn unused(a: Assembly) -> bool
-    ensures { λ r. ⌜ r ≡ isFreshAssembly a ⌝ }
-{
-    if live(a) {
-        return false;
-    }
-    let flows = same_flow(a.flow, fresh_flow());
-    both(
-        flows,
-        both(a.identification == 0, both(a.opened == 0, spare_fresh(a))),
-    )
-}
-
-// Opened at or before `time`, and less than the lifetime before it.
-fn opened_within(a: Assembly, time: u64) -> bool
-    ensures { λ r. ⌜ r ≡ openedWithin time a ⌝ }
-{
-    let opened = a.opened;
-    if time < opened {
-        return false;
-    }
-    time - opened < LIFETIME
-}
-
-// What the record test asks of a live assembly.
-fn live_sound(a: Assembly, time: u64) -> bool
-    ensures { λ r. ⌜ r ≡ soundLive time a ⌝ }
-{
-    let count = a.count as usize;
-    if FRAGMENT_LIMIT < count {
-        return false;
-    }
-    let fragments = both(fragments_sound(a), fragments_compatible(a));
-    if fragments {
-        return both(!whole(a), both(opened_within(a, time), spare_fresh(a)));
-    }
-    false
-}
-
-fn assembly_sound(a: Assembly, time: u64) -> bool
-    ensures { λ r. ⌜ r ≡ soundAssembly time a ⌝ }
-{
-    if live(a) {
-        live_sound(a, time)
-    } else {
-        unused(a)
-    }
-}
-
-// ---- the record
-
-fn assemblies_sound(c: Client) -> bool
-    ensures { λ r. ⌜ r ≡ all (soundAssembly (c .time)) (c .assemblies) ⌝ }
-{
-    let time = c.time;
-    let mut ok = true;
-    let mut i = 0;
-    while i < ASSEMBLY_LIMIT {
-        let a = c.assemblies[i];
-        ok = both(ok, assembly_sound(a, time));
-        i += 1;
-    }
-    ok
-}
-
-// Both are live and have one key.
-fn same_live_key(a: Assembly, b: Assembly) -> bool
-    ensures { λ r. ⌜ r ≡ sameLiveKey a b ⌝ }
-{
-    let flow = a.flow;
-    let keys = has_key(b, flow, a.identification);
-    both(live(a), both(live(b), keys))
-}
-
-// One of the first `n` assemblies has the key of `a`.
-fn key_among(c: Client, n: usize, a: Assembly) -> bool
-    requires { ⌜ n ≤ assemblyLimit ⌝ }
-    ensures { λ r. ⌜ r ≡ any (λ b. sameLiveKey b a) (take n (c .assemblies)) ⌝ }
-{
-    let mut found = false;
-    let mut i = 0;
-    while i < n {
-        let b = c.assemblies[i];
-        found = either(found, same_live_key(b, a));
-        i += 1;
-    }
-    found
-}
-
-fn keys_differ(c: Client) -> bool
-    ensures { λ r. ⌜ r ≡ keysDiffer (c .assemblies) ⌝ }
-{
-    let mut ok = true;
-    let mut i = 0;
-    while i < ASSEMBLY_LIMIT {
-        let a = c.assemblies[i];
-        ok = both(ok, !key_among(c, i, a));
-        i += 1;
-    }
-    ok
-}
-
-// The bytes of the live fragments.
-fn total_held(c: Client) -> u64
-    ensures { λ r. ⌜ r ≡ sum bytesHeld (c .assemblies) ⌝ }
-{
-    let mut total = 0u64;
-    let mut i = 0;
-    while i < ASSEMBLY_LIMIT {
-        let a = c.assemblies[i];
-        let bytes = bytes_held(a);
-        total += bytes as u64;
-        i += 1;
-    }
-    total
-}
-
-// The six figures sum to `offered`, at most the limit: with a figure over the limit they cannot.
-fn figures_sum(
-    offered: u64,
-    held: u64,
-    delivered: u64,
-    expired: u64,
-    conflicted: u64,
-    repeated: u64,
-    rejected: u64,
-) -> bool
-    ensures { λ r. ⌜ r ≡ sumsTo offered (held + delivered + expired + conflicted + repeated + rejected) ⌝ }
-{
-    if OFFERED_LIMIT < offered {
-        return false;
-    }
-    if OFFERED_LIMIT < held {
-        return false;
-    }
-    if OFFERED_LIMIT < delivered {
-        return false;
-    }
-    if OFFERED_LIMIT < expired {
-        return false;
-    }
-    if OFFERED_LIMIT < conflicted {
-        return false;
-    }
-    if OFFERED_LIMIT < repeated {
-        return false;
-    }
-    if OFFERED_LIMIT < rejected {
-        return false;
-    }
-    held + delivered + expired + conflicted + repeated + rejected == offered
-}
-
-fn balanced(c: Client) -> bool
-    ensures { λ r. ⌜ r ≡ balanced c ⌝ }
-{
-    figures_sum(
-        c.offered,
-        c.held,
-        c.delivered,
-        c.expired,
-        c.conflicted,
-        c.repeated,
-        c.rejected,
-    )
-}
-
-// The record test of document 01 (refusal 22).
-pub fn sound(c: Client) -> bool
-    ensures { λ r. ⌜ r ≡ soundRecord c ⌝ }
-{
-    let held = total_held(c);
-    let figures = both(c.held == held, balanced(c));
-    both(assemblies_sound(c), both(keys_differ(c), figures))
 }

@@ -1,15 +1,24 @@
 -- A value of include/wuraketozo.h tells the whole answer: whatever the crates below answer, the papers' answer can be read back from the value,
--- so no two of them have one. Each reading back is by the value's numbers, and each case computes. Assumes nothing.
-use Prim.Native.Nat.{ℕ}
+-- so no two of them have one. Each reading back is by the value's numbers, and each case computes. Of a rereading it is said of what `rereading`
+-- answers, which is never a fragment. Assumes nothing.
+use Prim.Native.Nat.{ℕ, _+_}
 use mathlib.Core.Path.{_≡_, refl, ap, _∙_}
 use mathlib.Core.Bool.{Bool, true, false, cond}
-use mathlib.Core.List.{[], _∷_}
-use lib.Dec.{eqb}
+use mathlib.Core.List.{List, [], _∷_}
+use lib.Dec.{eqb, ltb}
+use lib.ListN.{length, take, drop}
+use Rattle.offsets.specs.Offsets.{udpHeader}
+use Rattle.options.specs.Walk.{Walked, listed, faulty, walkFrom, optionLimit}
+use Rattle.options.specs.declared.walk.Fault.{Fault}
+use Rattle.options.specs.declared.walk.Fault.the-variants as Met
 use Rattle.options.specs.declared.area.Fragment.{Fragment}
 use Rattle.datagram.specs.Reading as Read
-use Rattle.datagram.specs.Reading.{extent, answerOf}
+use Rattle.datagram.specs.Reading.{answerOf}
 use Rattle.datagram.specs.Rereading as Reread
-use Rattle.datagram.specs.Rereading.{places, reAnswerOf}
+use Rattle.datagram.specs.Surplus.{startOf}
+use Rattle.datagram.specs.Verdict.{verdictSays, apcSays}
+use Rattle.datagram.specs.declared.surplus.Start.{Start}
+use Rattle.datagram.specs.declared.surplus.Start.the-variants as Begun
 use Rattle.datagram.specs.declared.reading.Apc.{Apc}
 use Rattle.datagram.specs.declared.reading.Apc.the-variants.{Absent, Right, Wrong}
 use Rattle.datagram.specs.declared.reading.Verdict.{Verdict}
@@ -30,10 +39,13 @@ use Rattle.datagram.specs.declared.reading.Refusal.the-variants.{PayloadTooShor
 use Rattle.datagram.specs.declared.reading.Reading.{Reading as Whole}
 use Rattle.datagram.specs.declared.reading.Outcome.{Outcome}
 use Rattle.datagram.specs.declared.reading.Outcome.the-variants.{Refused as Unread, Accepted}
-use Rattle.datagram.specs.declared.rereading.RereadRefusal.the-variants.{OriginalTooLong, OptionStartPastEnd, UnsafeOption}
-use Rattle.datagram.specs.declared.rereading.Rereading.{Rereading as Rewhole}
-use Rattle.datagram.specs.declared.rereading.RereadOutcome.{RereadOutcome}
-use Rattle.datagram.specs.declared.rereading.RereadOutcome.the-variants.{Refused as Unreread, Accepted as Reaccepted}
+use Rattle.listing.specs.Encoding as Encoding
+use Rattle.transcribe.specs.Listing as Transcribe
+use Rattle.transcribe.specs.declared.Listed as Transcribe′
+use Rattle.transcribe.specs.declared.Listed.the-variants.{Written as ListWritten, Full as ListFull}
+use Rattle.compose.specs.Answer.{writtenAnswer}
+use Rattle.compose.specs.declared.Written as Compose′
+use Rattle.compose.specs.declared.Written.the-variants.{Payload, Unreadable, Forbidden, TooLarge}
 use Rattle.reassembly.specs.Answer.{Reply, refused, ready, stored, repeated, conflict, delivered, advanced, account, replyOf}
 use Rattle.reassembly.specs.declared.Refusal.the-variants as No
 use Rattle.reassembly.specs.declared.Answer as Reassembly
@@ -44,7 +56,11 @@ use Rattle.receiver.specs.declared.Received.the-variants.{Refused as Turned, Da
 use Rattle.surface.specs.declared.Reading.{Reading}
 use Rattle.surface.specs.declared.Answer.{Answer}
 use Rattle.surface.specs.declared.Received.{Received}
-use Rattle.surface.specs.Reading.{flagOf, verdictNumber, apcNumber, fragmentIn, hostReading, hostRereading}
+use Rattle.surface.specs.declared.Rereading.{Rereading}
+use Rattle.surface.specs.declared.Listing.{Listing}
+use Rattle.surface.specs.declared.Written.{Written}
+use Rattle.surface.specs.Reading.{flagOf, noFragment, fragmentIn, hostReading, hostRereading}
+use Rattle.surface.specs.Lists.{hostListing, hostWritten}
 use Rattle.surface.specs.Answer.{hostAnswer, hostFate}
 
 -- ---- readings
@@ -68,33 +84,33 @@ verdictFrom n f =
 abbrev pub fragmentFrom : Reading → Fragment
 fragmentFrom v = record {
   identification = v .identification;
-  place = record { 0 = v .place };
-  start = record { 0 = v .start };
-  end = record { 0 = v .end };
+  place = v .place;
+  start = v .part .from;
+  end = v .part .to;
   last = eqb (v .last) 1;
-  «option_start» = record { 0 = v .«option_start» };
+  «option_start» = v .«option_start»;
 }
 
 abbrev pub answerFrom : Reading → Read.Answer
 answerFrom v =
     cond (eqb (v .refusal) 0)
     (Read.reads (record {
-      user = extent (v .«user_from») (v .«user_to»);
+      user = v .user;
       verdict = verdictFrom (v .verdict) (fragmentFrom v);
-      options = extent (v .«options_from») (v .«options_to»);
+      options = v .options;
       count = v .count;
       fill = v .fill;
       apc = apcFrom (v .apc);
     }))
     (Read.refused (v .refusal))
 
-abbrev pub reAnswerFrom : Reading → Reread.ReAnswer
+abbrev pub reAnswerFrom : Rereading → Reread.ReAnswer
 reAnswerFrom v =
     cond (eqb (v .refusal) 0)
     (Reread.rereads (record {
-      user = places (v .«user_from») (v .«user_to»);
-      verdict = verdictFrom (v .verdict) (fragmentFrom v);
-      options = places (v .«options_from») (v .«options_to»);
+      user = v .user;
+      verdict = verdictFrom (v .verdict) noFragment;
+      options = v .options;
       count = v .count;
       fill = v .fill;
       apc = apcFrom (v .apc);
@@ -105,12 +121,12 @@ flag-told : (b : Bool) → eqb (flagOf b) 1 ≡ b
 flag-told true = refl
 flag-told false = refl
 
-apc-told : (a : Apc) → apcFrom (apcNumber a) ≡ a
+apc-told : (a : Apc) → apcFrom (apcSays a .number) ≡ a
 apc-told Absent = refl
 apc-told Right = refl
 apc-told Wrong = refl
 
-verdict-told : (v : Verdict) → verdictFrom (verdictNumber v) (fragmentIn v) ≡ v
+verdict-told : (v : Verdict) → verdictFrom (verdictSays v .number) (fragmentIn v) ≡ v
 verdict-told Bare = refl
 verdict-told Short = refl
 verdict-told Pad = refl
@@ -134,16 +150,12 @@ again f last = record {
   «option_start» = f .«option_start»;
 }
 
-piece-told : (v : Verdict) → verdictFrom (verdictNumber v) (again (fragmentIn v) (eqb (flagOf (fragmentIn v .last)) 1)) ≡ v
-piece-told v = ap (λ (b : Bool). verdictFrom (verdictNumber v) (again (fragmentIn v) b)) (flag-told (fragmentIn v .last)) ∙ verdict-told v
+piece-told : (v : Verdict) → verdictFrom (verdictSays v .number) (again (fragmentIn v) (eqb (flagOf (fragmentIn v .last)) 1)) ≡ v
+piece-told v = ap (λ (b : Bool). verdictFrom (verdictSays v .number) (again (fragmentIn v) b)) (flag-told (fragmentIn v .last)) ∙ verdict-told v
 
 abbrev readWith : Whole → Verdict → Apc → Read.Answer
 readWith r verdict apc =
     Read.reads (record { user = r .user; verdict = verdict; options = r .options; count = r .count; fill = r .fill; apc = apc })
-
-abbrev rereadWith : Rewhole → Verdict → Apc → Reread.ReAnswer
-rereadWith r verdict apc =
-    Reread.rereads (record { user = r .user; verdict = verdict; options = r .options; count = r .count; fill = r .fill; apc = apc })
 
 pub reading-told : (o : Outcome) → answerFrom (hostReading (answerOf o)) ≡ answerOf o
 reading-told (Unread PayloadTooShort) = refl
@@ -151,14 +163,68 @@ reading-told (Unread PayloadTooLong) = refl
 reading-told (Unread LengthOutOfRange) = refl
 reading-told (Unread ChecksumWrong) = refl
 reading-told (Accepted r) =
-    ap (λ (v : Verdict). readWith r v (apcFrom (apcNumber (r .apc)))) (piece-told (r .verdict)) ∙ ap (readWith r (r .verdict)) (apc-told (r .apc))
+    ap (λ (v : Verdict). readWith r v (apcFrom (apcSays (r .apc) .number))) (piece-told (r .verdict)) ∙ ap (readWith r (r .verdict)) (apc-told (r .apc))
 
-pub rereading-told : (o : RereadOutcome) → reAnswerFrom (hostRereading (reAnswerOf o)) ≡ reAnswerOf o
-rereading-told (Unreread OriginalTooLong) = refl
-rereading-told (Unreread OptionStartPastEnd) = refl
-rereading-told (Unreread UnsafeOption) = refl
-rereading-told (Reaccepted r) =
-    ap (λ (v : Verdict). rereadWith r v (apcFrom (apcNumber (r .apc)))) (piece-told (r .verdict)) ∙ ap (rereadWith r (r .verdict)) (apc-told (r .apc))
+-- ---- rereadings: their verdict is never "piece", so that the value needs no fragment
+
+abbrev Retold : Reread.ReAnswer → Type 0
+Retold a = reAnswerFrom (hostRereading a) ≡ a
+
+faulty-told : (r : ℕ) (f : Fault) → Retold (Reread.faultily r f)
+faulty-told r Met.Malformed = refl
+faulty-told r Met.Unsafe = refl
+faulty-told r Met.FragData = refl
+faulty-told r Met.Crowded = refl
+
+walked-told : (original : List ℕ) (r from : ℕ) (w : Walked) → Retold (Reread.rewalked original r from w)
+walked-told original r from (listed items fill) =
+    ap (λ (a : Apc). Reread.rereads (record {
+      user = Reread.places 0 r;
+      verdict = Listed;
+      options = Reread.places from (length original);
+      count = length items;
+      fill = fill;
+      apc = a;
+    })) (apc-told (Read.apcOf (take r original) (Read.apcValues items)))
+walked-told original r from (faulty f) = faulty-told r f
+
+started-told : (original : List ℕ) (r : ℕ) (s : Start) → Retold (Reread.restarted original r s)
+started-told original r Begun.Empty = refl
+started-told original r Begun.Short = refl
+started-told original r Begun.Pad = refl
+started-told original r Begun.Unsummed = refl
+started-told original r Begun.BadSum = refl
+started-told original r (Begun.List at) = walked-told original r (r + at) (walkFrom optionLimit 0 (drop (r + at) original))
+
+tested-told : (long past : Bool) (a : Reread.ReAnswer) → Retold a → Retold (Reread.reAnswered (Read.firstOf ((long, 2) ∷ (past, 6) ∷ [])) a)
+unfolding Read.firstOf
+tested-told true past a h = refl
+tested-told false true a h = refl
+tested-told false false a h = h
+
+pub rereading-told : (original : List ℕ) (r : ℕ) → reAnswerFrom (hostRereading (Reread.rereading original r)) ≡ Reread.rereading original r
+unfolding Reread.rereading
+rereading-told original r =
+    tested-told (ltb Reread.originalLimit (length original)) (ltb (length original) r) _
+    (started-told original r (startOf (Read.isOdd (udpHeader + r)) true (drop r original)))
+
+-- ---- lists and payloads
+
+abbrev pub listedFrom : Listing → Encoding.Answer Transcribe.Listing
+listedFrom v = cond (eqb (v .refusal) 0) (Encoding.given (record { size = v .size; fill = v .fill })) (Encoding.refused (v .refusal))
+
+pub listing-told : (l : Transcribe′.Listed) → listedFrom (hostListing (Transcribe.listedAnswer l)) ≡ Transcribe.listedAnswer l
+listing-told (ListWritten size fill) = refl
+listing-told ListFull = refl
+
+abbrev pub writtenFrom : Written → Encoding.Answer ℕ
+writtenFrom v = cond (eqb (v .refusal) 0) (Encoding.given (v .size)) (Encoding.refused (v .refusal))
+
+pub written-told : (w : Compose′.Written) → writtenFrom (hostWritten (writtenAnswer w)) ≡ writtenAnswer w
+written-told (Payload size) = refl
+written-told Unreadable = refl
+written-told Forbidden = refl
+written-told TooLarge = refl
 
 -- ---- the table
 
@@ -170,7 +236,7 @@ replyFrom v =
     (cond (eqb (v .outcome) 2) stored
     (cond (eqb (v .outcome) 3) repeated
     (cond (eqb (v .outcome) 4) conflict
-    (cond (eqb (v .outcome) 5) (delivered (v .length) (v .«option_start»))
+    (cond (eqb (v .outcome) 5) (delivered (v .length) (v .«option_start» .0))
     (cond (eqb (v .outcome) 6) advanced
     (account (f .offered ∷ f .held ∷ f .delivered ∷ f .expired ∷ f .conflicted ∷ f .repeated ∷ f .rejected ∷ []))))))))
     (refused (v .refusal))

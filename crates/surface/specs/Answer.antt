@@ -31,14 +31,14 @@ figuresFrom fs = record {
 
 -- a refusal, or what it came to
 abbrev pub plain : ℕ → ℕ → Answer
-plain refusal outcome = record { refusal = refusal; outcome = outcome; length = 0; «option_start» = 0; figures = noFigures }
+plain refusal outcome = record { refusal = refusal; outcome = outcome; length = 0; «option_start» = record { 0 = 0 }; figures = noFigures }
 
 -- "the answer gives T and r"
 abbrev pub handedOut : ℕ → ℕ → Answer
-handedOut n r = record { refusal = 0; outcome = 5; length = n; «option_start» = r; figures = noFigures }
+handedOut n r = record { refusal = 0; outcome = 5; length = n; «option_start» = record { 0 = r }; figures = noFigures }
 
 abbrev pub accounted : List ℕ → Answer
-accounted fs = record { refusal = 0; outcome = 7; length = 0; «option_start» = 0; figures = figuresFrom fs }
+accounted fs = record { refusal = 0; outcome = 7; length = 0; «option_start» = record { 0 = 0 }; figures = figuresFrom fs }
 
 -- what the table answers
 abbrev pub hostAnswer : Reply → Answer
@@ -57,8 +57,8 @@ arrivalFrom f = record {
   time = f .time;
   flow = f .flow;
   identification = f .identification;
-  offset = record { 0 = f .place };
-  «option_start» = record { 0 = f .«option_start» };
+  offset = f .place;
+  «option_start» = f .«option_start»;
   last = not (eqb (f .last) 0);
 }
 

@@ -2,11 +2,16 @@
 use Prim.Native.Nat.{ℕ}
 use mathlib.Core.Bool.{Bool, cond}
 use lib.Dec.{eqb}
+use Rattle.datagram.specs.Verdict.{verdictSays}
 use Rattle.datagram.specs.Reading.{extent}
+use Rattle.datagram.specs.Rereading.{places}
 use Rattle.datagram.specs.declared.reading.Apc.the-variants.{Absent}
 use Rattle.datagram.specs.declared.reading.Verdict.{Verdict}
 use Rattle.datagram.specs.declared.reading.Verdict.the-variants.{Bare, Read}
+use Rattle.datagram.specs.declared.reading.Extent.{Extent}
 use Rattle.datagram.specs.declared.reading.Reading.{Reading}
+use Rattle.datagram.specs.declared.rereading.OriginalExtent.{OriginalExtent}
+use Rattle.datagram.specs.declared.rereading.Rereading.{Rereading}
 use Rattle.listing.specs.Encoding.{Answer, given, refused}
 use Rattle.transcribe.specs.Listing as Transcribe
 use Rattle.surface.specs.declared.Listing.{Listing}
@@ -14,13 +19,24 @@ use Rattle.surface.specs.declared.Written.{Written}
 
 -- the number of "read" is a verdict with options, any other one without
 abbrev pub verdictFor : ℕ → Verdict
-verdictFor number = cond (eqb number 9) Read Bare
+verdictFor number = cond (eqb number (verdictSays Read .number)) Read Bare
 
-abbrev pub readingFor : ℕ → ℕ → ℕ → Reading
-readingFor number from to = record {
+-- a reading, and a rereading, with as much as its listing looks at
+abbrev pub readingFor : ℕ → Extent → Reading
+readingFor number options = record {
   user = extent 0 0;
   verdict = verdictFor number;
-  options = extent from to;
+  options = options;
+  count = 0;
+  fill = 0;
+  apc = Absent;
+}
+
+abbrev pub rereadingFor : ℕ → OriginalExtent → Rereading
+rereadingFor number options = record {
+  user = places 0 0;
+  verdict = verdictFor number;
+  options = options;
   count = 0;
   fill = 0;
   apc = Absent;

@@ -1,52 +1,22 @@
 -- A reading and a rereading as values of include/wuraketozo.h. What a value does not say is 0.
 use Prim.Native.Nat.{ℕ}
 use mathlib.Core.Bool.{Bool, true, false}
+use mathlib.Core.Option.{Option, none, some}
 use Rattle.options.specs.declared.area.Fragment.{Fragment}
+use Rattle.datagram.specs.Verdict.{verdictSays, apcSays}
 use Rattle.datagram.specs.Reading as Read
+use Rattle.datagram.specs.Reading.{extent}
 use Rattle.datagram.specs.Rereading as Reread
-use Rattle.datagram.specs.declared.reading.Apc.{Apc}
-use Rattle.datagram.specs.declared.reading.Apc.the-variants.{Absent, Right, Wrong}
+use Rattle.datagram.specs.Rereading.{places}
 use Rattle.datagram.specs.declared.reading.Verdict.{Verdict}
-use Rattle.datagram.specs.declared.reading.Verdict.the-variants.{
-  Bare,
-  Short,
-  Pad,
-  Unsummed,
-  BadSum,
-  Malformed,
-  Unsafe,
-  FragData,
-  Crowded,
-  Read as Listed,
-  Piece,
-}
 use Rattle.datagram.specs.declared.reading.Reading.{Reading as Accepted}
 use Rattle.datagram.specs.declared.rereading.Rereading.{Rereading as Reaccepted}
 use Rattle.surface.specs.declared.Reading.{Reading}
+use Rattle.surface.specs.declared.Rereading.{Rereading}
 
 abbrev pub flagOf : Bool → ℕ
 flagOf true = 1
 flagOf false = 0
-
--- the verdicts in the order of document 01
-abbrev pub verdictNumber : Verdict → ℕ
-verdictNumber Bare = 0
-verdictNumber Short = 1
-verdictNumber Pad = 2
-verdictNumber Unsummed = 3
-verdictNumber BadSum = 4
-verdictNumber Malformed = 5
-verdictNumber Unsafe = 6
-verdictNumber FragData = 7
-verdictNumber Crowded = 8
-verdictNumber Listed = 9
-verdictNumber (Piece fragment) = 10
-
--- "APC none, right or wrong"
-abbrev pub apcNumber : Apc → ℕ
-apcNumber Absent = 0
-apcNumber Right = 1
-apcNumber Wrong = 2
 
 abbrev pub noFragment : Fragment
 noFragment = record {
@@ -58,71 +28,65 @@ noFragment = record {
   «option_start» = record { 0 = 0 };
 }
 
+abbrev pub fragmentOr : Option Fragment → Fragment
+fragmentOr none = noFragment
+fragmentOr (some fragment) = fragment
+
 -- the fragment of a verdict "piece"
 abbrev pub fragmentIn : Verdict → Fragment
-fragmentIn Bare = noFragment
-fragmentIn Short = noFragment
-fragmentIn Pad = noFragment
-fragmentIn Unsummed = noFragment
-fragmentIn BadSum = noFragment
-fragmentIn Malformed = noFragment
-fragmentIn Unsafe = noFragment
-fragmentIn FragData = noFragment
-fragmentIn Crowded = noFragment
-fragmentIn Listed = noFragment
-fragmentIn (Piece fragment) = fragment
+fragmentIn verdict = fragmentOr (verdictSays verdict .values)
 
 -- "A refusal returns its number only"
 abbrev pub unread : ℕ → Reading
 unread refusal = record {
   refusal = refusal;
   verdict = 0;
-  «user_from» = 0;
-  «user_to» = 0;
-  «options_from» = 0;
-  «options_to» = 0;
+  user = extent 0 0;
+  options = extent 0 0;
   count = 0;
   fill = 0;
   apc = 0;
   identification = 0;
-  place = 0;
-  start = 0;
-  end = 0;
-  «option_start» = 0;
+  place = record { 0 = 0 };
+  part = extent 0 0;
+  «option_start» = record { 0 = 0 };
   last = 0;
 }
 
-abbrev pub withFragment : Fragment → ℕ → ℕ → ℕ → ℕ → ℕ → ℕ → ℕ → ℕ → Reading
-withFragment f verdict from to listFrom listTo count fill apc = record {
+abbrev pub unreread : ℕ → Rereading
+unreread refusal = record { refusal = refusal; verdict = 0; user = places 0 0; options = places 0 0; count = 0; fill = 0; apc = 0 }
+
+abbrev pub withFragment : Fragment → Accepted → Reading
+withFragment f r = record {
   refusal = 0;
-  verdict = verdict;
-  «user_from» = from;
-  «user_to» = to;
-  «options_from» = listFrom;
-  «options_to» = listTo;
-  count = count;
-  fill = fill;
-  apc = apc;
+  verdict = verdictSays (r .verdict) .number;
+  user = r .user;
+  options = r .options;
+  count = r .count;
+  fill = r .fill;
+  apc = apcSays (r .apc) .number;
   identification = f .identification;
-  place = f .place .0;
-  start = f .start .0;
-  end = f .end .0;
-  «option_start» = f .«option_start» .0;
+  place = f .place;
+  part = record { from = f .start; to = f .end };
+  «option_start» = f .«option_start»;
   last = flagOf (f .last);
 }
 
--- a verdict, the user data's extent, the option list's extent, how many options, the fill, and what the APCs say
-abbrev pub readingWith : Verdict → ℕ → ℕ → ℕ → ℕ → ℕ → ℕ → Apc → Reading
-readingWith verdict from to listFrom listTo count fill apc =
-    withFragment (fragmentIn verdict) (verdictNumber verdict) from to listFrom listTo count fill (apcNumber apc)
-
+-- a verdict, the user data, the option list, how many options, the fill, what the APCs say, and the fragment of "piece"
 abbrev pub readingFrom : Accepted → Reading
-readingFrom r =
-    readingWith (r .verdict) (r .user .from .0) (r .user .to .0) (r .options .from .0) (r .options .to .0) (r .count) (r .fill) (r .apc)
+readingFrom r = withFragment (fragmentIn (r .verdict)) r
 
-abbrev pub rereadingFrom : Reaccepted → Reading
-rereadingFrom r =
-    readingWith (r .verdict) (r .user .from .0) (r .user .to .0) (r .options .from .0) (r .options .to .0) (r .count) (r .fill) (r .apc)
+-- the same of an original, which is never a fragment
+abbrev pub rereadingFrom : Reaccepted → Rereading
+rereadingFrom r = record {
+  refusal = 0;
+  verdict = verdictSays (r .verdict) .number;
+  user = r .user;
+  options = r .options;
+  count = r .count;
+  fill = r .fill;
+  apc = apcSays (r .apc) .number;
+}
 
 -- demand 2's reading of a payload
 abbrev pub hostReading : Read.Answer → Reading
@@ -130,6 +94,6 @@ hostReading (Read.refused n) = unread n
 hostReading (Read.reads r) = readingFrom r
 
 -- and of an original
-abbrev pub hostRereading : Reread.ReAnswer → Reading
-hostRereading (Reread.refused n) = unread n
+abbrev pub hostRereading : Reread.ReAnswer → Rereading
+hostRereading (Reread.refused n) = unreread n
 hostRereading (Reread.rereads r) = rereadingFrom r

@@ -1,14 +1,16 @@
 // The values of include/wuraketozo.h, field for field, and what each answer of the crates below is among them; `host` exports the
-// calls. A refusal is 0, or document 01's number. What a value does not say is 0.
+// calls. A refusal is 0, or document 01's number. What a value does not say is 0. Positions keep their types: an `Extent` is bytes of a
+// payload, an `OriginalExtent` or an `OriginalOffset` places in an original.
 use datagram::reading;
 use datagram::reading::Apc;
 use datagram::reading::Extent;
 use datagram::reading::Outcome;
 use datagram::reading::Refusal;
 use datagram::reading::Verdict;
+use datagram::rereading;
+use datagram::rereading::OriginalExtent;
 use datagram::rereading::RereadOutcome;
 use datagram::rereading::RereadRefusal;
-use datagram::rereading::Rereading;
 use offsets::OriginalOffset;
 use offsets::PacketOffset;
 use options::area;
@@ -16,15 +18,16 @@ use reassembly::Arrival;
 use record::Flow;
 use transcribe::Listed;
 ghost use mathlib.Core.Path.{_≡_};
-ghost use Rattle.datagram.specs.Reading.{answerOf, refusalNumber};
-ghost use Rattle.datagram.specs.Rereading.{reAnswerOf, reRefusalNumber};
+ghost use Rattle.datagram.specs.Verdict.{verdictSays, apcSays};
+ghost use Rattle.datagram.specs.Reading.{extent, answerOf, refusalNumber};
+ghost use Rattle.datagram.specs.Rereading.{places, reAnswerOf, reRefusalNumber};
 ghost use Rattle.transcribe.specs.Listing.{listedAnswer};
 ghost use Rattle.compose.specs.Answer.{writtenAnswer};
 ghost use Rattle.reassembly.specs.Answer.{numberOf, figuresOf, replyOf};
 ghost use Rattle.receiver.specs.Receive.{fateIn};
-ghost use Rattle.surface.specs.Reading.{flagOf, verdictNumber, apcNumber, noFragment, fragmentIn, unread, readingWith, readingFrom, rereadingFrom};
+ghost use Rattle.surface.specs.Reading.{flagOf, noFragment, fragmentIn, unread, unreread, readingFrom, rereadingFrom};
 ghost use Rattle.surface.specs.Reading.{hostReading, hostRereading};
-ghost use Rattle.surface.specs.Lists.{verdictFor, readingFor, hostListing, hostWritten};
+ghost use Rattle.surface.specs.Lists.{verdictFor, readingFor, rereadingFor, hostListing, hostWritten};
 ghost use Rattle.surface.specs.Answer.{noFigures, figuresFrom, plain, handedOut, accounted, hostAnswer, arrivalFrom};
 ghost use Rattle.surface.specs.Answer.{readAlone, offeredAlone, hostFate};
 
@@ -34,27 +37,36 @@ pub struct Address {
     pub octets: [u8; 4],
 }
 
-// What `wuraketozo_read` and `wuraketozo_reread` answer.
+// What `wuraketozo_read` answers.
 #[repr(C)]
 pub struct Reading {
     pub refusal: u32,
     pub verdict: u32,
-    pub user_from: usize,
-    pub user_to: usize,
-    pub options_from: usize,
-    pub options_to: usize,
+    pub user: Extent,
+    pub options: Extent,
     pub count: usize,
     pub fill: usize,
     pub apc: u32,
     pub identification: u32,
-    pub place: usize,
-    pub start: usize,
-    pub end: usize,
-    pub option_start: usize,
+    pub place: OriginalOffset,
+    pub part: Extent,
+    pub option_start: OriginalOffset,
     pub last: u32,
 }
 
-// What `wuraketozo_list` answers.
+// What `wuraketozo_reread` answers.
+#[repr(C)]
+pub struct Rereading {
+    pub refusal: u32,
+    pub verdict: u32,
+    pub user: OriginalExtent,
+    pub options: OriginalExtent,
+    pub count: usize,
+    pub fill: usize,
+    pub apc: u32,
+}
+
+// What `wuraketozo_list` and `wuraketozo_relist` answer.
 #[repr(C)]
 pub struct Listing {
     pub refusal: u32,
@@ -87,7 +99,7 @@ pub struct Answer {
     pub refusal: u32,
     pub outcome: u32,
     pub length: usize,
-    pub option_start: usize,
+    pub option_start: OriginalOffset,
     pub figures: Figures,
 }
 
@@ -97,8 +109,8 @@ pub struct Fragment {
     pub time: u64,
     pub flow: Flow,
     pub identification: u32,
-    pub place: usize,
-    pub option_start: usize,
+    pub place: OriginalOffset,
+    pub option_start: OriginalOffset,
     pub last: u32,
 }
 
@@ -122,7 +134,7 @@ fn flag(b: bool) -> u32
 }
 
 fn verdict_number(verdict: Verdict) -> u32
-    ensures { λ r. ⌜ r ≡ verdictNumber verdict ⌝ }
+    ensures { λ r. ⌜ r ≡ verdictSays verdict .number ⌝ }
 {
     match verdict {
         Verdict::Bare => 0,
@@ -140,7 +152,7 @@ fn verdict_number(verdict: Verdict) -> u32
 }
 
 fn apc_number(apc: Apc) -> u32
-    ensures { λ r. ⌜ r ≡ apcNumber apc ⌝ }
+    ensures { λ r. ⌜ r ≡ apcSays apc .number ⌝ }
 {
     match apc {
         Apc::Absent => 0,
@@ -202,59 +214,57 @@ fn fragment_in(verdict: Verdict) -> area::Fragment
     }
 }
 
+fn no_bytes() -> Extent
+    ensures { λ r. ⌜ r ≡ extent 0 0 ⌝ }
+{
+    Extent {
+        from: PacketOffset(0),
+        to: PacketOffset(0),
+    }
+}
+
+fn no_places() -> OriginalExtent
+    ensures { λ r. ⌜ r ≡ places 0 0 ⌝ }
+{
+    OriginalExtent {
+        from: OriginalOffset(0),
+        to: OriginalOffset(0),
+    }
+}
+
 // A refusal, or with 0 the reading that says nothing.
 fn unread(refusal: u32) -> Reading
     ensures { λ r. ⌜ r ≡ unread refusal ⌝ }
 {
+    let none = no_bytes();
     Reading {
         refusal: refusal,
         verdict: 0,
-        user_from: 0,
-        user_to: 0,
-        options_from: 0,
-        options_to: 0,
+        user: none,
+        options: none,
         count: 0,
         fill: 0,
         apc: 0,
         identification: 0,
-        place: 0,
-        start: 0,
-        end: 0,
-        option_start: 0,
+        place: OriginalOffset(0),
+        part: none,
+        option_start: OriginalOffset(0),
         last: 0,
     }
 }
 
-// The parts of a reading or a rereading.
-fn reading_with(
-    verdict: Verdict,
-    user_from: usize,
-    user_to: usize,
-    options_from: usize,
-    options_to: usize,
-    count: usize,
-    fill: usize,
-    apc: Apc,
-) -> Reading
-    ensures { λ r. ⌜ r ≡ readingWith verdict «user_from» «user_to» «options_from» «options_to» count fill apc ⌝ }
+fn unreread(refusal: u32) -> Rereading
+    ensures { λ r. ⌜ r ≡ unreread refusal ⌝ }
 {
-    let fragment = fragment_in(verdict);
-    Reading {
-        refusal: 0,
-        verdict: verdict_number(verdict),
-        user_from: user_from,
-        user_to: user_to,
-        options_from: options_from,
-        options_to: options_to,
-        count: count,
-        fill: fill,
-        apc: apc_number(apc),
-        identification: fragment.identification,
-        place: fragment.place.0,
-        start: fragment.start.0,
-        end: fragment.end.0,
-        option_start: fragment.option_start.0,
-        last: flag(fragment.last),
+    let none = no_places();
+    Rereading {
+        refusal: refusal,
+        verdict: 0,
+        user: none,
+        options: none,
+        count: 0,
+        fill: 0,
+        apc: 0,
     }
 }
 
@@ -265,35 +275,46 @@ fn reading_from(reading: reading::Reading) -> Reading
     let user = reading.user;
     let options = reading.options;
     let apc = reading.apc;
-    reading_with(
-        verdict,
-        user.from.0,
-        user.to.0,
-        options.from.0,
-        options.to.0,
-        reading.count,
-        reading.fill,
-        apc,
-    )
+    let fragment = fragment_in(verdict);
+    let place = fragment.place;
+    let start = fragment.start;
+    let end = fragment.end;
+    let option_start = fragment.option_start;
+    Reading {
+        refusal: 0,
+        verdict: verdict_number(verdict),
+        user: user,
+        options: options,
+        count: reading.count,
+        fill: reading.fill,
+        apc: apc_number(apc),
+        identification: fragment.identification,
+        place: place,
+        part: Extent {
+            from: start,
+            to: end,
+        },
+        option_start: option_start,
+        last: flag(fragment.last),
+    }
 }
 
-fn rereading_from(rereading: Rereading) -> Reading
+fn rereading_from(rereading: rereading::Rereading) -> Rereading
     ensures { λ r. ⌜ r ≡ rereadingFrom rereading ⌝ }
 {
     let verdict = rereading.verdict;
     let user = rereading.user;
     let options = rereading.options;
     let apc = rereading.apc;
-    reading_with(
-        verdict,
-        user.from.0,
-        user.to.0,
-        options.from.0,
-        options.to.0,
-        rereading.count,
-        rereading.fill,
-        apc,
-    )
+    Rereading {
+        refusal: 0,
+        verdict: verdict_number(verdict),
+        user: user,
+        options: options,
+        count: rereading.count,
+        fill: rereading.fill,
+        apc: apc_number(apc),
+    }
 }
 
 pub fn reading_of(outcome: Outcome) -> Reading
@@ -305,11 +326,11 @@ pub fn reading_of(outcome: Outcome) -> Reading
     }
 }
 
-pub fn rereading_of(outcome: RereadOutcome) -> Reading
+pub fn rereading_of(outcome: RereadOutcome) -> Rereading
     ensures { λ r. ⌜ r ≡ hostRereading (reAnswerOf outcome) ⌝ }
 {
     match outcome {
-        RereadOutcome::Refused(refusal) => unread(reread_number(refusal)),
+        RereadOutcome::Refused(refusal) => unreread(reread_number(refusal)),
         RereadOutcome::Accepted(rereading) => rereading_from(rereading),
     }
 }
@@ -325,21 +346,32 @@ fn verdict_for(number: u32) -> Verdict
     Verdict::Bare
 }
 
-// As much of a reading as its listing looks at, from the verdict's number and the ends of the option list.
-pub fn reading_for(number: u32, from: usize, to: usize) -> reading::Reading
-    ensures { λ r. ⌜ r ≡ readingFor number from to ⌝ }
+// As much of a reading as its listing looks at: the verdict's number and the option list.
+pub fn reading_for(number: u32, options: Extent) -> reading::Reading
+    ensures { λ r. ⌜ r ≡ readingFor number options ⌝ }
 {
     let verdict = verdict_for(number);
+    let none = no_bytes();
     reading::Reading {
-        user: Extent {
-            from: PacketOffset(0),
-            to: PacketOffset(0),
-        },
+        user: none,
         verdict: verdict,
-        options: Extent {
-            from: PacketOffset(from),
-            to: PacketOffset(to),
-        },
+        options: options,
+        count: 0,
+        fill: 0,
+        apc: Apc::Absent,
+    }
+}
+
+// And of a rereading.
+pub fn rereading_for(number: u32, options: OriginalExtent) -> rereading::Rereading
+    ensures { λ r. ⌜ r ≡ rereadingFor number options ⌝ }
+{
+    let verdict = verdict_for(number);
+    let none = no_places();
+    rereading::Rereading {
+        user: none,
+        verdict: verdict,
+        options: options,
         count: 0,
         fill: 0,
         apc: Apc::Absent,
@@ -443,7 +475,7 @@ fn plain(refusal: u32, outcome: u32) -> Answer
         refusal: refusal,
         outcome: outcome,
         length: 0,
-        option_start: 0,
+        option_start: OriginalOffset(0),
         figures: figures,
     }
 }
@@ -456,7 +488,7 @@ fn handed_out(length: usize, option_start: OriginalOffset) -> Answer
         refusal: 0,
         outcome: 5,
         length: length,
-        option_start: option_start.0,
+        option_start: option_start,
         figures: figures,
     }
 }
@@ -469,7 +501,7 @@ fn accounted(figures: reassembly::Figures) -> Answer
         refusal: 0,
         outcome: 7,
         length: 0,
-        option_start: 0,
+        option_start: OriginalOffset(0),
         figures: mapped,
     }
 }
@@ -497,12 +529,14 @@ pub fn arrival_of(fragment: Fragment) -> Arrival
     ensures { λ r. ⌜ r ≡ arrivalFrom fragment ⌝ }
 {
     let flow = fragment.flow;
+    let place = fragment.place;
+    let option_start = fragment.option_start;
     Arrival {
         time: fragment.time,
         flow: flow,
         identification: fragment.identification,
-        offset: OriginalOffset(fragment.place),
-        option_start: OriginalOffset(fragment.option_start),
+        offset: place,
+        option_start: option_start,
         last: fragment.last != 0,
     }
 }

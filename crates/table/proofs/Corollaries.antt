@@ -11,11 +11,12 @@ use Rattle.reassembly.specs.Advance.{figures}
 use Rattle.ledger.specs.Book as Book
 use Rattle.ledger.specs.Stands.{offerOf}
 use Rattle.ledger.specs.History.{offering, accounting}
-use Rattle.ledger.specs.Whole.{Whole, Taken, assembled}
+use Rattle.ledger.specs.Whole.{Whole, handed, Taken, assembled}
 use Rattle.ledger.proofs.Theorem.{one-client-theorem}
 use Rattle.table.specs.Table.{Table, lentOf, shareOf, recordOf, After, askOn}
 use Rattle.table.specs.Events.{Event, gives, Keeps, ownOnly}
-use Rattle.table.specs.Demand3.{Terms, opening, tableAfter, bookAfter, Sums}
+use Rattle.table.specs.Apart.{Sums}
+use Rattle.table.specs.Demand3.{Terms, opening, tableAfter, bookAfter}
 use Rattle.table.proofs.Facts.{granted-is}
 use Rattle.table.proofs.Demand3.{stands-all, demand-3}
 
@@ -41,7 +42,7 @@ pub bills-agree : (t : Table) (es : List Event) → Terms t es → (k : ℕ) →
 bills-agree t es terms k h =
     let s = stands-all t es terms in
     ap (λ (a : After). a .reply) (granted-is k accounting (tableAfter t es) (s .fit) h)
-    ∙ one-client-theorem .account-call (recordOf k (tableAfter t es)) (shareOf k (tableAfter t es)) (bookAfter k t es) (s .each k h) .reply
+    ∙ one-client-theorem .each-call (recordOf k (tableAfter t es)) (shareOf k (tableAfter t es)) (bookAfter k t es) (s .each k h) accounting .reply
 
 -- ---- the sum, after every call of a list
 
@@ -51,11 +52,18 @@ sum-after-every-call t es fs terms = demand-3 .sum t es (terms-front t es fs ter
 
 -- ---- delivery
 
+-- taken and whole, hence delivered, and the other way round
 pub delivered-exactly-when-whole : (t : Table) (es : List Event) → Terms t es → (k : ℕ) (o : Arrival) (bytes out : List ℕ) (n r : ℕ)
     → (askOn k (offering o bytes out) (tableAfter t es) .reply ≡ delivered n r)
-    ↔ (Taken (lentOf (tableAfter t es)) k (offerOf o bytes) out (bookAfter k t es)
-    × Whole (assembled (offerOf o bytes) (bookAfter k t es)) out n r (askOn k (offering o bytes out) (tableAfter t es) .out))
+    ↔ (Taken (lentOf (tableAfter t es)) k (offerOf o bytes) (length out) (bookAfter k t es)
+    × Whole (assembled (offerOf o bytes) (bookAfter k t es)) n r)
 delivered-exactly-when-whole = demand-3 .delivery
+
+-- delivered, hence out is these bytes and else as it was
+pub delivered-bytes-in-out : (t : Table) (es : List Event) → Terms t es → (k : ℕ) (o : Arrival) (bytes out : List ℕ) (n r : ℕ)
+    → askOn k (offering o bytes out) (tableAfter t es) .reply ≡ delivered n r
+    → askOn k (offering o bytes out) (tableAfter t es) .out ≡ handed (assembled (offerOf o bytes) (bookAfter k t es)) n out
+delivered-bytes-in-out = demand-3 .delivered-bytes
 
 -- ---- isolation
 

@@ -1,9 +1,9 @@
 -- Demand 3, with no premise: a set-up that is taken makes every record stand for the empty book; each call keeps that (`Steps`), over every
--- list (`Lists`); the book's own laws give the sum and the deliveries, and what is kept of a client depends on its own calls (`Isolation`).
+-- list (`Lists`); the book's own laws give the deliveries. The sum and isolation need no book (`Apart`).
 -- Assumes nothing.
-use Prim.Native.Nat.{ℕ, _+_, _<_}
+use Prim.Native.Nat.{ℕ, _<_}
 use mathlib.Core.Path.{_≡_, refl, sym, ap, ap₂, subst, _∙_}
-use mathlib.Core.Bool.{Bool, true, false}
+use mathlib.Core.Bool.{Bool, true, false, not}
 use mathlib.Core.List.{List, [], _∷_, _++_}
 use mathlib.Core.Option.{some}
 use mathlib.Core.Logic.{_↔_}
@@ -17,36 +17,35 @@ use Rattle.reassembly.specs.declared.Arrival.{Arrival}
 use Rattle.reassembly.specs.Answer.{refused, delivered}
 use Rattle.reassembly.specs.Advance.{figures}
 use Rattle.ledger.specs.Book as Book
-use Rattle.ledger.specs.Book.{Book, Content, size, endOf, lastOne, bytesTo, Balanced, fragment}
-use Rattle.ledger.specs.Lent.{Lent, sized, Own, answered, bookOf}
+use Rattle.ledger.specs.Book.{Content, size, endOf, lastOne, bytesTo, fragment}
+use Rattle.ledger.specs.Lent.{misfits, Own, answered, bookOf}
 use Rattle.ledger.specs.Stands.{Stands, offerOf}
-use Rattle.ledger.specs.History.{Ask, offering, advancing, accounting, Given, on}
-use Rattle.ledger.specs.Whole.{Whole, Taken, assembled}
+use Rattle.ledger.specs.History.{Lent, Ask, offering, Given}
+use Rattle.ledger.specs.Whole.{Whole, handed, Taken, assembled}
 use Rattle.ledger.proofs.Theorem.{one-client-theorem}
 use Rattle.ledger.proofs.Clock.{same-figures}
-use Rattle.ledger.proofs.Own.{book-balanced}
 use Rattle.ledger.proofs.Apart.{follows, assembled-pairs}
 use Rattle.ledger.proofs.Placed.{each-placed}
-use Rattle.ledger.proofs.Delivered.{own-delivery, own-untouched}
-use Rattle.table.specs.Table.{Table, lentOf, shareOf, recordOf, After, cleared, askOn}
-use Rattle.table.specs.Events.{Event, current, resetting, next, final, givenBy, givenIn, gives, history, owes, sizesAfter, pastAfter, ownOnly}
-use Rattle.table.specs.Demand3.{Terms, opening, tableAfter, bookAfter, Sums, Demand3}
-use Rattle.table.proofs.Facts.{unknown-is, granted-is, reset-taken}
-use Rattle.table.proofs.Steps.{Holds, call-answer, cleared-holds, cleared-sizes}
+use Rattle.ledger.proofs.Delivered.{own-delivery, own-bytes, own-untouched}
+use Rattle.table.specs.Table.{Table, lentOf, sized, shareOf, recordOf, After, cleared, askOn}
+use Rattle.table.specs.Events.{Event, current, resetting, final, givenBy, gives, ownOnly}
+use Rattle.table.specs.Owed.{givenIn, history, owes, sizesAfter, pastAfter}
+use Rattle.table.specs.Apart.{Sums, Same}
+use Rattle.table.specs.Demand3.{Terms, opening, tableAfter, bookAfter, Demand3}
+use Rattle.table.proofs.Facts.{unknown-is, granted-is}
+use Rattle.table.proofs.Tests.{misfit-agrees}
+use Rattle.table.proofs.Apart.{cleared-sizes, cleared-formed, cleared-tested, opens, apart}
+use Rattle.table.proofs.Steps.{Holds, call-answer, cleared-holds}
 use Rattle.table.proofs.Lists.{reset-answer, answers-all, final-holds}
-use Rattle.table.proofs.Isolation.{owes-own, same-kept}
 
 -- ---- the set-up that opens the list
 
-opens : (t : Table) → sized (lentOf t) ≡ true → next t (resetting current) ≡ cleared t
-opens t e = ap₂ (λ (x : Bool) (u : Table). if x u t) e (ap (λ (x : After). x .table) (reset-taken t e))
-
 -- the book's side starts with the sizes of that table and no call
 opens-sizes : (t : Table) → sized (lentOf t) ≡ true → sizesAfter (lentOf t) (resetting current) ≡ lentOf (cleared t)
-opens-sizes t e = ap (λ (x : Bool). if x (lentOf t) (lentOf t)) e ∙ sym (cleared-sizes t)
+opens-sizes t e = ap (λ (x : Bool). if x (lentOf t) (lentOf t)) (misfit-agrees (lentOf t) ∙ ap not e) ∙ sym (cleared-sizes t)
 
 opens-past : (k : ℕ) (t : Table) → sized (lentOf t) ≡ true → pastAfter k (lentOf t) [] (resetting current) ≡ []
-opens-past k t e = ap (λ (x : Bool). if {A = List Own} x [] []) e
+opens-past k t e = ap (λ (x : Bool). if {A = List Own} x [] []) (misfit-agrees (lentOf t) ∙ ap not e)
 
 module _ (t : Table) (es : List Event) (terms : Terms t es) where
   start : Holds (cleared t) (λ k. bookOf [])
@@ -97,18 +96,20 @@ module _ (t : Table) (es : List Event) (terms : Terms t es) where
 
     delivered-when : (n r : ℕ)
         → (askOn k (offering o bytes out) (tableAfter t es) .reply ≡ delivered n r)
-        ↔ (Taken (lentOf (tableAfter t es)) k (offerOf o bytes) out (bookAfter k t es)
-        × Whole (assembled (offerOf o bytes) (bookAfter k t es)) out n r (askOn k (offering o bytes out) (tableAfter t es) .out))
+        ↔ (Taken (lentOf (tableAfter t es)) k (offerOf o bytes) (length out) (bookAfter k t es)
+        × Whole (assembled (offerOf o bytes) (bookAfter k t es)) n r)
     unfolding own
     delivered-when n r =
         let both = own-delivery (lentOf (tableAfter t es)) k (offerOf o bytes) out (bookAfter k t es) n r in
         let there = both .0 in
-        let back = both .1 in (
-          λ d.
-              let w = there (sym same-reply ∙ d) in
-              (w .0, subst (Whole (assembled (offerOf o bytes) (bookAfter k t es)) out n r) (sym same-out) (w .1)),
-          λ w. same-reply ∙ back (w .0, subst (Whole (assembled (offerOf o bytes) (bookAfter k t es)) out n r) same-out (w .1)),
-        )
+        let back = both .1 in
+        (λ d. there (sym same-reply ∙ d), λ w. same-reply ∙ back w)
+
+    bytes-delivered : (n r : ℕ) → askOn k (offering o bytes out) (tableAfter t es) .reply ≡ delivered n r
+        → askOn k (offering o bytes out) (tableAfter t es) .out ≡ handed (assembled (offerOf o bytes) (bookAfter k t es)) n out
+    unfolding own
+    bytes-delivered n r d =
+        same-out ∙ own-bytes (lentOf (tableAfter t es)) k (offerOf o bytes) out (bookAfter k t es) n r (sym same-reply ∙ d)
 
     placed-each : (n r : ℕ) → askOn k (offering o bytes out) (tableAfter t es) .reply ≡ delivered n r
         → (before : List Content) (g : Content) (behind : List Content) → assembled (offerOf o bytes) (bookAfter k t es) ≡ before ++ g ∷ behind
@@ -121,7 +122,7 @@ module _ (t : Table) (es : List Event) (terms : Terms t es) where
         let calm : pairs follows fs ≡ true = assembled-pairs (history k (lentOf t) [] (opening es)) (offerOf o bytes) (w .0 .fitting) in
         let whole = w .1 in
         let out-is : askOn k (offering o bytes out) (tableAfter t es) .out ≡ bytesTo (endOf (whole .last)) (before ++ g ∷ behind) ++ drop n out =
-        whole .out-is ∙ ap₂ (λ (m : ℕ) (l : List Content). bytesTo m l ++ drop n out) (sym (whole .length-is)) same-list in
+        bytes-delivered n r d ∙ ap₂ (λ (m : ℕ) (l : List Content). bytesTo m l ++ drop n out) (sym (whole .length-is)) same-list in
         ap (part (g .place) (size g)) out-is
         ∙ each-placed before g behind (whole .last) (drop n out) (subst (λ (l : List Content). pairs follows l ≡ true) same-list calm)
         (subst (λ (l : List Content). lastOne l ≡ some (whole .last)) same-list (whole .found))
@@ -133,42 +134,31 @@ module _ (t : Table) (es : List Event) (terms : Terms t es) where
         same-out
         ∙ own-untouched (lentOf (tableAfter t es)) k (offerOf o bytes) out (bookAfter k t es) (λ n r d. never n r (same-reply ∙ d))
 
-  -- the figures
-  module _ (k : ℕ) (in-it : k < length (tableAfter t es .records)) where
-    st : Stands (recordOf k (tableAfter t es)) (shareOf k (tableAfter t es)) (bookAfter k t es)
-    st = stands-all .each k in-it
+  figures-same : (k : ℕ) → k < length (tableAfter t es .records) → figures (recordOf k (tableAfter t es)) ≡ Book.figures (bookAfter k t es)
+  figures-same k in-it =
+      let each = stands-all .each in
+      same-figures (recordOf k (tableAfter t es)) (shareOf k (tableAfter t es)) (bookAfter k t es) (each k in-it)
 
-    figures-same : figures (recordOf k (tableAfter t es)) ≡ Book.figures (bookAfter k t es)
-    figures-same = same-figures (recordOf k (tableAfter t es)) (shareOf k (tableAfter t es)) (bookAfter k t es) st
-
-    sums : Sums (recordOf k (tableAfter t es))
-    unfolding Balanced
-    sums = let s = st in let balance = book-balanced (history k (lentOf t) [] (opening es)) in omega (arith, balance)
+  -- the record test has it
+  sums : (k : ℕ) → k < length (tableAfter t es .records) → Sums (recordOf k (tableAfter t es))
+  sums k in-it =
+      subst (λ (u : Table). Sums (recordOf k u)) (sym table-is)
+      (apart .sum k (cleared t) es (cleared-formed t (terms .fits)) (cleared-tested k t) (terms .keeps)
+      (subst (λ (u : Table). k < length (u .records)) table-is in-it))
 
   -- refusal 22
   never-22 : (k : ℕ) (a : Ask) → askOn k a (tableAfter t es) .reply ≡ refused 22 → ⊥
-  never-22 k a = go (ltb k (length (tableAfter t es .records))) refl a
+  never-22 k a = go (ltb k (length (tableAfter t es .records))) refl
     where
-      fit : sized (lentOf (tableAfter t es)) ≡ true
-      fit = stands-all .fit
-
-      own-22 : k < length (tableAfter t es .records) → (a : Ask)
-          → on (recordOf k (tableAfter t es)) (shareOf k (tableAfter t es)) a .reply ≡ refused 22 → ⊥
-      own-22 in-it (offering o bytes out) =
-          one-client-theorem .fragment-22 (recordOf k (tableAfter t es)) (shareOf k (tableAfter t es)) (bookAfter k t es) out o bytes
-          (stands-all .each k in-it)
-      own-22 in-it (advancing time) =
-          one-client-theorem .clock-22 (recordOf k (tableAfter t es)) (shareOf k (tableAfter t es)) (bookAfter k t es) time (stands-all .each k in-it)
-      own-22 in-it accounting =
-          one-client-theorem .account-22 (recordOf k (tableAfter t es)) (shareOf k (tableAfter t es)) (bookAfter k t es) (stands-all .each k in-it)
-
-      go : (x : Bool) → ltb k (length (tableAfter t es .records)) ≡ x → (a : Ask) → askOn k a (tableAfter t es) .reply ≡ refused 22 → ⊥
-      go true e a q =
+      go : (x : Bool) → ltb k (length (tableAfter t es .records)) ≡ x → askOn k a (tableAfter t es) .reply ≡ refused 22 → ⊥
+      go true e q =
           let in-it = ltb-true k (length (tableAfter t es .records)) e in
-          own-22 in-it a (sym (ap (λ (x : After). x .reply) (granted-is k a (tableAfter t es) fit in-it)) ∙ q)
-      go false e a q =
-          let none = ltb-false k (length (tableAfter t es .records)) e in
-          let p : refused 21 ≡ refused 22 = sym (ap (λ (x : After). x .reply) (unknown-is k a (tableAfter t es) fit none)) ∙ q in
+          let each = stands-all .each in
+          one-client-theorem .never-22 (recordOf k (tableAfter t es)) (shareOf k (tableAfter t es)) (bookAfter k t es) (each k in-it) a
+          (sym (ap (λ (x : After). x .reply) (granted-is k a (tableAfter t es) (stands-all .fit) in-it)) ∙ q)
+      go false e q =
+          let out = ltb-false k (length (tableAfter t es .records)) e in
+          let p : refused 21 ≡ refused 22 = sym (ap (λ (x : After). x .reply) (unknown-is k a (tableAfter t es) (stands-all .fit) out)) ∙ q in
           let z : _≡_ {A = ℕ} 21 22 = cc in
           omega arith
 
@@ -178,13 +168,15 @@ isolated : (t : Table) (es es′ : List Event) → Terms t es → Terms t es′ 
     → (gives k t (opening es) ≡ gives k t (opening es′))
     × (recordOf k (tableAfter t es) ≡ recordOf k (tableAfter t es′))
     × (shareOf k (tableAfter t es) ≡ shareOf k (tableAfter t es′))
-unfolding ownOnly
+unfolding gives final
 isolated t es es′ terms terms′ k same =
-    let kept = same-kept k es es′ (cleared t) (λ j. []) (start t es terms) (terms .keeps) (terms′ .keeps) same in (
-      answers-given t es terms k ∙ owes-own k (opening es) (lentOf t) [] ∙ ap (λ (l : List Event). owes k (lentOf t) [] (opening l)) same
-          ∙ sym (owes-own k (opening es′) (lentOf t) []) ∙ sym (answers-given t es′ terms′ k),
-      ap (recordOf k) (table-is t es terms) ∙ kept .0 ∙ sym (ap (recordOf k) (table-is t es′ terms′)),
-      ap (shareOf k) (table-is t es terms) ∙ kept .1 ∙ sym (ap (shareOf k) (table-is t es′ terms′)),
+    let formed = cleared-formed t (terms .fits) in
+    let self : Same k (cleared t) (cleared t) = record { sizes = refl; client = refl; share = refl } in
+    let i = apart .isolation k (cleared t) (cleared t) es es′ formed formed self (terms .keeps) (terms′ .keeps) same in
+    let start = opens t (terms .fits) in (
+      ap₂ _∷_ refl (ap (λ (u : Table). gives k u es) start ∙ i .0 ∙ sym (ap (λ (u : Table). gives k u es′) start)),
+      ap (recordOf k) (table-is t es terms) ∙ i .1 .client ∙ sym (ap (recordOf k) (table-is t es′ terms′)),
+      ap (shareOf k) (table-is t es terms) ∙ i .1 .share ∙ sym (ap (shareOf k) (table-is t es′ terms′)),
     )
 
 -- ---- the claim
@@ -195,6 +187,7 @@ demand-3 = record {
   accounts = figures-same;
   sum = sums;
   delivery = delivered-when;
+  delivered-bytes = bytes-delivered;
   placed = placed-each;
   untouched = left-alone;
   isolation = isolated;

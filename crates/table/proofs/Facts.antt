@@ -1,37 +1,30 @@
 -- A call by its tests: refused by 20, refused by 21, or the client's own rules on its record and share. And what it tells that 20 lets a table
 -- pass: there is a share of the store for each record.
 -- Assumes nothing.
-use Prim.Native.Nat.{ℕ, zero, suc, _+_, _-_, _*_, _<_, _≤_}
-use mathlib.Core.Path.{_≡_, refl, sym, ap, subst, _∙_}
+use Prim.Native.Nat.{ℕ, _+_, _-_, _*_, _<_, _≤_}
+use mathlib.Core.Path.{_≡_, refl, sym, ap, _∙_, subst}
 use mathlib.Core.Bool.{Bool, true, false, not, _&&_}
-use mathlib.Core.List.{List, [], _∷_, _++_, append-nil}
-use native.Mathlib.Nat.{not-suc-le-zero, le-of-suc-le-suc, le-antisymm, suc-mul, mul-le-mul-right}
-use native.Mathlib.Numerals.{add-one}
+use mathlib.Core.List.{List, [], _∷_, _++_}
+use native.Mathlib.Nat.{suc-mul, mul-le-mul-right}
 use native.Mathlib.Omega.{arith}
 use lib.Dec.{leb, eqb}
-use lib.ListN.{length, take, drop, set, replicate, take-append-drop, drop-of-length-le}
+use lib.ListN.{length, take, drop, take-append-drop, replicate}
 use lib.Seq.{drop-drop}
-use borrow.Rule.Slice.PartMut.{putMid}
 use borrow.Author.Tests.{leb-true, eqb-true, le-leb, lt-leb}
 use Rattle.octets.specs.Octets.{part, overlay}
 use Rattle.octets.proofs.Laws.{length-part, part-take, length-overlay, take-overlay, drop-overlay}
 use Rattle.record.specs.Limits.{shareSize, clientLimit}
 use Rattle.record.specs.declared.Client.{Client}
-use Rattle.record.specs.Record.{freshClient, soundRecord}
+use Rattle.record.specs.Record.{soundRecord, freshClient}
 use Rattle.record.proofs.Tests.{both-true}
-use Rattle.reassembly.specs.Answer.{refused, ready, account, replyOf, firstOf}
+use Rattle.reassembly.specs.Answer.{refused, ready, account, firstOf, replyOf}
 use Rattle.reassembly.specs.declared.Answer.{Answer}
 use Rattle.reassembly.specs.declared.Answer.the-variants.{Refused, Reset}
-use Rattle.reassembly.specs.declared.Refusal.the-variants.{TableMisfit, NoSuchClient}
-use Rattle.reassembly.specs.declared.Arrival.{Arrival}
-use Rattle.reassembly.specs.declared.Step.{Step}
-use Rattle.reassembly.specs.Offer.{fragmentOn}
-use Rattle.reassembly.specs.Post.{Left}
+use Rattle.reassembly.specs.declared.Refusal.the-variants.{TableMisfit}
 use Rattle.reassembly.specs.Advance as Advance
 use Rattle.reassembly.specs.Advance.{figures, accountOn}
-use Rattle.ledger.specs.Lent.{Lent, sized, lentTests}
-use Rattle.ledger.specs.History.{Ask, offering, on}
-use Rattle.table.specs.Table.{Table, lentOf, shareOf, recordOf, After, cleared, resetOn, outLent, turned, askOn, Leaves}
+use Rattle.ledger.specs.History.{Lent, Ask, on}
+use Rattle.table.specs.Table.{Table, lentOf, sized, shareOf, recordOf, After, resetOn, outLent, turned, askOn, Leaves, askTests, cleared}
 
 -- ---- the sizes of a table
 
@@ -84,17 +77,17 @@ share-cut t k e h =
 -- ---- the calls by their tests
 
 pub misfit-is : (k : ℕ) (a : Ask) (t : Table) → sized (lentOf t) ≡ false → askOn k a t ≡ record { table = t; out = outLent a; reply = refused 20 }
-unfolding askOn lentTests firstOf
+unfolding askOn askTests firstOf
 misfit-is k a t e = simp e
 
 pub unknown-is : (k : ℕ) (a : Ask) (t : Table) → sized (lentOf t) ≡ true → length (t .records) ≤ k
     → askOn k a t ≡ record { table = t; out = outLent a; reply = refused 21 }
-unfolding askOn lentTests firstOf
+unfolding askOn askTests firstOf
 unknown-is k a t e h = simp (e, le-leb (length (t .records)) k h)
 
 pub granted-is : (k : ℕ) (a : Ask) (t : Table) → sized (lentOf t) ≡ true → k < length (t .records)
     → askOn k a t ≡ turned k (on (recordOf k t) (shareOf k t) a) t
-unfolding askOn lentTests firstOf
+unfolding askOn askTests firstOf
 granted-is k a t e h = simp (e, lt-leb (length (t .records)) k h)
 
 pub reset-refused : (t : Table) → sized (lentOf t) ≡ false → resetOn t ≡ record { table = t; out = []; reply = refused 20 }
@@ -105,23 +98,7 @@ pub reset-taken : (t : Table) → sized (lentOf t) ≡ true → resetOn t ≡ re
 unfolding resetOn firstOf
 reset-taken t e = simp e
 
--- ---- what a call leaves, by its tests
-
-pub misfit-leaves : (k : ℕ) (a : Ask) (t : Table) (r : Answer) → sized (lentOf t) ≡ false → r ≡ Refused TableMisfit
-    → Leaves (askOn k a t) r (t .records) (t .store) (outLent a)
-misfit-leaves k a t r e p =
-    subst (λ (x : After). Leaves x r (t .records) (t .store) (outLent a)) (sym (misfit-is k a t e))
-    (record { answers = ap replyOf p; records-left = refl; store-left = refl; out-left = refl })
-
-pub unknown-leaves : (k : ℕ) (a : Ask) (t : Table) (r : Answer) → sized (lentOf t) ≡ true → length (t .records) ≤ k → r ≡ Refused NoSuchClient
-    → Leaves (askOn k a t) r (t .records) (t .store) (outLent a)
-unknown-leaves k a t r e h p =
-    subst (λ (x : After). Leaves x r (t .records) (t .store) (outLent a)) (sym (unknown-is k a t e h))
-    (record { answers = ap replyOf p; records-left = refl; store-left = refl; out-left = refl })
-
-pub granted-leaves : (k : ℕ) (a : Ask) (t : Table) (r : Answer) (records : List Client) (store out : List ℕ) → sized (lentOf t) ≡ true
-    → k < length (t .records) → Leaves (turned k (on (recordOf k t) (shareOf k t) a) t) r records store out → Leaves (askOn k a t) r records store out
-granted-leaves k a t r records store out e h l = subst (λ (x : After). Leaves x r records store out) (sym (granted-is k a t e h)) l
+-- ---- what a set-up leaves
 
 pub reset-refused-leaves : (t : Table) (r : Answer) → sized (lentOf t) ≡ false → r ≡ Refused TableMisfit
     → Leaves (resetOn t) r (t .records) (t .store) []
@@ -134,6 +111,8 @@ pub reset-leaves : (t : Table) (r : Answer) (records : List Client) → sized (l
 reset-leaves t r records e p q =
     subst (λ (x : After). Leaves x r records (t .store) []) (sym (reset-taken t e))
     (record { answers = ap replyOf p; records-left = q; store-left = refl; out-left = refl })
+
+-- ---- a call that changes nothing
 
 -- the account changes nothing
 pub account-keeps : (c : Client) → accountOn c .client ≡ c
@@ -170,50 +149,3 @@ part-behind store at bs from n h e =
     (ap (λ (m : ℕ). drop m (overlay store at bs)) (sym gap) ∙ sym (drop-drop (from - (at + length bs)) (at + length bs) (overlay store at bs))
     ∙ ap (drop (from - (at + length bs))) (drop-overlay store at bs h)
     ∙ drop-drop (from - (at + length bs)) (at + length bs) store ∙ ap (λ (m : ℕ). drop m store) gap)
-
--- ---- a list of records that is filled from the front
-
-module _ {A : Type 0} where
-  pub fill-none : (d : List A) (v : A) → d ≡ replicate 0 v ++ drop 0 d
-  fill-none d v = refl
-
-  fill-suc : (n : ℕ) (v : A) (d : List A) → n < length d → set (replicate n v ++ drop n d) n v ≡ replicate (suc n) v ++ drop (suc n) d
-  fill-suc n v [] l = absurd (not-suc-le-zero l)
-  fill-suc zero v (x ∷ d) l = refl
-  fill-suc (suc n) v (x ∷ d) l = ap (λ (t : List A). v ∷ t) (fill-suc n v d (le-of-suc-le-suc l))
-
-  pub fill-more : (n : ℕ) (v : A) (d : List A) → n < length d → set (replicate n v ++ drop n d) n v ≡ replicate (n + 1) v ++ drop (n + 1) d
-  fill-more n v d l = subst (λ (k : ℕ). set (replicate n v ++ drop n d) n v ≡ replicate k v ++ drop k d) (sym (add-one n)) (fill-suc n v d l)
-
-  -- filled to the end, at the value w that v is
-  pub filled-all : (rs d : List A) (v w : A) {i : ℕ} → v ≡ w → rs ≡ replicate i v ++ drop i d → i ≤ length d → length d ≤ i
-      → rs ≡ replicate (length d) w
-  filled-all rs d v w {i} e p l m =
-      p
-      ∙ subst (λ (n : ℕ). replicate i v ++ drop i d ≡ replicate n w) (le-antisymm l m)
-      (ap (λ (t : List A). replicate i v ++ t) (drop-of-length-le d m) ∙ append-nil _ ∙ ap (replicate i) e)
-
--- the store after client k's share came back as y, as the code puts it there
-pub put-mid : (store y : List ℕ) (at n : ℕ) → length y ≡ n → putMid at (at + n - at) store y ≡ overlay store at y
-put-mid store y at n e =
-    let m : at + n - at ≡ length y = omega (arith, e) in
-    ap (λ (l : List ℕ). take at store ++ (y ++ l)) (drop-drop (at + n - at) at store ∙ ap (λ (m : ℕ). drop (at + m) store) m)
-
--- the client's own rules, on the share as the code cuts it out of the store
-pub offer-leaves : (k : ℕ) (o : Arrival) (bytes out : List ℕ) (t : Table) (step : Step) (share′ out′ : List ℕ) (r : Answer) (c : Client)
-    → sized (lentOf t) ≡ true → k < length (t .records)
-    → Left (fragmentOn (recordOf k t) (part (k * shareSize) (k * shareSize + shareSize - k * shareSize) (t .store)) out o bytes) step share′ out′
-    → length share′ ≡ length (part (k * shareSize) (k * shareSize + shareSize - k * shareSize) (t .store)) → r ≡ step .answer → c ≡ step .client
-    → Leaves (askOn k (offering o bytes out) t) r (set (t .records) k c)
-    (putMid (k * shareSize) (k * shareSize + shareSize - k * shareSize) (t .store) share′) out′
-offer-leaves k o bytes out t step share′ out′ r c e h l n p q =
-    let same : k * shareSize + shareSize - k * shareSize ≡ shareSize = omega arith in
-    let did : Left (fragmentOn (recordOf k t) (shareOf k t) out o bytes) step share′ out′ =
-    subst (λ (m : ℕ). Left (fragmentOn (recordOf k t) (part (k * shareSize) m (t .store)) out o bytes) step share′ out′) same l in
-    granted-leaves k (offering o bytes out) t r _ _ out′ e h
-    (record {
-      answers = ap replyOf p ∙ did .reply;
-      records-left = ap (set (t .records) k) (q ∙ did .client);
-      store-left = put-mid (t .store) share′ (k * shareSize) shareSize (n ∙ share-cut t k e h) ∙ ap (overlay (t .store) (k * shareSize)) (did .share-left);
-      out-left = did .out-left;
-    })

@@ -1,8 +1,11 @@
 pub mod ClientKind
 pub mod Lent
 pub mod Facts
+pub mod PutBack
+pub mod Apart
+pub mod Tests
 pub mod Steps
 pub mod Lists
-pub mod Isolation
 pub mod Demand3
 pub mod Corollaries
+pub mod Contracts

@@ -3,48 +3,28 @@
 -- Assumes nothing.
 use Prim.Native.Nat.{ℕ}
 use mathlib.Core.Path.{_≡_, refl, sym, ap, ap₂, subst, _∙_}
-use mathlib.Core.Bool.{Bool, true, false}
+use mathlib.Core.Bool.{Bool, true, false, not}
 use mathlib.Core.List.{List, [], _∷_}
 use lib.Dec.{eqb}
 use borrow.Author.Tests.{eqb-true}
 use Rattle.record.specs.Lists.{if}
 use Rattle.reassembly.specs.Answer.{refused, ready}
-use Rattle.ledger.specs.Book.{Book}
-use Rattle.ledger.specs.Lent.{Lent, sized, Own, answered, bookOf}
-use Rattle.ledger.specs.History.{Ask, Given}
-use Rattle.table.specs.Table.{Table, lentOf, resetOn, askOn}
-use Rattle.table.specs.Events.{
-  Lending,
-  current,
-  another,
-  Event,
-  resetting,
-  asking,
-  tableFor,
-  next,
-  final,
-  givenBy,
-  gives,
-  sizesFor,
-  ownCall,
-  sizesAfter,
-  pastAfter,
-  history,
-  givenIn,
-  resetOwes,
-  owes,
-  Keeps,
-}
+use Rattle.ledger.specs.Lent.{Own, answered, bookOf}
+use Rattle.ledger.specs.History.{Lent, Ask, Given}
+use Rattle.table.specs.Table.{Table, lentOf, sized, resetOn, askOn}
+use Rattle.table.specs.Events.{Lending, current, another, Event, resetting, asking, tableFor, next, final, givenBy, gives, Keeps}
+use Rattle.table.specs.Owed.{sizesFor, ownCall, sizesAfter, pastAfter, history, givenIn, resetOwes, owes}
 use Rattle.table.proofs.Facts.{reset-refused, reset-taken}
+use Rattle.table.proofs.Tests.{misfit-agrees}
 use Rattle.table.proofs.Steps.{Holds, call-answer, event-next}
 
 -- a set-up's answer
 pub reset-answer : (u : Table) → givenBy (resetOn u) ≡ resetOwes (lentOf u)
-reset-answer u = go (sized (lentOf u)) refl
+reset-answer u = go (sized (lentOf u)) refl ∙ ap (λ (x : Bool). record { reply = if x (refused 20) ready; out = [] }) (sym (misfit-agrees (lentOf u)))
   where
-    go : (x : Bool) → sized (lentOf u) ≡ x → givenBy (resetOn u) ≡ resetOwes (lentOf u)
-    go true e = ap givenBy (reset-taken u e) ∙ ap (λ (x : Bool). record { reply = if x ready (refused 20); out = [] }) (sym e)
-    go false e = ap givenBy (reset-refused u e) ∙ ap (λ (x : Bool). record { reply = if x ready (refused 20); out = [] }) (sym e)
+    go : (x : Bool) → sized (lentOf u) ≡ x → givenBy (resetOn u) ≡ record { reply = if (not (sized (lentOf u))) (refused 20) ready; out = [] }
+    go true e = ap givenBy (reset-taken u e) ∙ ap (λ (x : Bool). record { reply = if (not x) (refused 20) ready; out = [] }) (sym e)
+    go false e = ap givenBy (reset-refused u e) ∙ ap (λ (x : Bool). record { reply = if (not x) (refused 20) ready; out = [] }) (sym e)
 
 sizes-lent : (g : Lending) (t : Table) → lentOf (tableFor g t) ≡ sizesFor g (lentOf t)
 sizes-lent current t = refl

@@ -1,23 +1,24 @@
 -- Demand 3, as one claim over every list of calls.
-use Prim.Native.Nat.{ℕ, _+_, _<_}
+use Prim.Native.Nat.{ℕ, _<_}
 use mathlib.Core.Path.{_≡_}
 use mathlib.Core.Bool.{true}
 use mathlib.Core.List.{List, [], _∷_, _++_}
 use mathlib.Core.Logic.{_↔_}
 use lib.ListN.{length}
 use Rattle.octets.specs.Octets.{part}
-use Rattle.record.specs.declared.Client.{Client}
 use Rattle.reassembly.specs.declared.Arrival.{Arrival}
 use Rattle.reassembly.specs.Answer.{refused, delivered}
 use Rattle.reassembly.specs.Advance.{figures}
 use Rattle.ledger.specs.Book as Book
 use Rattle.ledger.specs.Book.{Book, Content, size}
-use Rattle.ledger.specs.Lent.{sized, bookOf}
+use Rattle.ledger.specs.Lent.{bookOf}
 use Rattle.ledger.specs.Stands.{offerOf}
 use Rattle.ledger.specs.History.{Ask, offering}
-use Rattle.ledger.specs.Whole.{Whole, Taken, assembled}
-use Rattle.table.specs.Table.{Table, lentOf, shareOf, recordOf, askOn}
-use Rattle.table.specs.Events.{Event, resetting, current, final, gives, history, owes, Keeps, ownOnly}
+use Rattle.ledger.specs.Whole.{Whole, handed, Taken, assembled}
+use Rattle.table.specs.Table.{Table, lentOf, sized, shareOf, recordOf, askOn}
+use Rattle.table.specs.Events.{Event, resetting, current, final, gives, Keeps, ownOnly}
+use Rattle.table.specs.Owed.{history, owes}
+use Rattle.table.specs.Apart.{Sums}
 
 -- the list opens with a set-up that is taken: the table has the sizes that 20 asks for, and the calls behind it keep the terms
 pub record Terms (t : Table) (es : List Event) : Type 0 where
@@ -36,10 +37,6 @@ tableAfter t es = final t (opening es)
 abbrev pub bookAfter : ℕ → Table → List Event → Book
 bookAfter k t es = bookOf (history k (lentOf t) [] (opening es))
 
--- "offered = held + delivered + expired + clashed + repeated + turned away"
-abbrev pub Sums : Client → Type 0
-Sums c = c .offered ≡ c .held + c .delivered + c .expired + c .conflicted + c .repeated + c .rejected
-
 pub record Demand3 : Type 0 where
   -- every answer and every byte of out is the book's
   pub answers : (t : Table) (es : List Event) → Terms t es → (k : ℕ) → gives k t (opening es) ≡ owes k (lentOf t) [] (opening es)
@@ -47,12 +44,15 @@ pub record Demand3 : Type 0 where
   pub accounts : (t : Table) (es : List Event) → Terms t es → (k : ℕ) → k < length (tableAfter t es .records)
       → figures (recordOf k (tableAfter t es)) ≡ Book.figures (bookAfter k t es)
   pub sum : (t : Table) (es : List Event) → Terms t es → (k : ℕ) → k < length (tableAfter t es .records) → Sums (recordOf k (tableAfter t es))
-  -- a datagram is handed out exactly when the fragment is taken and with it the client's open fragments of its key are whole; then the
-  -- bytes before its end are theirs, each at its place, and the rest of out is as it was
+  -- a datagram is handed out exactly when the fragment is taken and with it the client's open fragments of its key are whole
   pub delivery : (t : Table) (es : List Event) → Terms t es → (k : ℕ) (o : Arrival) (bytes out : List ℕ) (n r : ℕ)
       → (askOn k (offering o bytes out) (tableAfter t es) .reply ≡ delivered n r)
-      ↔ (Taken (lentOf (tableAfter t es)) k (offerOf o bytes) out (bookAfter k t es)
-      × Whole (assembled (offerOf o bytes) (bookAfter k t es)) out n r (askOn k (offering o bytes out) (tableAfter t es) .out))
+      ↔ (Taken (lentOf (tableAfter t es)) k (offerOf o bytes) (length out) (bookAfter k t es)
+      × Whole (assembled (offerOf o bytes) (bookAfter k t es)) n r)
+  -- then the bytes of out before n are theirs, and the rest of out is as it was
+  pub delivered-bytes : (t : Table) (es : List Event) → Terms t es → (k : ℕ) (o : Arrival) (bytes out : List ℕ) (n r : ℕ)
+      → askOn k (offering o bytes out) (tableAfter t es) .reply ≡ delivered n r
+      → askOn k (offering o bytes out) (tableAfter t es) .out ≡ handed (assembled (offerOf o bytes) (bookAfter k t es)) n out
   -- that is, the bytes of each of those fragments stand in out at its place
   pub placed : (t : Table) (es : List Event) → Terms t es → (k : ℕ) (o : Arrival) (bytes out : List ℕ) (n r : ℕ)
       → askOn k (offering o bytes out) (tableAfter t es) .reply ≡ delivered n r

@@ -1,16 +1,13 @@
--- Lists of calls over a table, and each client's own history in them (document 01, "The table", and its plain book). What an event does is
--- what the contracts of the four calls say: `resetOn` and `askOn`.
+-- Lists of calls over a table (document 01, "The table"): what an event does is what the contracts of the four calls say, `resetOn` and `askOn`.
+-- The books have no part in this; what they say of such a list stands in `Owed`.
 use Prim.Native.Nat.{ℕ}
 use mathlib.Core.Path.{_≡_}
 use mathlib.Core.Bool.{false}
-use mathlib.Core.List.{List, [], _∷_, _++_}
+use mathlib.Core.List.{List, [], _∷_}
 use lib.Dec.{eqb}
 use Rattle.record.specs.Lists.{if}
-use Rattle.reassembly.specs.Answer.{refused, ready}
-use Rattle.ledger.specs.Book.{Book, Result}
-use Rattle.ledger.specs.Lent.{Lent, sized, Own, answered, bookOf}
-use Rattle.ledger.specs.History.{Ask, Given, callOf}
-use Rattle.table.specs.Table.{Table, lentOf, After, resetOn, askOn}
+use Rattle.ledger.specs.History.{Ask, Given}
+use Rattle.table.specs.Table.{Table, lentOf, sized, After, resetOn, askOn}
 
 -- the table that a call is lent: the one that the calls before it left, or another
 pub data Lending : Type 0 where
@@ -47,45 +44,6 @@ gives k t [] = []
 gives k t (resetting g ∷ es) = givenBy (resetOn (tableFor g t)) ∷ gives k (next t (resetting g)) es
 gives k t (asking g j a ∷ es) =
     if (eqb j k) (givenBy (askOn j a (tableFor g t)) ∷ gives k (next t (asking g j a)) es) (gives k (next t (asking g j a)) es)
-
--- ---- what the books say: of the tables only their sizes, of the calls only the client's own
-
-abbrev pub sizesFor : Lending → Lent → Lent
-sizesFor current l = l
-sizesFor (another u) l = lentOf u
-
-abbrev pub ownCall : Lending → Lent → ℕ → Ask → Own
-ownCall g l k a = record { lent = sizesFor g l; client = k; call = callOf a }
-
--- the sizes of the current table after an event
-abbrev pub sizesAfter : Lent → Event → Lent
-sizesAfter l (resetting g) = if (sized (sizesFor g l)) (sizesFor g l) l
-sizesAfter l (asking g k a) = l
-
--- client k's history after an event: its calls since the last set-up taken
-abbrev pub pastAfter : ℕ → Lent → List Own → Event → List Own
-pastAfter k l past (resetting g) = if (sized (sizesFor g l)) [] past
-pastAfter k l past (asking g j a) = if (eqb j k) (past ++ ownCall g l k a ∷ []) past
-
-unfoldable pub history : ℕ → Lent → List Own → List Event → List Own
-history k l past [] = past
-history k l past (e ∷ es) = history k (sizesAfter l e) (pastAfter k l past e) es
-
-abbrev pub givenIn : Result → Given
-givenIn r = record { reply = r .reply; out = r .out }
-
--- a set-up is refused for the sizes of its table alone
-abbrev pub resetOwes : Lent → Given
-resetOwes l = record { reply = if (sized l) ready (refused 20); out = [] }
-
--- what client k's book answers and leaves in out, call by call
-unfoldable pub owes : ℕ → Lent → List Own → List Event → List Given
-owes k l past [] = []
-owes k l past (resetting g ∷ es) = resetOwes (sizesFor g l) ∷ owes k (sizesAfter l (resetting g)) (pastAfter k l past (resetting g)) es
-owes k l past (asking g j a ∷ es) =
-    if (eqb j k)
-    (givenIn (answered (ownCall g l k a) (bookOf past)) ∷ owes k l (pastAfter k l past (asking g j a)) es)
-    (owes k l (pastAfter k l past (asking g j a)) es)
 
 -- ---- the terms of a list
 

@@ -1,19 +1,19 @@
 -- The table (document 01, "The table"): what each of the four calls answers, and what it leaves of the records, the store and out.
 use Prim.Native.Nat.{ℕ, _*_}
 use mathlib.Core.Path.{_≡_}
-use mathlib.Core.Bool.{not}
+use mathlib.Core.Bool.{Bool, not, _&&_}
 use mathlib.Core.List.{List, [], _∷_}
 use mathlib.Core.Option.{Option, none, some}
+use lib.Dec.{leb, eqb}
 use lib.ListN.{length, getD, set, replicate}
 use Rattle.octets.specs.Octets.{part, overlay}
 use Rattle.record.specs.declared.Client.{Client}
-use Rattle.record.specs.Limits.{shareSize}
+use Rattle.record.specs.Limits.{shareSize, clientLimit}
 use Rattle.record.specs.Record.{freshClient}
 use Rattle.reassembly.specs.declared.Answer.{Answer}
 use Rattle.reassembly.specs.Answer.{Reply, refused, ready, replyOf, firstOf}
 use Rattle.reassembly.specs.Offer.{Outcome}
-use Rattle.ledger.specs.Lent.{Lent, sized, lentTests}
-use Rattle.ledger.specs.History.{Ask, offering, advancing, accounting, on}
+use Rattle.ledger.specs.History.{Lent, Ask, offering, advancing, accounting, on}
 
 -- "a lent slice of client records, one per client, beside a lent store"
 pub record Table : Type 0 where
@@ -22,6 +22,14 @@ pub record Table : Type 0 where
 
 abbrev pub lentOf : Table → Lent
 lentOf t = record { count = length (t .records); bytes = length (t .store) }
+
+-- "record count not 1 to 12, or store not 16,384 bytes for each" does not apply
+unfoldable pub sized : Lent → Bool
+sized l = leb 1 (l .count) && (leb (l .count) clientLimit && eqb (l .bytes) (l .count * shareSize))
+
+-- 20 and 21 in order; the book has tests of its own for them
+unfoldable pub askTests : Lent → ℕ → List (Bool × ℕ)
+askTests l k = (not (sized l), 20) ∷ (leb (l .count) k, 21) ∷ []
 
 -- "Client k's share of the store is bytes 16,384·k onward"
 abbrev pub shareOf : ℕ → Table → List ℕ
@@ -65,7 +73,7 @@ outLent accounting = []
 
 -- a call of client k: 20, 21, then the client's own rules on its record and share
 unfoldable pub askOn : ℕ → Ask → Table → After
-askOn k a t = refuseOr t (outLent a) (firstOf (lentTests (lentOf t) k)) (turned k (on (recordOf k t) (shareOf k t) a) t)
+askOn k a t = refuseOr t (outLent a) (firstOf (askTests (lentOf t) k)) (turned k (on (recordOf k t) (shareOf k t) a) t)
 
 -- ---- what the calls' contracts say: the answer in the paper's numbers and values, and all that was lent
 

@@ -8,9 +8,8 @@ use reassembly::Step;
 use record::Client;
 ghost use mathlib.Core.Path.{_≡_};
 ghost use mathlib.Core.List.{[]};
-ghost use Rattle.ledger.specs.Lent.{sized};
 ghost use Rattle.ledger.specs.History.{Ask, offering, advancing, accounting};
-ghost use Rattle.table.specs.Table.{tableOf, resetOn, askOn, Leaves};
+ghost use Rattle.table.specs.Table.{sized, tableOf, resetOn, askOn, Leaves};
 
 // Document 01's test for refusal 20: 1 to 12 records, and a share of the store for each.
 fn sized(count: usize, bytes: usize) -> bool

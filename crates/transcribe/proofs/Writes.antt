@@ -11,9 +11,8 @@ use lib.ListN.{length, take, drop, length-append, take-append-drop}
 use Rattle.octets.specs.Octets.{overlay}
 use Rattle.octets.proofs.Laws.{length-overlay, overlay-append}
 use Rattle.varint.specs.SevenBit.{encoded}
-use Rattle.varint.specs.Answer.{endOf, fits, placed, EncodedAt}
+use Rattle.varint.specs.Answer.{Answer, given, refused, tooSmall, encodedAnswer, endOf, fits, placed, EncodedAt}
 use Rattle.varint.specs.declared.Encoded.{Encoded}
-use Rattle.varint.specs.declared.Encoded.the-variants.{Next, Full}
 use Rattle.transcribe.specs.Listing.{WrittenAt}
 
 pub overlay-none : (buffer : List ℕ) (at : ℕ) → overlay buffer at [] ≡ buffer
@@ -37,11 +36,11 @@ written-both {a} {b} {buffer} {at} w v h =
 
 -- a number that fits
 pub written-number : {value : ℕ} {buffer : List ℕ} {at : ℕ} {answer : Encoded} {left : List ℕ} → EncodedAt value buffer at answer left
-    → at + length (encoded value) ≤ length buffer → (answer ≡ Next (at + length (encoded value))) × (left ≡ overlay buffer at (encoded value))
+    → at + length (encoded value) ≤ length buffer → (encodedAnswer answer ≡ given (at + length (encoded value))) × (left ≡ overlay buffer at (encoded value))
 unfolding fits endOf placed
 written-number {value} {buffer} {at} {answer} {left} e h =
     let there = le-leb (at + length (encoded value)) (length buffer) h in (
-      e .answered ∙ ap (λ t. cond t (Next (at + length (encoded value))) Full) there,
+      e .answered ∙ ap (λ t. cond t (given (at + length (encoded value))) (refused tooSmall)) there,
       e .written
           ∙ ap (λ t. cond t (take at buffer ++ encoded value ++ drop (at + length (encoded value)) buffer) buffer) there
           ∙ append-assoc (take at buffer) (encoded value) (drop (at + length (encoded value)) buffer),

@@ -8,6 +8,7 @@ use lib.Dec.{eqb, leb}
 use lib.ListN.{length, drop}
 use Rattle.octets.specs.Octets.{part, overlay}
 use Rattle.varint.specs.SevenBit.{encoded}
+pub use Rattle.varint.specs.Answer.{tooSmall}
 use Rattle.options.specs.Kinds.{apc}
 use Rattle.options.specs.Walk.{Item, Walked, listed, faulty}
 use Rattle.listing.specs.Shape.{shapeOf}
@@ -16,10 +17,6 @@ use Rattle.transcribe.specs.declared.Listed.{Listed}
 use Rattle.transcribe.specs.declared.Listed.the-variants.{Written, Full}
 use Rattle.transcribe.specs.declared.Content.{Content}
 use Rattle.transcribe.specs.declared.Content.the-variants.{Bare, One, Two, Raw}
-
--- "8 if too small"
-abbrev pub tooSmall : ℕ
-tooSmall = 8
 
 -- "APC has no field: the writer works it out"
 unfoldable pub unworked : Item → Item

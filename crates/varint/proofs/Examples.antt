@@ -5,21 +5,20 @@ use mathlib.Core.List.{[], _∷_, _++_}
 use Prim.Native.Nat.{_-_, _^_}
 use lib.ListN.{replicate}
 use Rattle.varint.specs.SevenBit.{isLast, isIdle, isNarrow, inFront, front, narrowed, number, groups, encoded, taken, untaken}
-use Rattle.varint.specs.Answer.{decodedAs, decodedAt, endOf, fits, placed}
-use Rattle.varint.specs.declared.Decoded.the-variants.{Number, Refused}
+use Rattle.varint.specs.Answer.{found, unfound, unreadable, decodedAs, decodedAt, endOf, fits, placed}
 
 -- figure 1: AC 02 is 300
-figure-1 : decodedAt (0x01 ∷ 0x06 ∷ 0xAC ∷ 0x02 ∷ []) 2 ≡ Number 300 4
+figure-1 : decodedAt (0x01 ∷ 0x06 ∷ 0xAC ∷ 0x02 ∷ []) 2 ≡ found 300 4
 unfolding isLast isIdle isNarrow inFront front narrowed number decodedAs decodedAt
 figure-1 = refl
 
 -- figure 8: 80 00 is not the shortest form of 0
-figure-8 : decodedAt (0x01 ∷ 0x06 ∷ 0x80 ∷ 0x00 ∷ []) 2 ≡ Refused 2
+figure-8 : decodedAt (0x01 ∷ 0x06 ∷ 0x80 ∷ 0x00 ∷ []) 2 ≡ unfound unreadable 2
 unfolding isLast isIdle isNarrow inFront front narrowed number decodedAs decodedAt
 figure-8 = refl
 
 -- a number that is cut short
-cut-short : decodedAt (0xAC ∷ []) 0 ≡ Refused 0
+cut-short : decodedAt (0xAC ∷ []) 0 ≡ unfound unreadable 0
 unfolding isLast isIdle isNarrow inFront front narrowed number decodedAs decodedAt
 cut-short = refl
 

@@ -7,8 +7,7 @@ use native.Mathlib.Omega.{arith}
 use lib.ListN.{length, take, drop, getD, length-drop}
 use lib.Seq.{length-take-le, drop-at}
 use Rattle.varint.specs.SevenBit.{Taken, taken, untaken, front, number, encoded}
-use Rattle.varint.specs.Answer.{decodedAs, decodedAt, endOf, placed}
-use Rattle.varint.specs.declared.Decoded.the-variants.{Number}
+use Rattle.varint.specs.Answer.{found, unfound, unreadable, decodedAs, decodedAt, endOf, placed}
 use Rattle.varint.proofs.Groups.{
   narrowed-only,
   number-reads,
@@ -69,7 +68,7 @@ encoded-bytes n i = groups-bytes 10 n i
 
 -- What was placed is read back where it was placed.
 pub read-back : (value : ℕ) (buffer : List ℕ) (at : ℕ) → value < 2 ^ 64 → endOf value at ≤ length buffer
-    → decodedAt (placed value buffer at) at ≡ Number value (endOf value at)
+    → decodedAt (placed value buffer at) at ≡ found value (endOf value at)
 unfolding decodedAt decodedAs placed endOf
 read-back value buffer at h f =
     let rest = drop (at + length (encoded value)) buffer in
@@ -78,12 +77,12 @@ read-back value buffer at h f =
     ap (λ (s : List ℕ). decodedAs at (number s)) e ∙ ap (decodedAs at) (decode-encode value rest h)
 
 -- A number that is answered is the one at the front of the bytes from `at`, and `next` is behind it.
-pub decoded-taken : (s : List ℕ) (at n next : ℕ) → decodedAt s at ≡ Number n next
+pub decoded-taken : (s : List ℕ) (at n next : ℕ) → decodedAt s at ≡ found n next
     → (w : ℕ) × (number (drop at s) ≡ taken n w) × (next ≡ at + w)
 unfolding decodedAt decodedAs
 decoded-taken s at n next e = go (number (drop at s)) e
   where
-    go : (t : Taken) → decodedAs at t ≡ Number n next → (w : ℕ) × (t ≡ taken n w) × (next ≡ at + w)
+    go : (t : Taken) → decodedAs at t ≡ found n next → (w : ℕ) × (t ≡ taken n w) × (next ≡ at + w)
     go untaken f = let z : _≡_ {A = ℕ} 0 1 = cc in absurd (omega arith)
     go (taken v w) f =
         let p : v ≡ n = cc in
@@ -91,7 +90,7 @@ decoded-taken s at n next e = go (number (drop at s)) e
         (w, ap (λ (m : ℕ). taken m w) p, q)
 
 -- So reading moves on, and never past the end.
-pub decoded-ahead : (s : List ℕ) (at n next : ℕ) → decodedAt s at ≡ Number n next → (at < next) × (next ≤ length s)
+pub decoded-ahead : (s : List ℕ) (at n next : ℕ) → decodedAt s at ≡ found n next → (at < next) × (next ≤ length s)
 decoded-ahead s at n next e =
     let d = decoded-taken s at n next e in
     omega (arith, taken-some (drop at s) n (d .0) (d .1), taken-within (drop at s) n (d .0) (d .1), length-drop at s)

@@ -12,8 +12,7 @@ use lib.ListN.{length, drop, getD, drop-of-length-le}
 use lib.Seq.{drop-cons}
 use borrow.Author.Tests.{ne-eqb}
 use Rattle.varint.specs.SevenBit.{Taken, taken, untaken, isIdle, inFront, front, narrowed, number}
-use Rattle.varint.specs.Answer.{decodedAs, decodedAt}
-use Rattle.varint.specs.declared.Decoded.the-variants.{Number, Refused}
+use Rattle.varint.specs.Answer.{found, unfound, unreadable, decodedAs, decodedAt}
 use Rattle.varint.proofs.Groups.{below-or-not, front-last, front-more, inFront-taken, narrowed-taken, narrowed-wide}
 use Rattle.varint.proofs.Room.{Room, room-whole, room-some, room-small, room-next}
 
@@ -87,21 +86,21 @@ module _ {s : List ℕ} {i g : ℕ} (byte : Byte s i g) where
 -- ---- the answers
 
 module _ (s : List ℕ) (at : ℕ) where
-  refused : number (drop at s) ≡ untaken → Refused at ≡ decodedAt s at
+  refused : number (drop at s) ≡ untaken → unfound unreadable at ≡ decodedAt s at
   unfolding decodedAt decodedAs
   refused e = ap (decodedAs at) (sym e)
 
-  answered : (v w : ℕ) → number (drop at s) ≡ taken v w → Number v (at + w) ≡ decodedAt s at
+  answered : (v w : ℕ) → number (drop at s) ≡ taken v w → found v (at + w) ≡ decodedAt s at
   unfolding decodedAt decodedAs
   answered v w e = ap (decodedAs at) (sym e)
 
   -- nothing stands at `at`
-  pub none-there : length s ≤ at → Refused at ≡ decodedAt s at
+  pub none-there : length s ≤ at → unfound unreadable at ≡ decodedAt s at
   unfolding number front narrowed
   none-there h = refused (ap number (drop-of-length-le s h))
 
 -- one group alone
-pub one-there : {s : List ℕ} {at g : ℕ} → Byte s at g → g < 128 → Number g (at + 1) ≡ decodedAt s at
+pub one-there : {s : List ℕ} {at g : ℕ} → Byte s at g → g < 128 → found g (at + 1) ≡ decodedAt s at
 unfolding number
 one-there {s} {at} {g} byte l = answered s at g 1 (ap narrowed (front-at-last byte l) ∙ narrowed-taken g 1 (omega arith))
 
@@ -131,7 +130,7 @@ module _ {s : List ℕ} {at value weight room i : ℕ} (p : Partly s at value we
   from-here t e = ap narrowed (p .reads ∙ ap (behind value weight (i - at)) e)
 
   -- the bytes end before the number does
-  pub partly-cut : length s ≤ i → Refused at ≡ decodedAt s at
+  pub partly-cut : length s ≤ i → unfound unreadable at ≡ decodedAt s at
   unfolding front behind narrowed
   partly-cut h = refused s at (from-here untaken (ap front (drop-of-length-le s h)))
 
@@ -155,12 +154,12 @@ module _ {s : List ℕ} {at value weight room i : ℕ} (p : Partly s at value we
         }
 
     -- a last group of 0
-    pub partly-idle : g ≡ 0 → Refused at ≡ decodedAt s at
+    pub partly-idle : g ≡ 0 → unfound unreadable at ≡ decodedAt s at
     unfolding behind narrowed isIdle
     partly-idle z = refused s at (from-here (taken 0 1) (front-at-last byte (omega arith) ∙ ap (λ (b : ℕ). taken b 1) z))
 
     -- past 64 bits
-    pub partly-wide : g < 256 → room ≤ g → Refused at ≡ decodedAt s at
+    pub partly-wide : g < 256 → room ≤ g → unfound unreadable at ≡ decodedAt s at
     partly-wide b r = refused s at (from-here _ refl ∙ too-wide (p .ahead) value (i - at) (front (drop i s)) least)
       where
         least : (v w : ℕ) → front (drop i s) ≡ taken v w → room ≤ v
@@ -171,9 +170,9 @@ module _ {s : List ℕ} {at value weight room i : ℕ} (p : Partly s at value we
             (below-or-not g 128)
 
     -- the last group
-    pub partly-last : 0 < g → g < 128 → g < room → Number (value + weight * g) (i + 1) ≡ decodedAt s at
+    pub partly-last : 0 < g → g < 128 → g < room → found (value + weight * g) (i + 1) ≡ decodedAt s at
     partly-last z l r =
         let k : i + 1 ≡ at + (i - at + 1) = omega (arith, p .begun) in
-        ap (Number (value + weight * g)) k
+        ap (found (value + weight * g)) k
         ∙ answered s at _ _
         (from-here _ (front-at-last byte l) ∙ ap narrowed (behind-taken value weight (i - at) g 1 z) ∙ narrowed-taken _ _ (partly-fits r))

@@ -11,13 +11,36 @@ use Rattle.varint.specs.declared.Decoded.the-variants.{Number, Refused}
 use Rattle.varint.specs.declared.Encoded.{Encoded}
 use Rattle.varint.specs.declared.Encoded.the-variants.{Next, Full}
 
--- A number that is taken ends where the next one begins; a refusal names where the number began.
-unfoldable pub decodedAs : ℕ → Taken → Decoded
-decodedAs at (taken value width) = Number value (at + width)
-decodedAs at untaken = Refused at
+-- A call gives what is asked, or refuses by a number of document 01.
+pub data Answer (A : Type 0) : Type 0 where
+  given : A → Answer A
+  refused : ℕ → Answer A
+
+-- "7 docket unreadable, a field too wide or bytes left over"
+abbrev pub unreadable : ℕ
+unreadable = 7
+
+-- "8 if too small"
+abbrev pub tooSmall : ℕ
+tooSmall = 8
+
+-- A number and the position behind it; or the refusal, and where the number began.
+pub data Decoding : Type 0 where
+  found : (value next : ℕ) → Decoding
+  unfound : (refusal at : ℕ) → Decoding
+
+-- The numbers of document 01 for what `decode` answers.
+abbrev pub decodingOf : Decoded → Decoding
+decodingOf (Number value next) = found value next
+decodingOf (Refused at) = unfound unreadable at
+
+-- A number that is taken ends where the next one begins.
+unfoldable pub decodedAs : ℕ → Taken → Decoding
+decodedAs at (taken value width) = found value (at + width)
+decodedAs at untaken = unfound unreadable at
 
 -- What `decode` answers: the number at the front of the bytes from `at`.
-unfoldable pub decodedAt : List ℕ → ℕ → Decoded
+unfoldable pub decodedAt : List ℕ → ℕ → Decoding
 decodedAt s at = decodedAs at (number (drop at s))
 
 -- the position behind the encoding of `value` at `at`
@@ -31,7 +54,12 @@ fits value buffer at = leb (endOf value at) (length buffer)
 unfoldable pub placed : ℕ → List ℕ → ℕ → List ℕ
 placed value buffer at = take at buffer ++ encoded value ++ drop (endOf value at) buffer
 
+-- The numbers of document 01 for what `encode` answers.
+abbrev pub encodedAnswer : Encoded → Answer ℕ
+encodedAnswer (Next next) = given next
+encodedAnswer Full = refused tooSmall
+
 -- What `encode` answers, and the buffer that it leaves: where the encoding does not fit, the one that it was lent.
 pub record EncodedAt (value : ℕ) (buffer : List ℕ) (at : ℕ) (answer : Encoded) (left : List ℕ) : Type 0 where
-  pub answered : answer ≡ cond (fits value buffer at) (Next (endOf value at)) Full
+  pub answered : encodedAnswer answer ≡ cond (fits value buffer at) (given (endOf value at)) (refused tooSmall)
   pub written : left ≡ cond (fits value buffer at) (placed value buffer at) buffer

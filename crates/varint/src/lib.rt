@@ -3,7 +3,7 @@
 ghost use mathlib.Core.Path.{_≡_};
 ghost use lib.ListN.{length};
 ghost use Rattle.varint.specs.SevenBit.{encoded};
-ghost use Rattle.varint.specs.Answer.{decodedAt, EncodedAt};
+ghost use Rattle.varint.specs.Answer.{decodingOf, decodedAt, EncodedAt};
 
 // 2^57: what stands behind the first group must be below it for the number to be within 64 bits.
 const SECOND_ROOM: u64 = 0x0200_0000_0000_0000;
@@ -23,7 +23,7 @@ pub enum Encoded {
 // The number that begins at `at`, if it is whole, within 64 bits and in its shortest form. After its first group, the
 // groups so far are worth `value`; those to come count `weight` each and must be worth less than `room`, 2^64 / weight.
 pub fn decode(bytes: &[u8], at: usize) -> Decoded
-    ensures { λ r. ⌜ r ≡ decodedAt (now (bytes .entry)) at ⌝ }
+    ensures { λ r. ⌜ decodingOf r ≡ decodedAt (now (bytes .entry)) at ⌝ }
 {
     if bytes.len() <= at {
         return Decoded::Refused { at };

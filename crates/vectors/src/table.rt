@@ -1,38 +1,18 @@
-// Tables of vectors. A record is a name, a blank, a length byte and so many bytes; the form of its table says what they are.
+// A table of vectors. A record is a name, a blank, a length byte and so many bytes; the name's first letter says what they are.
 use crate::numbers;
-use crate::print;
 ghost use Prim.Native.Nat.{_≤_, _<_};
 ghost use lib.ListN.{length};
 
-pub enum Form {
-    // A payload from 192.0.2.1 to 198.51.100.7.
-    Packet,
-    // Source, destination, a payload.
-    Between,
-    // A byte, a payload's size in two bytes, and the payload's front: the rest is that byte over and over.
-    Filled,
-    // The option start in two bytes, an original.
-    Original,
-    // The option start in two bytes, then as in `Filled`.
-    FilledOriginal,
-    // Bytes for CRC32c.
-    Crc,
-    // A running sum in two bytes, 1 where the rest stands at an odd offset, the bytes to be added.
-    Sum,
-    // Bytes to be decoded as a number.
-    Number,
-}
-
 // Prints a line for each record.
-pub fn run(form: Form, table: &[u8]) {
+pub fn run(table: &[u8]) {
     let mut at = 0;
     while at < table.len() {
-        at = record(form, table, at);
+        at = record(table, at);
     }
 }
 
-// Prints the line of the record at `at`. Answers where the next one stands.
-fn record(form: Form, table: &[u8], at: usize) -> usize
+// Prints the line of the record at `at`: its name, and what came out. Answers where the next one stands.
+fn record(table: &[u8], at: usize) -> usize
     requires { ⌜ at < length (now table) ⌝ }
     ensures { λ r. ⌜ (at < r) × (r ≤ length (now (table .entry))) ⌝ }
 {
@@ -46,9 +26,9 @@ fn record(form: Form, table: &[u8], at: usize) -> usize
         return table.len();
     }
     let end = from + size;
-    print::text(&table[at..gap]);
-    answer(form, &table[from..end]);
-    print::text(b"\n");
+    numbers::text(&table[at..gap]);
+    answer(table[at], &table[from..end]);
+    numbers::text(b"\n");
     end
 }
 
@@ -71,15 +51,13 @@ fn blank(table: &[u8], at: usize) -> usize
     i
 }
 
-fn answer(form: Form, bytes: &[u8]) {
-    match form {
-        Form::Packet => print::packet(bytes),
-        Form::Between => print::between(bytes),
-        Form::Filled => print::filled(bytes),
-        Form::Original => print::original(bytes),
-        Form::FilledOriginal => print::filled_original(bytes),
-        Form::Crc => numbers::crc(bytes),
-        Form::Sum => numbers::sum(bytes),
-        Form::Number => numbers::decoded(bytes, 0),
+// crc32c, sum, add-word, number, encoding
+fn answer(letter: u8, bytes: &[u8]) {
+    match letter {
+        b'c' => numbers::crc(bytes),
+        b's' => numbers::sum(bytes),
+        b'a' => numbers::words(bytes),
+        b'n' => numbers::decoded(bytes, 0),
+        _ => numbers::encoding(bytes),
     }
 }

@@ -2,7 +2,7 @@
 
 use reference as plain;
 use std::hint::black_box;
-use wuraketozo::{Arrival, Client, Flow, Table, ORIGINAL_LIMIT, SHARE};
+use wuraketozo::{Arrival, Client, Flow, Place, Table, ORIGINAL_LIMIT, SHARE};
 
 /// One side of a case. `prepare` is not timed; `run` does `calls` calls.
 pub trait Side {
@@ -230,9 +230,9 @@ impl Side for Library {
                             time: 1_000,
                             flow: FLOW,
                             identification: piece.identification,
-                            place: piece.place,
+                            place: Place(piece.place),
                             last: piece.last,
-                            option_start: 0,
+                            option_start: Place(0),
                         };
                         let bytes = &self.bytes[piece.place..piece.place + piece.length];
                         let answer = table.offer(client, black_box(&arrival), bytes, &mut self.out);

@@ -2,17 +2,18 @@
 //! forged records, and one call per datagram. After each call the answer,
 //! every record, the whole store and the whole out buffer are compared.
 
-use crate::convert::{answer, answer_word, client, flow, hex, reading, taken, Raw};
+use crate::convert::{answer, answer_word, flow, hex, reading, taken, Raw};
 use crate::counts::Counts;
 use crate::payloads::{same, same_bytes, Check};
+use crate::records::{bytes_of, patterned};
 use reference as plain;
 use reference::checksum;
 use reference::generate::{self, Ask, Call, Datagram, Lent, Random, World};
-use wuraketozo::{raw, Arrival, Client, Received, Table};
+use wuraketozo::{raw, Arrival, Client, Place, Received, Table};
 
 /// How a list's fragments reach the table.
 #[derive(Clone, Copy, PartialEq, Eq)]
-enum Way {
+pub enum Way {
     /// Offered as they are.
     Offered,
     /// As payloads, with other datagrams and damaged ones between them.
@@ -20,15 +21,16 @@ enum Way {
 }
 
 /// The reference's table, and the library's beside it.
-struct Pair {
-    plain: World,
+pub struct Pair {
+    pub plain: World,
     records: Vec<Client>,
     store: Vec<u8>,
 }
 
 impl Pair {
-    fn of(plain: World) -> Pair {
-        let records = plain.records.iter().map(client).collect();
+    pub fn of(plain: World) -> Pair {
+        let laid_out = |record| Client::from_bytes(bytes_of(record));
+        let records = plain.records.iter().map(laid_out).collect();
         let store = plain.store.clone();
         Pair {
             plain,
@@ -46,11 +48,13 @@ impl Pair {
         Pair::of(plain)
     }
 
-    /// Compares every record, field by field, and the whole store.
+    /// Compares every byte of every record, and the whole store.
     fn compare(&self, shown: &dyn Fn() -> String) -> Check {
         for (number, record) in self.plain.records.iter().enumerate() {
             let shown = || format!("{}\n  record {number}", shown());
-            same(&Some(&client(record)), &self.records.get(number), &shown)?;
+            let wanted = Client::from_bytes(bytes_of(record));
+            same(&Some(&wanted), &self.records.get(number), &shown)?;
+            same_bytes(&bytes_of(record), &self.records[number].to_bytes(), &shown)?;
         }
         let shown = || format!("{}\n  store", shown());
         same_bytes(&self.plain.store, &self.store, &shown)
@@ -107,6 +111,10 @@ fn forged(random: &mut Random, counts: &mut Counts, way: Way, most: usize) -> Re
     if random.one_in(4) {
         let number = random.below(clients);
         wild(random, &mut world.records[number]);
+    }
+    if random.one_in(8) {
+        let number = random.below(clients);
+        world.records[number] = patterned(random, &world.records[number]);
     }
     for record in &world.records {
         let sound = plain::record_test(record);
@@ -200,20 +208,20 @@ fn wild(random: &mut Random, record: &mut plain::Record) {
             6 => record.repeated = number,
             7 => record.turned_away = number,
             8 => assembly.opened = number,
-            9 => assembly.count = number as u8,
+            9 => assembly.count = number,
             10 => assembly.identification = number as u32,
             11 => assembly.flow.source_port = number as u16,
             12 => slot.offset = number as u16,
             13 => slot.length = number as u16,
             14 => slot.option_start = number as u16,
-            _ => slot.last = !slot.last,
+            _ => slot.last = number as u16,
         }
     }
 }
 
 /// Runs a call on both tables. The reference's answer, if it was a table
 /// call's.
-fn run(
+pub fn run(
     random: &mut Random,
     counts: &mut Counts,
     way: Way,
@@ -309,8 +317,8 @@ fn by_c(random: &mut Random, pair: &mut Pair, call: &Call, out: &mut [u8]) -> ra
                 time: *time,
                 flow: flow(key),
                 identification: *identification,
-                place: *place,
-                option_start: *r,
+                place: Place(*place),
+                option_start: Place(*r),
                 last: mark,
             };
             raw::offer(records, store, *client, fragment, bytes, out)
@@ -340,9 +348,9 @@ fn by_wrapper(pair: &mut Pair, call: &Call, out: &mut [u8]) -> raw::Answer {
                 time: *time,
                 flow: flow(key),
                 identification: *identification,
-                place: *place,
+                place: Place(*place),
                 last: *last,
-                option_start: *r,
+                option_start: Place(*r),
             };
             table.offer(*client, &arrival, bytes, out).raw()
         }

@@ -1,7 +1,7 @@
 //! The reference's values as the library's.
 
 use reference as plain;
-use wuraketozo::{raw, Account, Assembly, Client, Flow, Held};
+use wuraketozo::{raw, Account, Flow, Place};
 
 /// Bytes in hex. Of long ones the front: the seed gives the rest.
 pub fn hex(bytes: &[u8]) -> String {
@@ -29,6 +29,14 @@ fn verdict_number(verdict: &plain::Verdict) -> u32 {
     }
 }
 
+fn apc_number(apc: plain::Apc) -> u32 {
+    match apc {
+        plain::Apc::None => 0,
+        plain::Apc::Right => 1,
+        plain::Apc::Wrong => 2,
+    }
+}
+
 /// The C struct of a reading; all 0 but the number where it is refused.
 pub fn reading(result: &Result<plain::Reading, u32>) -> raw::Reading {
     let reading = match result {
@@ -42,46 +50,91 @@ pub fn reading(result: &Result<plain::Reading, u32>) -> raw::Reading {
     };
     let mut expected = raw::Reading {
         verdict: verdict_number(&reading.verdict),
-        user_from: reading.user.from,
-        user_to: reading.user.to,
-        options_from: reading.options_from,
-        options_to: reading.options_to,
+        user: raw::Extent {
+            from: reading.user.from,
+            to: reading.user.to,
+        },
+        options: raw::Extent {
+            from: reading.options_from,
+            to: reading.options_to,
+        },
         count: reading.count,
         fill: reading.fill,
-        apc: match reading.apc {
-            plain::Apc::None => 0,
-            plain::Apc::Right => 1,
-            plain::Apc::Wrong => 2,
-        },
+        apc: apc_number(reading.apc),
         ..raw::Reading::default()
     };
     if let plain::Verdict::Piece(fragment) = reading.verdict {
         expected.identification = fragment.identification;
-        expected.place = fragment.place;
-        expected.start = fragment.from;
-        expected.end = fragment.to;
-        expected.option_start = fragment.option_start;
+        expected.place = Place(fragment.place);
+        expected.part = raw::Extent {
+            from: fragment.from,
+            to: fragment.to,
+        };
+        expected.option_start = Place(fragment.option_start);
         expected.last = u32::from(fragment.last);
     }
     expected
 }
 
-/// A rereading has the fields of a reading.
-pub fn as_reading(rereading: &plain::Rereading) -> plain::Reading {
-    plain::Reading {
-        user: rereading.user,
-        verdict: rereading.verdict,
-        options_from: rereading.options_from,
-        options_to: rereading.options_to,
-        count: rereading.count,
-        fill: rereading.fill,
-        apc: rereading.apc,
+/// The C struct of a rereading.
+pub fn rereading(result: &Result<plain::Rereading, u32>) -> raw::Rereading {
+    match result {
+        Err(number) => raw::Rereading {
+            refusal: *number,
+            ..raw::Rereading::default()
+        },
+        Ok(rereading) => raw::Rereading {
+            refusal: 0,
+            verdict: verdict_number(&rereading.verdict),
+            user: raw::OriginalExtent {
+                from: Place(rereading.user.from),
+                to: Place(rereading.user.to),
+            },
+            options: raw::OriginalExtent {
+                from: Place(rereading.options_from),
+                to: Place(rereading.options_to),
+            },
+            count: rereading.count,
+            fill: rereading.fill,
+            apc: apc_number(rereading.apc),
+        },
     }
 }
 
 /// What the wrapper makes of a reading that was not refused.
 pub fn wrapped(reading: &plain::Reading) -> wuraketozo::Reading {
-    let verdict = match reading.verdict {
+    wuraketozo::Reading {
+        user: reading.user.from..reading.user.to,
+        verdict: wrapped_verdict(reading.verdict),
+        options: reading.options_from..reading.options_to,
+        count: reading.count,
+        fill: reading.fill,
+        apc: wrapped_apc(reading.apc),
+    }
+}
+
+/// And of a rereading.
+pub fn rewrapped(rereading: &plain::Rereading) -> wuraketozo::Rereading {
+    wuraketozo::Rereading {
+        user: Place(rereading.user.from)..Place(rereading.user.to),
+        verdict: wrapped_verdict(rereading.verdict),
+        options: Place(rereading.options_from)..Place(rereading.options_to),
+        count: rereading.count,
+        fill: rereading.fill,
+        apc: wrapped_apc(rereading.apc),
+    }
+}
+
+fn wrapped_apc(apc: plain::Apc) -> wuraketozo::Apc {
+    match apc {
+        plain::Apc::None => wuraketozo::Apc::None,
+        plain::Apc::Right => wuraketozo::Apc::Right,
+        plain::Apc::Wrong => wuraketozo::Apc::Wrong,
+    }
+}
+
+fn wrapped_verdict(verdict: plain::Verdict) -> wuraketozo::Verdict {
+    match verdict {
         plain::Verdict::None => wuraketozo::Verdict::Bare,
         plain::Verdict::Short => wuraketozo::Verdict::Short,
         plain::Verdict::Pad => wuraketozo::Verdict::Pad,
@@ -94,23 +147,11 @@ pub fn wrapped(reading: &plain::Reading) -> wuraketozo::Reading {
         plain::Verdict::Read => wuraketozo::Verdict::Read,
         plain::Verdict::Piece(fragment) => wuraketozo::Verdict::Piece(wuraketozo::Fragment {
             identification: fragment.identification,
-            place: fragment.place,
+            place: Place(fragment.place),
             bytes: fragment.from..fragment.to,
             last: fragment.last,
-            option_start: fragment.option_start,
+            option_start: Place(fragment.option_start),
         }),
-    };
-    wuraketozo::Reading {
-        user: reading.user.from..reading.user.to,
-        verdict,
-        options: reading.options_from..reading.options_to,
-        count: reading.count,
-        fill: reading.fill,
-        apc: match reading.apc {
-            plain::Apc::None => wuraketozo::Apc::None,
-            plain::Apc::Right => wuraketozo::Apc::Right,
-            plain::Apc::Wrong => wuraketozo::Apc::Wrong,
-        },
     }
 }
 
@@ -138,31 +179,6 @@ pub fn flow(flow: &plain::Flow) -> Flow {
     }
 }
 
-pub fn client(record: &plain::Record) -> Client {
-    Client {
-        time: record.time,
-        offered: record.offered,
-        held: record.held,
-        delivered: record.delivered,
-        expired: record.expired,
-        conflicted: record.clashed,
-        repeated: record.repeated,
-        rejected: record.turned_away,
-        assemblies: record.assemblies.map(|assembly| Assembly {
-            flow: flow(&assembly.flow),
-            identification: assembly.identification,
-            opened: assembly.opened,
-            count: assembly.count,
-            fragments: assembly.pieces.map(|slot| Held {
-                offset: slot.offset,
-                length: slot.length,
-                option_start: slot.option_start,
-                last: slot.last,
-            }),
-        }),
-    }
-}
-
 fn account(account: &plain::Account) -> Account {
     Account {
         offered: account.offered,
@@ -187,7 +203,7 @@ pub fn answer(answer: &plain::Answer) -> raw::Answer {
         plain::Answer::Delivered { t, r } => {
             expected.outcome = 5;
             expected.length = *t;
-            expected.option_start = *r;
+            expected.option_start = Place(*r);
         }
         plain::Answer::Clocked => expected.outcome = 6,
         plain::Answer::Billed(figures) => {

@@ -31,6 +31,7 @@ fn wanted() -> Vec<String> {
     add("receive", &["stored", "repeated", "conflict", "delivered"]);
     add("receive", &numbers);
     add("forged record", &["sound", "damaged"]);
+    add("record with one byte changed", &["sound", "damaged"]);
     names
 }
 

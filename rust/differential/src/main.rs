@@ -13,6 +13,7 @@ mod calls;
 mod convert;
 mod counts;
 mod payloads;
+mod records;
 
 use counts::Counts;
 use reference::generate::Random;
@@ -95,6 +96,7 @@ fn run(plan: &Plan, counts: &mut Counts) -> Result<(), String> {
     let start = Instant::now();
     let swept = if whole {
         calls::sweep(&mut random(seed, 0, 1), counts).map_err(told)?
+            + records::sweep(&mut random(seed, 0, 2), counts).map_err(told)?
     } else {
         0
     };

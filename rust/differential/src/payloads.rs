@@ -1,11 +1,11 @@
 //! Reading, rereading, listing and writing: the library against the
 //! reference, every field and every byte lent.
 
-use crate::convert::{as_reading, entry, hex, reading, wrapped};
+use crate::convert::{entry, hex, reading, rereading, rewrapped, wrapped};
 use crate::counts::Counts;
 use reference as plain;
 use reference::generate::{self, Datagram, Random};
-use wuraketozo::raw;
+use wuraketozo::{raw, Place};
 
 /// A difference, told in words.
 pub type Check = Result<(), String>;
@@ -162,16 +162,31 @@ fn read(random: &mut Random, counts: &mut Counts, datagram: &Datagram) -> Check 
         &wuraketozo::read(payload, *source, *destination).map_err(|refusal| refusal.number()),
         &shown,
     )?;
-    if let Ok(found) = expected {
-        listed(random, counts, payload, &found, &shown)?;
-    }
-    Ok(())
+    let Ok(found) = expected else {
+        return Ok(());
+    };
+    let options = raw::Extent {
+        from: found.options_from,
+        to: found.options_to,
+    };
+    let number = reading(&Ok(found)).verdict;
+    let ways = Ways {
+        plain: &|buffer| plain::list_options(payload, &found, buffer),
+        c: &|buffer| raw::list(payload, number, options, buffer),
+        wrapper: &|buffer| wuraketozo::list(payload, &wrapped(&found), buffer),
+        options: found
+            .options(payload)
+            .map(|option| entry(&option))
+            .collect(),
+        most: payload.len() + 200,
+    };
+    listed(random, counts, &ways, &shown)
 }
 
 /// The same for an original.
 fn reread(random: &mut Random, counts: &mut Counts, original: &[u8], option_start: usize) -> Check {
-    let expected = plain::reread(original, option_start).map(|rereading| as_reading(&rereading));
-    count_reading(counts, "reread", &expected);
+    let expected = plain::reread(original, option_start);
+    count_rereading(counts, &expected);
     let shown = || {
         format!(
             "reread, option start {option_start}, original {}",
@@ -179,49 +194,82 @@ fn reread(random: &mut Random, counts: &mut Counts, original: &[u8], option_star
         )
     };
     same(
-        &reading(&expected),
-        &raw::reread(original, option_start),
+        &rereading(&expected),
+        &raw::reread(original, Place(option_start)),
         &shown,
     )?;
     same(
-        &expected.map(|reading| wrapped(&reading)),
-        &wuraketozo::reread(original, option_start).map_err(|refusal| refusal.number()),
+        &expected.map(|found| rewrapped(&found)),
+        &wuraketozo::reread(original, Place(option_start)).map_err(|refusal| refusal.number()),
         &shown,
     )?;
-    if let Ok(found) = expected {
-        listed(random, counts, original, &found, &shown)?;
-    }
-    Ok(())
+    let Ok(found) = expected else {
+        return Ok(());
+    };
+    let options = raw::OriginalExtent {
+        from: Place(found.options_from),
+        to: Place(found.options_to),
+    };
+    let number = rereading(&Ok(found)).verdict;
+    let ways = Ways {
+        plain: &|buffer| plain::list_reread(original, &found, buffer),
+        c: &|buffer| raw::relist(original, number, options, buffer),
+        wrapper: &|buffer| wuraketozo::relist(original, &rewrapped(&found), buffer),
+        options: found
+            .options(original)
+            .map(|option| entry(&option))
+            .collect(),
+        most: original.len() + 200,
+    };
+    listed(random, counts, &ways, &shown)
 }
 
 fn count_reading(counts: &mut Counts, call: &str, expected: &Result<plain::Reading, u32>) {
     match expected {
         Err(number) => counts.add(call, &number.to_string()),
-        Ok(reading) => {
-            counts.add(call, reading.verdict.word());
-            counts.add(
-                call,
-                match reading.apc {
-                    plain::Apc::None => "APC none",
-                    plain::Apc::Right => "APC right",
-                    plain::Apc::Wrong => "APC wrong",
-                },
-            );
-        }
+        Ok(reading) => count_said(counts, call, &reading.verdict, reading.apc),
     }
 }
 
-/// The list of a reading, in a buffer that is too small, just right, or
+fn count_rereading(counts: &mut Counts, expected: &Result<plain::Rereading, u32>) {
+    match expected {
+        Err(number) => counts.add("reread", &number.to_string()),
+        Ok(rereading) => count_said(counts, "reread", &rereading.verdict, rereading.apc),
+    }
+}
+
+fn count_said(counts: &mut Counts, call: &str, verdict: &plain::Verdict, apc: plain::Apc) {
+    counts.add(call, verdict.word());
+    counts.add(
+        call,
+        match apc {
+            plain::Apc::None => "APC none",
+            plain::Apc::Right => "APC right",
+            plain::Apc::Wrong => "APC wrong",
+        },
+    );
+}
+
+/// How a reading or a rereading is listed: by the reference, by the C call
+/// and by the wrapper; the options in it, and a buffer's size that is enough.
+struct Ways<'a> {
+    plain: &'a dyn Fn(&mut [u8]) -> Result<plain::Listing, u32>,
+    c: &'a dyn Fn(&mut [u8]) -> raw::Listing,
+    wrapper: &'a dyn Fn(&mut [u8]) -> Result<wuraketozo::Listing, wuraketozo::Refusal>,
+    options: Vec<wuraketozo::Entry<'a>>,
+    most: usize,
+}
+
+/// The list of what was read, in a buffer that is too small, just right, or
 /// larger, and each option in it.
 fn listed(
     random: &mut Random,
     counts: &mut Counts,
-    bytes: &[u8],
-    found: &plain::Reading,
+    ways: &Ways,
     shown: &dyn Fn() -> String,
 ) -> Check {
-    let mut whole = vec![0; bytes.len() + 200];
-    let size = plain::list_options(bytes, found, &mut whole)
+    let mut whole = vec![0; ways.most];
+    let size = (ways.plain)(&mut whole)
         .map(|listing| listing.length)
         .map_err(|number| format!("{}: the reference lists {number}", shown()))?;
     let room = match random.below(5) {
@@ -233,7 +281,7 @@ fn listed(
     let before = random.byte();
     let mut left = vec![before; room];
     let mut right = left.clone();
-    let expected = plain::list_options(bytes, found, &mut left);
+    let expected = (ways.plain)(&mut left);
     let shown = || format!("{}, listed into {room} bytes of {before:02x}", shown());
     match expected {
         Ok(_) => counts.add("list", "taken"),
@@ -241,23 +289,15 @@ fn listed(
     }
     // By the C struct or by the wrapper.
     let answer = if random.one_in(2) {
-        raw::list(
-            bytes,
-            reading(&Ok(*found)).verdict,
-            found.options_from,
-            found.options_to,
-            &mut right,
-        )
+        (ways.c)(&mut right)
     } else {
-        as_raw(wuraketozo::list(bytes, &wrapped(found), &mut right))
+        as_raw((ways.wrapper)(&mut right))
     };
     same(&listing(&expected), &answer, &shown)?;
     same_bytes(&left, &right, &shown)?;
     if expected.is_ok() {
-        let options: Vec<wuraketozo::Entry> =
-            found.options(bytes).map(|option| entry(&option)).collect();
         let entries: Vec<wuraketozo::Entry> = wuraketozo::entries(&right).collect();
-        same(&options, &entries, &shown)?;
+        same(&ways.options, &entries, &shown)?;
     }
     Ok(())
 }
@@ -338,7 +378,13 @@ fn made_up(random: &mut Random, counts: &mut Counts, bytes: &[u8]) -> Check {
         Ok(_) => counts.add(call, "options"),
         Err(number) => counts.add(call, &number.to_string()),
     }
-    let answer = raw::list(bytes, verdict, from, to, &mut right);
+    // As a reading, or as a rereading.
+    let answer = if random.one_in(2) {
+        raw::list(bytes, verdict, raw::Extent { from, to }, &mut right)
+    } else {
+        let (from, to) = (Place(from), Place(to));
+        raw::relist(bytes, verdict, raw::OriginalExtent { from, to }, &mut right)
+    };
     let shown = || {
         format!(
             "list, verdict {verdict}, options {from} to {to}, {room} bytes of 77, of {}",

@@ -1098,7 +1098,7 @@ fn sound_pieces(random: &mut Random, assembly: &mut Assembly) {
             length: (1 + random.below(step)) as u16,
             // Ignored in a piece that is not last.
             option_start: random.pick(&[0, 0, 0, 9_999]),
-            last: false,
+            last: 0,
         };
         assembly.count += 1;
     }
@@ -1108,7 +1108,8 @@ fn sound_pieces(random: &mut Random, assembly: &mut Assembly) {
             .iter_mut()
             .max_by_key(|slot| slot.offset + slot.length);
         if let Some(slot) = furthest {
-            slot.last = true;
+            // Any number but 0 says last.
+            slot.last = random.pick(&[1, 1, 2, 255, 256, u16::MAX]);
             let end = slot.offset + slot.length;
             slot.option_start = random.pick(&[0, end, end / 2]);
         }
@@ -1165,7 +1166,7 @@ pub fn damage(random: &mut Random, record: &mut Record, way: usize) -> bool {
                 13 => assembly.flow.destination_port = 1,
                 14 => assembly.flow.source[0] = 1,
                 15 => assembly.pieces[PIECES - 1].offset = 1,
-                _ => assembly.pieces[0].last = true,
+                _ => assembly.pieces[0].last = random.pick(&[1, 2, 255, 256]),
             }
         }
         _ => {
@@ -1173,7 +1174,7 @@ pub fn damage(random: &mut Random, record: &mut Record, way: usize) -> bool {
                 return false;
             }
             let index = random.pick(&live);
-            let count = usize::from(record.assemblies[index].count);
+            let count = record.assemblies[index].filled();
             if way == 17 {
                 let Some(&other) = live.iter().find(|&&other| other != index) else {
                     return false;
@@ -1188,7 +1189,7 @@ pub fn damage(random: &mut Random, record: &mut Record, way: usize) -> bool {
             match way {
                 18 if time < u64::MAX => assembly.opened = time + 1,
                 19 if time >= LIFE => assembly.opened = time - LIFE,
-                20 => assembly.count = random.pick(&[17, 18, 255]),
+                20 => assembly.count = random.pick(&[17, 18, 255, 256, 272, u64::MAX]),
                 // One more piece that is empty, one less that is left behind.
                 21 if count < PIECES => assembly.count += 1,
                 22 => assembly.count -= 1,
@@ -1200,18 +1201,22 @@ pub fn damage(random: &mut Random, record: &mut Record, way: usize) -> bool {
                     assembly.pieces[slot].offset = assembly.pieces[other].offset;
                 }
                 27 => {
-                    let last = assembly.pieces[..count].iter().find(|slot| slot.last);
+                    let last = assembly.pieces[..count].iter().find(|slot| slot.is_last());
                     if last.is_none() || count == 1 {
                         return false;
                     }
-                    let other = assembly.pieces[..count].iter_mut().find(|slot| !slot.last);
+                    let other = assembly.pieces[..count]
+                        .iter_mut()
+                        .find(|slot| !slot.is_last());
                     if let Some(other) = other {
-                        other.last = true;
+                        other.last = random.pick(&[1, 2, 255]);
                         other.option_start = 0;
                     }
                 }
                 28 => {
-                    let last = assembly.pieces[..count].iter_mut().find(|slot| slot.last);
+                    let last = assembly.pieces[..count]
+                        .iter_mut()
+                        .find(|slot| slot.is_last());
                     let Some(last) = last else { return false };
                     last.option_start = last.offset + last.length + 1;
                 }
@@ -1221,7 +1226,7 @@ pub fn damage(random: &mut Random, record: &mut Record, way: usize) -> bool {
                         0 => slot.offset = 1,
                         1 => slot.length = 1,
                         2 => slot.option_start = 1,
-                        _ => slot.last = true,
+                        _ => slot.last = random.pick(&[1, 2, 255, 256]),
                     }
                 }
                 30 => {
@@ -1233,7 +1238,7 @@ pub fn damage(random: &mut Random, record: &mut Record, way: usize) -> bool {
                         offset: 0,
                         length: 1,
                         option_start: 0,
-                        last: true,
+                        last: 1,
                     };
                     record.held = record.held - before + 1;
                     record.turned_away += before - 1;
@@ -1288,11 +1293,11 @@ pub fn call_on(random: &mut Random, world: &World) -> Call {
 fn near_piece(random: &mut Random, world: &World, client: usize, time: u64) -> Ask {
     let index = random.below(ASSEMBLIES);
     let assembly = &world.records[client].assemblies[index];
-    let count = usize::from(assembly.count).min(PIECES);
+    let count = assembly.filled();
     let slot = assembly.pieces[random.below(count)];
     let mut place = usize::from(slot.offset).min(PLACE - 1);
     let mut end = (place + usize::from(slot.length).max(1)).min(PLACE);
-    let mut last = slot.last;
+    let mut last = slot.is_last();
     let mut r = usize::from(slot.option_start);
     match random.below(8) {
         0 => {
@@ -1343,14 +1348,14 @@ pub fn book_of(world: &World, client: usize) -> Book {
     book.turned_away = record.turned_away;
     for (index, assembly) in record.assemblies.iter().enumerate() {
         let start = client * SHARE + index * PLACE;
-        for slot in &assembly.pieces[..usize::from(assembly.count).min(PIECES)] {
+        for slot in &assembly.pieces[..assembly.filled()] {
             let from = start + usize::from(slot.offset);
             book.open.push(OpenPiece {
                 key: (assembly.flow, assembly.identification),
                 time: assembly.opened,
                 place: usize::from(slot.offset),
                 bytes: world.store[from..from + usize::from(slot.length)].to_vec(),
-                last: slot.last,
+                last: slot.is_last(),
                 r: usize::from(slot.option_start),
             });
         }

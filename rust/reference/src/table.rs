@@ -24,13 +24,14 @@ pub struct Flow {
     pub destination_port: u16,
 }
 
-/// One held piece. The option start counts only in a last piece.
+/// One held piece. It is last unless `last` is 0; the option start counts
+/// only in a last piece.
 #[derive(Clone, Copy, Debug, PartialEq, Eq, Default)]
 pub struct Slot {
     pub offset: u16,
     pub length: u16,
     pub option_start: u16,
-    pub last: bool,
+    pub last: u16,
 }
 
 /// One assembly; it is live if its count is not 0.
@@ -39,7 +40,7 @@ pub struct Assembly {
     pub flow: Flow,
     pub identification: u32,
     pub opened: u64,
-    pub count: u8,
+    pub count: u64,
     pub pieces: [Slot; PIECES],
 }
 
@@ -108,6 +109,10 @@ pub fn fresh() -> Record {
 }
 
 impl Slot {
+    pub fn is_last(&self) -> bool {
+        self.last != 0
+    }
+
     fn start(&self) -> usize {
         usize::from(self.offset)
     }
@@ -122,9 +127,14 @@ impl Assembly {
         self.count != 0
     }
 
-    /// The held pieces; all slots where a forged count is over 16.
+    /// How many pieces are held; all slots where a forged count is over 16.
+    pub fn filled(&self) -> usize {
+        usize::try_from(self.count).unwrap_or(PIECES).min(PIECES)
+    }
+
+    /// The held pieces.
     fn held(&self) -> &[Slot] {
-        &self.pieces[..usize::from(self.count).min(PIECES)]
+        &self.pieces[..self.filled()]
     }
 
     fn bytes(&self) -> u64 {
@@ -135,7 +145,7 @@ impl Assembly {
     }
 
     fn last(&self) -> Option<&Slot> {
-        self.held().iter().find(|piece| piece.last)
+        self.held().iter().find(|piece| piece.is_last())
     }
 
     fn has_key(&self, flow: &Flow, identification: u32) -> bool {
@@ -183,11 +193,10 @@ pub fn record_test(record: &Record) -> bool {
 
 /// The record test's part on one live assembly's pieces.
 fn pieces_test(assembly: &Assembly) -> bool {
-    let count = usize::from(assembly.count);
-    if count > PIECES {
+    if assembly.count > PIECES as u64 {
         return false;
     }
-    let (held, unused) = assembly.pieces.split_at(count);
+    let (held, unused) = assembly.pieces.split_at(assembly.filled());
     let mut total = 0;
     let mut furthest = 0;
     let mut last: Option<&Slot> = None;
@@ -203,7 +212,7 @@ fn pieces_test(assembly: &Assembly) -> bool {
         }
         total += usize::from(piece.length);
         furthest = furthest.max(piece.end());
-        if piece.last {
+        if piece.is_last() {
             if last.is_some() {
                 return false;
             }
@@ -355,7 +364,7 @@ pub fn piece(records: &mut [Record], store: &mut [u8], call: &PieceCall, out: &m
             *assembly = Assembly::default();
             return Answer::Clash;
         }
-        if usize::from(assembly.count) == PIECES {
+        if assembly.filled() == PIECES {
             record.turned_away += length;
             return Answer::Refused(30);
         }
@@ -366,11 +375,11 @@ pub fn piece(records: &mut [Record], store: &mut [u8], call: &PieceCall, out: &m
     }
 
     // The piece is stored, listed after the earlier ones.
-    assembly.pieces[usize::from(assembly.count)] = Slot {
+    assembly.pieces[assembly.filled()] = Slot {
         offset: call.place as u16,
         length: call.bytes.len() as u16,
         option_start: if call.last { call.r as u16 } else { 0 },
-        last: call.last,
+        last: u16::from(call.last),
     };
     assembly.count += 1;
     bytes[call.place..end].copy_from_slice(call.bytes);
@@ -398,7 +407,7 @@ fn repeats(assembly: &Assembly, call: &PieceCall, end: usize, bytes: &[u8]) -> b
     assembly.held().iter().any(|held| {
         held.start() == call.place
             && held.end() == end
-            && held.last == call.last
+            && held.is_last() == call.last
             && (!call.last || usize::from(held.option_start) == call.r)
             && bytes[call.place..end] == *call.bytes
     })
@@ -409,7 +418,7 @@ fn repeats(assembly: &Assembly, call: &PieceCall, end: usize, bytes: &[u8]) -> b
 fn clashes(assembly: &Assembly, call: &PieceCall, end: usize) -> bool {
     assembly.held().iter().any(|held| {
         (call.place < held.end() && held.start() < end)
-            || (held.last && (call.last || end > held.end()))
+            || (held.is_last() && (call.last || end > held.end()))
             || (call.last && end < held.end())
     })
 }

@@ -1,8 +1,8 @@
 //! Reads a datagram, puts a fragmented one together, and shows an account.
 
 use wuraketozo::{
-    entries, list, reread, write, Answer, Client, Entry, Flow, Reading, Received, Refusal, Table,
-    Value, ORIGINAL_LIMIT, SHARE,
+    entries, list, relist, reread, write, Answer, Apc, Client, Entry, Flow, Listing, Received,
+    Refusal, Table, Value, Verdict, ORIGINAL_LIMIT, SHARE,
 };
 
 const GAUGE: Flow = Flow {
@@ -21,20 +21,13 @@ fn show_option(option: &Entry) {
     }
 }
 
-/// Shows the user data of what was read, and the options.
-fn show(bytes: &[u8], reading: &Reading) -> Result<(), Refusal> {
-    let user = String::from_utf8_lossy(reading.user_data(bytes));
-    println!(
-        "\"{user}\", verdict {}, APC {:?}",
-        reading.verdict.word(),
-        reading.apc
-    );
-    let mut buffer = [0; 256];
-    let listing = list(bytes, reading, &mut buffer)?;
+/// Shows the user data of what was read, and the options in the buffer.
+fn show(user: &[u8], verdict: &Verdict, apc: Apc, buffer: &[u8], listing: Listing) {
+    let user = String::from_utf8_lossy(user);
+    println!("\"{user}\", verdict {}, APC {apc:?}", verdict.word());
     for option in entries(&buffer[..listing.size]) {
         show_option(&option);
     }
-    Ok(())
 }
 
 /// A fragment's payload without checksums, which IPv4 allows.
@@ -67,17 +60,25 @@ fn main() -> Result<(), Refusal> {
         fragment(6, b"413 cm\0\0\x06\x06\0\0\x01\x2d", Some(12)),
         fragment(0, b"level ", None),
     ];
+    let mut buffer = [0; 256];
     for (time, payload) in arrivals.iter().enumerate() {
         let time = time as u64;
         match table.receive(1, time, GAUGE.source, GAUGE.destination, payload, &mut out) {
             Received::Unread(refusal) => println!("{refusal}"),
-            Received::Datagram(reading) => show(payload, &reading)?,
+            Received::Datagram(reading) => {
+                let listing = list(payload, &reading, &mut buffer)?;
+                let user = reading.user_data(payload);
+                show(user, &reading.verdict, reading.apc, &buffer, listing);
+            }
             Received::Fragment(Ok(Answer::Delivered {
                 length,
                 option_start,
             })) => {
                 let original = &out[..length];
-                show(original, &reread(original, option_start)?)?;
+                let rereading = reread(original, option_start)?;
+                let listing = relist(original, &rereading, &mut buffer)?;
+                let user = rereading.user_data(original);
+                show(user, &rereading.verdict, rereading.apc, &buffer, listing);
             }
             Received::Fragment(other) => println!("fragment: {other:?}"),
         }

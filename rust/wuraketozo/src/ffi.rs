@@ -3,12 +3,11 @@
 //!
 //! What the header asks of a caller, and why every call here meets it:
 //! - pointers lead to as many bytes or records as the length says and are
-//!   not null: they come from slices, whose pointers are never null;
+//!   aligned: they come from slices;
 //! - what may be written does not overlap anything else that is lent, and no
-//!   other thread uses it: it comes from a `&mut`;
-//! - each `bool` in a record is 0 or 1: it is a Rust `bool`.
+//!   other thread uses it: it comes from a `&mut`.
 
-use crate::record::{Account, Client, Flow};
+use crate::record::{Account, Client, Flow, Place};
 use core::mem::{align_of, offset_of, size_of};
 
 #[repr(C)]
@@ -23,25 +22,51 @@ impl Address {
     }
 }
 
+/// `wuraketozo_extent`: bytes of a payload.
+#[repr(C)]
+#[derive(Clone, Copy, Debug, Default, PartialEq, Eq)]
+pub struct Extent {
+    pub from: usize,
+    pub to: usize,
+}
+
+/// `wuraketozo_original_extent`: bytes of an original.
+#[repr(C)]
+#[derive(Clone, Copy, Debug, Default, PartialEq, Eq)]
+pub struct OriginalExtent {
+    pub from: Place,
+    pub to: Place,
+}
+
 /// `wuraketozo_reading`
 #[repr(C)]
 #[derive(Clone, Copy, Debug, Default, PartialEq, Eq)]
 pub struct Reading {
     pub refusal: u32,
     pub verdict: u32,
-    pub user_from: usize,
-    pub user_to: usize,
-    pub options_from: usize,
-    pub options_to: usize,
+    pub user: Extent,
+    pub options: Extent,
     pub count: usize,
     pub fill: usize,
     pub apc: u32,
     pub identification: u32,
-    pub place: usize,
-    pub start: usize,
-    pub end: usize,
-    pub option_start: usize,
+    pub place: Place,
+    pub part: Extent,
+    pub option_start: Place,
     pub last: u32,
+}
+
+/// `wuraketozo_rereading`
+#[repr(C)]
+#[derive(Clone, Copy, Debug, Default, PartialEq, Eq)]
+pub struct Rereading {
+    pub refusal: u32,
+    pub verdict: u32,
+    pub user: OriginalExtent,
+    pub options: OriginalExtent,
+    pub count: usize,
+    pub fill: usize,
+    pub apc: u32,
 }
 
 /// `wuraketozo_listing`
@@ -68,7 +93,7 @@ pub struct Answer {
     pub refusal: u32,
     pub outcome: u32,
     pub length: usize,
-    pub option_start: usize,
+    pub option_start: Place,
     pub figures: Account,
 }
 
@@ -79,8 +104,8 @@ pub struct Fragment {
     pub time: u64,
     pub flow: Flow,
     pub identification: u32,
-    pub place: usize,
-    pub option_start: usize,
+    pub place: Place,
+    pub option_start: Place,
     pub last: u32,
 }
 
@@ -94,7 +119,10 @@ pub struct Received {
 }
 
 mod c {
-    use super::{Address, Answer, Client, Fragment, Listing, Reading, Received, Written};
+    use super::{
+        Address, Answer, Client, Extent, Fragment, Listing, OriginalExtent, Place, Reading,
+        Received, Rereading, Written,
+    };
 
     extern "C" {
         pub fn wuraketozo_read(
@@ -106,14 +134,21 @@ mod c {
         pub fn wuraketozo_reread(
             original: *const u8,
             length: usize,
-            option_start: usize,
-        ) -> Reading;
+            option_start: Place,
+        ) -> Rereading;
         pub fn wuraketozo_list(
-            bytes: *const u8,
+            payload: *const u8,
             length: usize,
             verdict: u32,
-            options_from: usize,
-            options_to: usize,
+            options: Extent,
+            buffer: *mut u8,
+            room: usize,
+        ) -> Listing;
+        pub fn wuraketozo_relist(
+            original: *const u8,
+            length: usize,
+            verdict: u32,
+            options: OriginalExtent,
             buffer: *mut u8,
             room: usize,
         ) -> Listing;
@@ -130,7 +165,7 @@ mod c {
             buffer: *mut u8,
             room: usize,
         ) -> Written;
-        pub fn wuraketozo_record_size() -> usize;
+        pub fn wuraketozo_layout_2() -> usize;
         pub fn wuraketozo_share_size() -> usize;
         pub fn wuraketozo_out_size() -> usize;
         pub fn wuraketozo_client_limit() -> usize;
@@ -184,6 +219,11 @@ mod c {
     }
 }
 
+/// A library of another layout has no symbol of this name, so that nothing
+/// that uses this crate links against it.
+#[used]
+static LAYOUT: unsafe extern "C" fn() -> usize = c::wuraketozo_layout_2;
+
 pub fn read(payload: &[u8], source: [u8; 4], destination: [u8; 4]) -> Reading {
     // SAFETY: see the head of this file.
     unsafe {
@@ -196,26 +236,38 @@ pub fn read(payload: &[u8], source: [u8; 4], destination: [u8; 4]) -> Reading {
     }
 }
 
-pub fn reread(original: &[u8], option_start: usize) -> Reading {
+pub fn reread(original: &[u8], option_start: Place) -> Rereading {
     // SAFETY: see the head of this file.
     unsafe { c::wuraketozo_reread(original.as_ptr(), original.len(), option_start) }
 }
 
-pub fn list(
-    bytes: &[u8],
+pub fn list(payload: &[u8], verdict: u32, options: Extent, buffer: &mut [u8]) -> Listing {
+    // SAFETY: see the head of this file.
+    unsafe {
+        c::wuraketozo_list(
+            payload.as_ptr(),
+            payload.len(),
+            verdict,
+            options,
+            buffer.as_mut_ptr(),
+            buffer.len(),
+        )
+    }
+}
+
+pub fn relist(
+    original: &[u8],
     verdict: u32,
-    options_from: usize,
-    options_to: usize,
+    options: OriginalExtent,
     buffer: &mut [u8],
 ) -> Listing {
     // SAFETY: see the head of this file.
     unsafe {
-        c::wuraketozo_list(
-            bytes.as_ptr(),
-            bytes.len(),
+        c::wuraketozo_relist(
+            original.as_ptr(),
+            original.len(),
             verdict,
-            options_from,
-            options_to,
+            options,
             buffer.as_mut_ptr(),
             buffer.len(),
         )
@@ -257,7 +309,7 @@ pub fn sizes() -> [usize; 4] {
     // SAFETY: these take nothing and touch nothing.
     unsafe {
         [
-            c::wuraketozo_record_size(),
+            c::wuraketozo_layout_2(),
             c::wuraketozo_share_size(),
             c::wuraketozo_out_size(),
             c::wuraketozo_client_limit(),
@@ -359,6 +411,27 @@ pub fn receive(
     }
 }
 
+/// The record's bytes as they lie in memory.
+pub fn record_bytes(record: &Client) -> [u8; size_of::<Client>()] {
+    // SAFETY: a record has no padding (`NO_GAP`), so each byte is a value.
+    unsafe { core::mem::transmute(*record) }
+}
+
+/// The record of these bytes.
+pub fn record_of(bytes: [u8; size_of::<Client>()]) -> Client {
+    // SAFETY: its fields are numbers, for which any bits are a value.
+    unsafe { core::mem::transmute(bytes) }
+}
+
+/// The fields of a record's structs leave no gap: their sizes sum to it.
+#[allow(dead_code)]
+const NO_GAP: () = {
+    assert!(size_of::<Flow>() == 4 + 4 + 2 + 2);
+    assert!(size_of::<Held>() == 2 + 2 + 2 + 2);
+    assert!(size_of::<Assembly>() == size_of::<Flow>() + 4 + 8 + 8 + 16 * size_of::<Held>());
+    assert!(size_of::<Client>() == 8 * 8 + 4 * size_of::<Assembly>());
+};
+
 /// A struct's name in C, its size, and where its fields stand.
 #[cfg(test)]
 type Layout = (&'static str, usize, &'static [(&'static str, usize)]);
@@ -387,15 +460,19 @@ layouts! {
     Flow "wuraketozo_flow" 12 2: source 0, destination 4, source_port 8, destination_port 10;
     Held "wuraketozo_held" 8 2: offset 0, length 2, option_start 4, last 6;
     Assembly "wuraketozo_assembly" 160 8:
-        flow 0, identification 12, opened 16, count 24, fragments 26;
+        flow 0, identification 12, opened 16, count 24, fragments 32;
     Client "wuraketozo_client" 704 8:
         time 0, offered 8, held 16, delivered 24, expired 32, conflicted 40, repeated 48,
         rejected 56, assemblies 64;
     Account "wuraketozo_figures" 56 8:
         offered 0, held 8, delivered 16, expired 24, conflicted 32, repeated 40, rejected 48;
+    Extent "wuraketozo_extent" 16 8: from 0, to 8;
+    OriginalExtent "wuraketozo_original_extent" 16 8: from 0, to 8;
     Reading "wuraketozo_reading" 104 8:
-        refusal 0, verdict 4, user_from 8, user_to 16, options_from 24, options_to 32, count 40,
-        fill 48, apc 56, identification 60, place 64, start 72, end 80, option_start 88, last 96;
+        refusal 0, verdict 4, user 8, options 24, count 40, fill 48, apc 56, identification 60,
+        place 64, part 72, option_start 88, last 96;
+    Rereading "wuraketozo_rereading" 64 8:
+        refusal 0, verdict 4, user 8, options 24, count 40, fill 48, apc 56;
     Listing "wuraketozo_listing" 24 8: refusal 0, size 8, fill 16;
     Written "wuraketozo_written" 16 8: refusal 0, size 8;
     Answer "wuraketozo_answer" 80 8:

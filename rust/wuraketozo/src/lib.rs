@@ -2,7 +2,7 @@
 //! RFC 9868: a reader, a writer, and reassembly for up to 12 clients that do
 //! not show in each other's accounts.
 //!
-//! Every call takes any input: what can't be taken is refused, and nothing
+//! Every call takes any input: what can't be taken is refused, and no input
 //! panics. What the library answers and what it leaves in each buffer and
 //! record is proved; this crate only passes it on.
 #![deny(unsafe_code)]
@@ -17,14 +17,17 @@ mod refusal;
 mod table;
 mod writing;
 
-pub use options::{entries, list, Entries, Entry, Listing, Value};
-pub use reading::{read, reread, Apc, Fragment, Reading, Verdict};
-pub use record::{Account, Assembly, Client, Flow, Held, CLIENT_LIMIT, ORIGINAL_LIMIT, SHARE};
+pub use options::{entries, list, relist, Entries, Entry, Listing, Value};
+pub use reading::{read, reread, Apc, Fragment, Reading, Rereading, Verdict};
+pub use record::{
+    Account, Assembly, Client, Flow, Held, Place, CLIENT_LIMIT, ORIGINAL_LIMIT, SHARE,
+};
 pub use refusal::Refusal;
 pub use table::{Answer, Arrival, Received, Table};
 pub use writing::write;
 
 /// Whether the library linked has the sizes that this crate was written for.
+/// A library of another layout does not link; [`Table::new`] asks this too.
 ///
 /// ```
 /// assert!(wuraketozo::fits());
@@ -38,7 +41,7 @@ pub fn fits() -> bool {
 #[cfg(feature = "raw")]
 pub mod raw {
     pub use crate::ffi::{
-        account, advance, list, offer, read, receive, reread, reset, write, Answer, Fragment,
-        Listing, Reading, Received, Written,
+        account, advance, list, offer, read, receive, relist, reread, reset, write, Answer, Extent,
+        Fragment, Listing, OriginalExtent, Reading, Received, Rereading, Written,
     };
 }

@@ -1,7 +1,7 @@
 //! Encoded option lists: listing a reading, and looking into a list.
 
 use crate::ffi;
-use crate::reading::Reading;
+use crate::reading::{Reading, Rereading};
 use crate::refusal::Refusal;
 
 /// What was listed.
@@ -14,16 +14,30 @@ pub struct Listing {
 }
 
 /// Lists the options of a reading as an encoded option list at the front of
-/// `buffer`; `bytes` is what was read. Refusal 8 leaves the buffer as it was.
-/// A reading that was made up gives a list without options where its range
-/// does not hold a sound option list.
+/// `buffer`; `payload` is what was read. Refusal 8 leaves the buffer as it
+/// was. A reading that was made up gives a list without options where its
+/// range does not hold a sound option list.
+pub fn list(payload: &[u8], reading: &Reading, buffer: &mut [u8]) -> Result<Listing, Refusal> {
+    let options = ffi::Extent {
+        from: reading.options.start,
+        to: reading.options.end,
+    };
+    listing(ffi::list(
+        payload,
+        reading.verdict.number(),
+        options,
+        buffer,
+    ))
+}
+
+/// Lists the options of a rereading in the same way.
 ///
 /// ```
-/// use wuraketozo::{entries, list, reread, Entry, Value};
+/// use wuraketozo::{entries, relist, reread, Entry, Place, Value};
 /// let original = [0, 0, 6, 6, 0, 0, 1, 0x2C, 0];
-/// let reading = reread(&original, 0)?;
+/// let rereading = reread(&original, Place(0))?;
 /// let mut buffer = [0; 64];
-/// let listing = list(&original, &reading, &mut buffer)?;
+/// let listing = relist(&original, &rereading, &mut buffer)?;
 /// assert_eq!(buffer[..listing.size], [1, 6, 0xAC, 2]);
 /// assert_eq!(listing.fill, 1);
 /// let mut options = entries(&buffer[..listing.size]);
@@ -31,14 +45,24 @@ pub struct Listing {
 /// assert_eq!(options.next(), None);
 /// # Ok::<(), wuraketozo::Refusal>(())
 /// ```
-pub fn list(bytes: &[u8], reading: &Reading, buffer: &mut [u8]) -> Result<Listing, Refusal> {
-    let raw = ffi::list(
-        bytes,
-        reading.verdict.number(),
-        reading.options.start,
-        reading.options.end,
+pub fn relist(
+    original: &[u8],
+    rereading: &Rereading,
+    buffer: &mut [u8],
+) -> Result<Listing, Refusal> {
+    let options = ffi::OriginalExtent {
+        from: rereading.options.start,
+        to: rereading.options.end,
+    };
+    listing(ffi::relist(
+        original,
+        rereading.verdict.number(),
+        options,
         buffer,
-    );
+    ))
+}
+
+fn listing(raw: ffi::Listing) -> Result<Listing, Refusal> {
     if raw.refusal != 0 {
         return Err(Refusal::of(raw.refusal));
     }
@@ -70,7 +94,7 @@ pub struct Entry<'a> {
     pub value: Value<'a>,
 }
 
-/// The options of a list that [`list`] wrote, in order. This is plain Rust
+/// The options of a list that [`list`] or [`relist`] wrote, in order. This is plain Rust
 /// for a host's convenience and not part of what is proved; it ends early at
 /// bytes that no list has.
 #[derive(Clone, Debug)]

@@ -1,6 +1,7 @@
 //! Reading a payload, or an original again.
 
 use crate::ffi;
+use crate::record::Place;
 use crate::refusal::Refusal;
 use core::ops::Range;
 
@@ -9,14 +10,14 @@ use core::ops::Range;
 pub struct Fragment {
     /// Which original it belongs to, within its flow.
     pub identification: u32,
-    /// Where it stands in the original, from the original's first user byte.
-    pub place: usize,
+    /// Where it stands in the original.
+    pub place: Place,
     /// Its bytes, in the payload that was read.
     pub bytes: Range<usize>,
     /// Whether it is the original's last.
     pub last: bool,
-    /// Of the last fragment: the place where the original's options start.
-    pub option_start: usize,
+    /// Of the last fragment: where the original's options start.
+    pub option_start: Place,
 }
 
 /// The verdict on the surplus area, which is what stands behind the user
@@ -82,8 +83,9 @@ impl Verdict {
         }
     }
 
-    fn of(raw: &ffi::Reading) -> Result<Verdict, Refusal> {
-        Ok(match raw.verdict {
+    /// The verdict of a number; a piece has the fragment.
+    fn of(number: u32, fragment: Option<Fragment>) -> Result<Verdict, Refusal> {
+        Ok(match number {
             0 => Verdict::Bare,
             1 => Verdict::Short,
             2 => Verdict::Pad,
@@ -94,13 +96,7 @@ impl Verdict {
             7 => Verdict::FragData,
             8 => Verdict::Crowded,
             9 => Verdict::Read,
-            10 => Verdict::Piece(Fragment {
-                identification: raw.identification,
-                place: raw.place,
-                bytes: raw.start..raw.end,
-                last: raw.last != 0,
-                option_start: raw.option_start,
-            }),
+            10 => Verdict::Piece(fragment.ok_or(Refusal::Unknown)?),
             _ => return Err(Refusal::Unknown),
         })
     }
@@ -117,8 +113,18 @@ pub enum Apc {
     Wrong,
 }
 
-/// A payload, or an original, that was not refused. The ranges count from
-/// the first byte of what was read.
+impl Apc {
+    fn of(number: u32) -> Result<Apc, Refusal> {
+        Ok(match number {
+            0 => Apc::None,
+            1 => Apc::Right,
+            2 => Apc::Wrong,
+            _ => return Err(Refusal::Unknown),
+        })
+    }
+}
+
+/// A payload that was not refused. The ranges are offsets in the payload.
 #[derive(Clone, Debug, PartialEq, Eq)]
 pub struct Reading {
     /// The user data.
@@ -136,27 +142,69 @@ pub struct Reading {
 }
 
 impl Reading {
-    /// The user data of the bytes that were read.
-    pub fn user_data<'a>(&self, bytes: &'a [u8]) -> &'a [u8] {
-        bytes.get(self.user.clone()).unwrap_or(&[])
+    /// The user data of the payload that was read.
+    pub fn user_data<'a>(&self, payload: &'a [u8]) -> &'a [u8] {
+        payload.get(self.user.clone()).unwrap_or(&[])
     }
 
     pub(crate) fn of(raw: ffi::Reading) -> Result<Reading, Refusal> {
         if raw.refusal != 0 {
             return Err(Refusal::of(raw.refusal));
         }
+        let fragment = Fragment {
+            identification: raw.identification,
+            place: raw.place,
+            bytes: raw.part.from..raw.part.to,
+            last: raw.last != 0,
+            option_start: raw.option_start,
+        };
         Ok(Reading {
-            user: raw.user_from..raw.user_to,
-            verdict: Verdict::of(&raw)?,
-            options: raw.options_from..raw.options_to,
+            user: raw.user.from..raw.user.to,
+            verdict: Verdict::of(raw.verdict, Some(fragment))?,
+            options: raw.options.from..raw.options.to,
             count: raw.count,
             fill: raw.fill,
-            apc: match raw.apc {
-                0 => Apc::None,
-                1 => Apc::Right,
-                2 => Apc::Wrong,
-                _ => return Err(Refusal::Unknown),
-            },
+            apc: Apc::of(raw.apc)?,
+        })
+    }
+}
+
+/// An original that was not refused. The ranges are places in the original;
+/// its verdict is never `Piece`.
+#[derive(Clone, Debug, PartialEq, Eq)]
+pub struct Rereading {
+    /// The user data.
+    pub user: Range<Place>,
+    /// The verdict on what stands behind it.
+    pub verdict: Verdict,
+    /// The option list with its fill, empty unless the verdict is `Read`.
+    pub options: Range<Place>,
+    /// Options in it.
+    pub count: usize,
+    /// Bytes from EOL to the end.
+    pub fill: usize,
+    /// What the APC options say.
+    pub apc: Apc,
+}
+
+impl Rereading {
+    /// The user data of the original that was read.
+    pub fn user_data<'a>(&self, original: &'a [u8]) -> &'a [u8] {
+        let Range { start, end } = self.user;
+        original.get(start.0..end.0).unwrap_or(&[])
+    }
+
+    fn of(raw: ffi::Rereading) -> Result<Rereading, Refusal> {
+        if raw.refusal != 0 {
+            return Err(Refusal::of(raw.refusal));
+        }
+        Ok(Rereading {
+            user: raw.user.from..raw.user.to,
+            verdict: Verdict::of(raw.verdict, None)?,
+            options: raw.options.from..raw.options.to,
+            count: raw.count,
+            fill: raw.fill,
+            apc: Apc::of(raw.apc)?,
         })
     }
 }
@@ -184,15 +232,16 @@ pub fn read(payload: &[u8], source: [u8; 4], destination: [u8; 4]) -> Result<Rea
 /// 2, 6 and 5; with 5 nothing of it is to be delivered.
 ///
 /// ```
-/// use wuraketozo::{reread, Refusal, Verdict};
+/// use wuraketozo::{reread, Place, Refusal, Verdict};
 /// // "ok", then the option checksum 0 (none) and REQ 300.
 /// let original = [b'o', b'k', 0, 0, 6, 6, 0, 0, 1, 0x2C];
-/// let reading = reread(&original, 2)?;
-/// assert_eq!(reading.user_data(&original), b"ok");
-/// assert_eq!(reading.verdict, Verdict::Read);
-/// assert_eq!(reread(&original, 11), Err(Refusal::OptionStartPastOriginal));
+/// let rereading = reread(&original, Place(2))?;
+/// assert_eq!(rereading.user_data(&original), b"ok");
+/// assert_eq!(rereading.verdict, Verdict::Read);
+/// let past = reread(&original, Place(11));
+/// assert_eq!(past, Err(Refusal::OptionStartPastOriginal));
 /// # Ok::<(), Refusal>(())
 /// ```
-pub fn reread(original: &[u8], option_start: usize) -> Result<Reading, Refusal> {
-    Reading::of(ffi::reread(original, option_start))
+pub fn reread(original: &[u8], option_start: Place) -> Result<Rereading, Refusal> {
+    Rereading::of(ffi::reread(original, option_start))
 }

@@ -8,6 +8,12 @@ pub const SHARE: usize = 16_384;
 /// The most clients of a table.
 pub const CLIENT_LIMIT: usize = 12;
 
+/// A place in an original: a count from its first user byte. An offset in a
+/// payload, which counts from the UDP header, is a plain number.
+#[repr(transparent)]
+#[derive(Clone, Copy, Debug, Default, PartialEq, Eq, PartialOrd, Ord, Hash)]
+pub struct Place(pub usize);
+
 /// Where a datagram comes from and goes to.
 #[repr(C)]
 #[derive(Clone, Copy, Debug, Default, PartialEq, Eq, Hash)]
@@ -32,8 +38,8 @@ pub struct Held {
     pub length: u16,
     /// Where the original's options start; counts only if it is the last.
     pub option_start: u16,
-    /// Whether it is the original's last.
-    pub last: bool,
+    /// Whether it is the original's last: 0 is no, any other number is yes.
+    pub last: u16,
 }
 
 /// An original that is being put together. It is live if its count is not 0.
@@ -47,13 +53,14 @@ pub struct Assembly {
     /// When its first fragment came, in ms.
     pub opened: u64,
     /// Fragments held.
-    pub count: u8,
+    pub count: u64,
     /// The first `count` of them are in use, in order of arrival.
     pub fragments: [Held; 16],
 }
 
 /// One client's record. `Client::default()` is a fresh one. A host need not
-/// look inside; a record with values that no call left is refused with 22
+/// look inside. Any bytes are a record, and one that fails document 01's
+/// record test is refused with 22
 /// ([`Refusal::UnsoundRecord`](crate::Refusal::UnsoundRecord)).
 #[repr(C)]
 #[derive(Clone, Copy, Debug, Default, PartialEq, Eq)]
@@ -76,6 +83,33 @@ pub struct Client {
     pub rejected: u64,
     /// What is being put together.
     pub assemblies: [Assembly; 4],
+}
+
+impl Client {
+    /// The bytes of a record. None of them is padding.
+    pub const SIZE: usize = core::mem::size_of::<Client>();
+
+    /// The record's bytes as they lie in memory, to be kept or shipped to a
+    /// host of the same kind.
+    pub fn to_bytes(&self) -> [u8; Client::SIZE] {
+        crate::ffi::record_bytes(self)
+    }
+
+    /// The record of these bytes; any bytes are one.
+    ///
+    /// ```
+    /// use wuraketozo::{Client, Refusal, Table, SHARE};
+    /// let mut records = [Client::from_bytes([0xFF; Client::SIZE])];
+    /// let mut store = vec![0; SHARE];
+    /// let mut table = Table::new(&mut records, &mut store);
+    /// assert_eq!(table.account(0), Err(Refusal::UnsoundRecord));
+    /// table.reset()?;
+    /// assert_eq!(table.records()[0].to_bytes(), [0; Client::SIZE]);
+    /// # Ok::<(), Refusal>(())
+    /// ```
+    pub fn from_bytes(bytes: [u8; Client::SIZE]) -> Client {
+        crate::ffi::record_of(bytes)
+    }
 }
 
 /// A client's account: what became of every byte it was offered.

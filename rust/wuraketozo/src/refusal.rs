@@ -57,7 +57,7 @@ refusals! {
     9 KindNotWritten "the encoded option list has a kind that is not to be written",
     20 TableMisfit "not 1 to 12 records, or not 16,384 bytes of store for each",
     21 NoSuchClient "there is no such client",
-    22 UnsoundRecord "the client's record holds values that no call left there",
+    22 UnsoundRecord "the client's record fails the record test",
     23 OutTooShort "the out buffer is under 4,096 bytes",
     24 EmptyFragment "the fragment has no bytes",
     25 EndPastLimit "the fragment ends past 4,096",

@@ -2,7 +2,7 @@
 
 use crate::ffi;
 use crate::reading::Reading;
-use crate::record::{Account, Client, Flow};
+use crate::record::{Account, Client, Flow, Place};
 use crate::refusal::Refusal;
 
 /// A fragment without its bytes, as it is offered to the table.
@@ -14,12 +14,12 @@ pub struct Arrival {
     pub flow: Flow,
     /// FRAG's identification.
     pub identification: u32,
-    /// Where it stands in the original, from the original's first user byte.
-    pub place: usize,
+    /// Where it stands in the original.
+    pub place: Place,
     /// Whether it is the original's last.
     pub last: bool,
     /// Where the original's options start; looked at only if it is the last.
-    pub option_start: usize,
+    pub option_start: Place,
 }
 
 /// What came of a fragment that was not refused.
@@ -36,7 +36,7 @@ pub enum Answer {
         /// Bytes of the original.
         length: usize,
         /// Where its options start, for [`reread`](crate::reread).
-        option_start: usize,
+        option_start: Place,
     },
 }
 
@@ -54,7 +54,7 @@ pub enum Received {
 /// A table of 1 to 12 clients over records and a store that the host lends.
 ///
 /// ```
-/// use wuraketozo::{Answer, Arrival, Client, Flow, Table, ORIGINAL_LIMIT, SHARE};
+/// use wuraketozo::{Answer, Arrival, Client, Flow, Place, Table, ORIGINAL_LIMIT, SHARE};
 /// let mut records = [Client::default(); 2];
 /// let mut store = vec![0; 2 * SHARE];
 /// let mut out = [0; ORIGINAL_LIMIT];
@@ -64,13 +64,13 @@ pub enum Received {
 ///     time: 0,
 ///     flow: Flow::default(),
 ///     identification: 7,
-///     place: 0,
+///     place: Place(0),
 ///     last: false,
-///     option_start: 0,
+///     option_start: Place(0),
 /// };
-/// let last = Arrival { place: 8, last: true, option_start: 12, ..first };
+/// let last = Arrival { place: Place(8), last: true, option_start: Place(12), ..first };
 /// assert_eq!(table.offer(1, &last, b"cm\r\n", &mut out)?, Answer::Stored);
-/// let delivered = Answer::Delivered { length: 12, option_start: 12 };
+/// let delivered = Answer::Delivered { length: 12, option_start: Place(12) };
 /// assert_eq!(table.offer(1, &first, b"level 41", &mut out)?, delivered);
 /// assert_eq!(&out[..12], b"level 41cm\r\n");
 /// assert_eq!(table.account(1)?.delivered, 12);
@@ -86,7 +86,14 @@ pub struct Table<'a> {
 impl<'a> Table<'a> {
     /// A table over these. Lengths that do not fit are refused with 20 by
     /// each call.
+    ///
+    /// # Panics
+    ///
+    /// If the library linked has other sizes than this crate ([`fits`]
+    /// (crate::fits)): a record of another size would be read and written past
+    /// its end. No input brings that about.
     pub fn new(records: &'a mut [Client], store: &'a mut [u8]) -> Table<'a> {
+        assert!(crate::fits(), "the library linked has another layout");
         Table { records, store }
     }
 

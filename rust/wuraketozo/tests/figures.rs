@@ -64,9 +64,9 @@ impl One {
             time,
             flow: FLOW,
             identification,
-            place,
+            place: Place(place),
             last,
-            option_start: 0,
+            option_start: Place(0),
         };
         let mut table = Table::new(&mut self.records, &mut self.store);
         table.offer(0, &arrival, bytes, &mut self.out)
@@ -110,7 +110,7 @@ fn figure_8_list_not_in_shortest_form() {
 fn figure_9_either_order() {
     let delivered = Ok(Answer::Delivered {
         length: 12,
-        option_start: 0,
+        option_start: Place(0),
     });
     let mut one = One::new();
     assert_eq!(one.offer(0, 7, 0, b"01234567", false), Ok(Answer::Stored));
@@ -225,7 +225,7 @@ fn one_call_for_each_datagram() {
     assert_eq!(receive(&last), Received::Fragment(Ok(Answer::Repeated)));
     let delivered = Answer::Delivered {
         length: 12,
-        option_start: 12,
+        option_start: Place(12),
     };
     assert_eq!(receive(&first), Received::Fragment(Ok(delivered)));
     assert_eq!(
@@ -245,7 +245,7 @@ fn empty_slices_and_misfits_are_refused() {
         read(&[], FLOW.source, FLOW.destination),
         Err(Refusal::PayloadTooShort)
     );
-    assert_eq!(reread(&[], 0).unwrap().verdict, Verdict::Bare);
+    assert_eq!(reread(&[], Place(0)).unwrap().verdict, Verdict::Bare);
     let empty = write(&FLOW, &[], &[], 0, &mut []);
     assert_eq!(empty, Err(Refusal::UnreadableList));
     let mut table = Table::new(&mut [], &mut []);

@@ -23,7 +23,7 @@ returns : tie.Need-returns
 returns c =
     let p = c .before .before .before in
     let a = p .before .before .before .before .before .args in
-    lists (a .bytes .now) (a .verdict) (a .options-from) (a .options-to) (p .before .before .reading-for .ensures) (p .list-reading .ensures) (c .listing-of .ensures)
+    lists (a .payload .now) (a .verdict) (a .options) (p .before .before .reading-for .ensures) (p .list-reading .ensures) (c .listing-of .ensures)
 
 pub wuraketozo-list-spec : {M : Type 1} → statement M
 wuraketozo-list-spec =

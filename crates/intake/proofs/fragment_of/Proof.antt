@@ -4,6 +4,7 @@ use Rattle.reassembly.specs.declared.Arrival.{Arrival}
 use Rattle.reassembly.specs.Offer.{fragmentOf}
 use Rattle.record.specs.Lists.{if}
 use Rattle.record.specs.Limits.{datagramLimit}
+use Rattle.record.specs.Record.{markOf}
 use Rattle.record.specs.declared.Fragment.{Fragment}
 use borrow.Author.Tests.{ltb-false}
 use lib.Dec.{ltb}
@@ -15,7 +16,7 @@ use Rattle.intake.proofs.fragment_of.Statement.{statement}
 use Rattle.intake.proofs.fragment_of.Tie as tie
 
 marked : Arrival → ℕ → Bool → Fragment
-marked o n b = record { offset = o .offset .0; length = n; «option_start» = if b (o .«option_start» .0) 0; last = b }
+marked o n b = record { offset = o .offset .0; length = n; «option_start» = if b (o .«option_start» .0) 0; last = markOf b }
 
 cast-offset : tie.Need-cast-offset
 unfolding datagramLimit

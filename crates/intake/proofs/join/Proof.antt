@@ -10,7 +10,8 @@ use Rattle.record.specs.declared.Fragment.{Fragment}
 use Rattle.record.specs.declared.Assembly.{Assembly}
 use Rattle.record.specs.Limits.{datagramLimit, fragmentLimit, assemblyLimit, shareSize}
 use Rattle.record.specs.Record.{end, lastOf, whole, heldFragments}
-use Rattle.record.proofs.Lists.{front-below, unmapped}
+use Rattle.record.proofs.Lists.{front-below}
+use Rattle.record.proofs.Shapes.{slots}
 use Rattle.reassembly.specs.Answer.{stored, delivered}
 use Rattle.reassembly.specs.Offer.{Outcome, leaving, added, storing, base, handedOut, joined}
 use Rattle.reassembly.proofs.Joins.{added-within}
@@ -37,7 +38,7 @@ end-is c = c .end-of .ensures ∙ ap end (last-is (c .before .before))
 
 slots-of : (c : tie.Start) → length (c .args .a .fragments) ≡ fragmentLimit
 unfolding fragmentLimit
-slots-of c = unmapped _ (c .args .a .fragments) fragmentLimit (c .good .1 .1 .1 .1 .0 .1 .1 .1 .1 .1 .1 .0 .1 .0 .1)
+slots-of c = slots (c .args .a) _ (c .good .1 .1 .1 .1 .0)
 
 within : (c : tie.After-end-of) → c .end-of .result ≤ datagramLimit
 within c =

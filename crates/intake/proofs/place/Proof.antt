@@ -16,7 +16,7 @@ use Rattle.intake.proofs.place.Tie as tie
 
 -- the function's entry, from the place where the fragment is to be stored
 start-of : tie.Else3 → tie.Start
-start-of c = c .before .before .before .before .before .before .before .before .before .before .before .before .before .before
+start-of c = c .before .before .before .before .before .before .before .before .before .before .before .before .before
 
 -- the test of a repeat is the definition's
 repeat-is : (c : tie.After-repeats) → let x = c .before .before .before .before .before .before .before .before .before .args in
@@ -95,9 +95,6 @@ returns-2 c =
     (sym (c .before .before .conflicts-any .ensures) ∙ c .before .if2 .taken))
     (record { client = c .conflicting .ensures; reply = refl; share-left = refl; out-left = refl })
 
-cast-count : tie.Need-cast-count
-cast-count c = search needs
-
 rejecting-requires : tie.Need-rejecting-requires
 rejecting-requires c κs = search needs
 
@@ -107,7 +104,7 @@ same-length-3 c = search needs
 returns-3 : tie.Need-returns-3
 unfolding isConflict isFull fragmentLimit
 returns-3 c =
-    let k = c .before .before .before in
+    let k = c .before .before in
     let t = k .before .before in
     let r = t .before in
     let x = r .before .before .before .before .before .before .before .before .before .args in
@@ -146,7 +143,7 @@ unfolding isConflict isFull fragmentLimit startOf base datagramLimit
 returns-4 c =
     let copied = c .before .before .before .before .before .before .before in
     let free = copied .before .before in
-    let k = free .before .before in
+    let k = free .before in
     let t = k .before .before in
     let r = t .before in
     let x = r .before .before .before .before .before .before .before .before .before .args in
@@ -177,7 +174,6 @@ place-spec =
     conflicting-requires
     same-length-2
     returns-2
-    cast-count
     rejecting-requires
     same-length-3
     returns-3

@@ -9,7 +9,7 @@ use Rattle.record.specs.declared.Fragment.{Fragment}
 use Rattle.record.specs.declared.Assembly.{Assembly}
 use Rattle.record.specs.Limits.{assemblyLimit}
 use Rattle.record.specs.Record.{end}
-use Rattle.record.proofs.Lists.{unmapped}
+use Rattle.record.proofs.Shapes.{places}
 use Rattle.reassembly.specs.Offer.{fragmentOf, placeFor, assemblyFor, placed}
 use Rattle.reassembly.specs.Post.{Room}
 use Rattle.reassembly.proofs.Fates.{left-of, taken-rejected, taken-placed}
@@ -22,7 +22,7 @@ use Rattle.intake.proofs.take.Tie as tie
 -- the record has all its places
 places-of : (c : tie.Start) → length (c .args .c .assemblies) ≡ assemblyLimit
 unfolding assemblyLimit
-places-of c = unmapped _ (c .args .c .assemblies) assemblyLimit (c .good .0 .1 .1 .1 .1 .1 .1 .1 .1 .1 .1 .0 .1 .0 .1)
+places-of c = places (c .args .c) _ (c .good .0)
 
 -- the place is one of them where it is not past them
 place-within : (c : tie.Else1) → c .before .place-for .result < assemblyLimit

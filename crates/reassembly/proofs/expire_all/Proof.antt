@@ -1,6 +1,6 @@
 -- `reassembly::expire_all` meets its contract: the loop's invariant says that the first `i` places are replaced (`mapped-next`).
 -- Assumes nothing.
-use Rattle.record.proofs.Lists.{unmapped}
+use Rattle.record.proofs.Shapes.{places}
 use Rattle.reassembly.proofs.Laws.{front-mapped, mapped-next, mapped-all}
 use Rattle.reassembly.specs.Advance.{expire}
 use Rattle.record.specs.Limits.{assemblyLimit}
@@ -22,7 +22,7 @@ abbrev μ-loop : tie.MeasureT-loop
 
 loop-holds : tie.Need-loop-holds Inv-loop μ-loop
 unfolding assemblyLimit
-loop-holds c = (refl, search needs, unmapped _ (c .before .args .t1 .assemblies) assemblyLimit (c .before .good .0 .1 .1 .1 .1 .1 .1 .1 .1 .1 .1 .0 .1 .0 .1))
+loop-holds c = (refl, search needs, places (c .before .args .t1) _ (c .before .good .0))
 
 mul-a : tie.Need-mul-a Inv-loop μ-loop
 unfolding assemblyLimit

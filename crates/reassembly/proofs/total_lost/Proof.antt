@@ -1,6 +1,7 @@
 -- `reassembly::total_lost` meets its contract: the loop's invariant says that `total` is the sum over the first `i` assemblies (`sum-next`), each below 2 ^ 32.
 -- Assumes nothing.
-use Rattle.record.proofs.Lists.{sum-next, unmapped}
+use Rattle.record.proofs.Shapes.{places}
+use Rattle.record.proofs.Lists.{sum-next}
 use Rattle.reassembly.specs.Advance.{lost}
 use Rattle.record.specs.Lists.{sum}
 use Rattle.record.specs.Limits.{assemblyLimit}
@@ -22,7 +23,7 @@ abbrev μ-loop : tie.MeasureT-loop
 
 loop-holds : tie.Need-loop-holds Inv-loop μ-loop
 unfolding sum assemblyLimit
-loop-holds c = (refl, search needs, search needs, unmapped _ (c .args .t1 .assemblies) assemblyLimit (c .good .0 .1 .1 .1 .1 .1 .1 .1 .1 .1 .1 .0 .1 .0 .1))
+loop-holds c = (refl, search needs, search needs, places (c .args .t1) _ (c .good .0))
 
 mul-a : tie.Need-mul-a Inv-loop μ-loop
 unfolding assemblyLimit

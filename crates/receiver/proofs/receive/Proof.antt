@@ -48,35 +48,21 @@ arrival-of-requires : tie.Need-arrival-of-requires
 unfolding start
 arrival-of-requires c κs = found (c .before) .header
 
-start-of-requires : tie.Need-start-of-requires
-start-of-requires c κs = search needs
-
-end-of-requires : tie.Need-end-of-requires
-end-of-requires c κs = search needs
-
 -- the fragment's bytes lie in the payload
-ends : tie.After-offer-arg2 → tie.After-end-of
-ends c = c .before .before
-
-bounds : (c : tie.After-end-of)
-    → (c .before .start-of .result ≤ c .end-of .result)
-    × (c .end-of .result ≡ length (start (c .before .before .before .before .before .before .before) .args .payload .now))
+bounds : (c : tie.After-arrival-of) → let f = c .before .before .piece .given .0 .0 in
+    (f .start .0 ≤ f .end .0) × (f .end .0 ≡ length (start (c .before .before .before .before .before) .args .payload .now))
 unfolding start
-bounds c =
-    let w = found (c .before .before .before .before) .within in
-    (omega (arith, c .before .start-of .ensures, c .end-of .ensures, w .starts, w .ends), c .end-of .ensures ∙ w .ends)
+bounds c = let w = found (c .before .before) .within in (omega (arith, w .starts, w .ends), w .ends)
 
 sub-offer : tie.Need-sub-offer
-unfolding ends
-sub-offer c = bounds (ends c) .0
+sub-offer c = bounds (c .before .before) .0
 
 part-offer-start : tie.Need-part-offer-start
-unfolding ends
-part-offer-start c = bounds (ends c) .0
+part-offer-start c = bounds (c .before .before) .0
 
 part-offer-end : tie.Need-part-offer-end
-unfolding ends start
-part-offer-end c = let h = bounds (ends c) .1 in omega (arith, h)
+unfolding start
+part-offer-end c = let h = bounds (c .before .before) .1 in omega (arith, h)
 
 offer-requires : tie.Need-offer-requires
 offer-requires c κs = search needs
@@ -105,15 +91,14 @@ returns-2 : tie.Need-returns-2
 unfolding start packet
 returns-2 c =
     let after = c .before .before .before .before .before .before in
-    let ended = after .before .before .before .before .before in
-    let at = ended .before .before .before .before in
+    let arrived = after .before .before .before .before .before in
+    let at = arrived .before .before in
     let a = start (at .before .before .before) .args in
     fragment-leaves (a .k) (packet (at .before .before .before)) (a .out .now) (tableOf (a .records .now) (a .store .now)) (at .piece .given .0 .0)
-    _ _ _ _ _ _ _ _ (found at .is) (ended .before .before .arrival-of .ensures) (ended .before .start-of .ensures) (ended .end-of .ensures)
-    (after .offer .ensures) (c .offered .ensures)
+    _ _ _ _ _ _ (found at .is) (arrived .arrival-of .ensures) (after .offer .ensures) (c .offered .ensures)
 
 pub receive-spec : {M : Type 1} → statement M
 receive-spec =
     tie.close
-    (tie.spec read-requires look-requires enum-told other-requires enum-known-piece arrival-of-requires start-of-requires end-of-requires sub-offer
+    (tie.spec read-requires look-requires enum-told other-requires enum-known-piece arrival-of-requires sub-offer
     part-offer-start part-offer-end offer-requires offered-requires returns same-length same-length-2 same-length-3 returns-2)

@@ -5,6 +5,12 @@ use borrow.Author.Needs.{needs}
 use Rattle.record.proofs.conflicts.Statement.{statement}
 use Rattle.record.proofs.conflicts.Tie as tie
 
+is-last-requires : tie.Need-is-last-requires
+is-last-requires c κs = search needs
+
+is-last-requires-2 : tie.Need-is-last-requires-2
+is-last-requires-2 c κs = search needs
+
 both-requires : tie.Need-both-requires
 both-requires c κs = search needs
 
@@ -34,6 +40,8 @@ pub conflicts-spec : {M : Type 1} → statement M
 conflicts-spec =
     tie.close
     (tie.spec
+    is-last-requires
+    is-last-requires-2
     both-requires
     overlaps-requires
     outruns-requires

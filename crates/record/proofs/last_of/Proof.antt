@@ -1,9 +1,8 @@
 -- `record::last_of` meets its contract: the loop's invariant says that the one marked last is looked for among those from `i` on (`last-left`).
 -- Assumes nothing.
 use Rattle.record.proofs.Held.{none, held-at, last-left}
-use Rattle.record.specs.Record.{heldFragments, lastOf}
+use Rattle.record.specs.Record.{isLast, heldFragments, lastOf}
 use Rattle.record.specs.Lists.{if}
-use Rattle.record.specs.declared.Fragment.{Fragment}
 use Rattle.record.specs.declared.Assembly.{Assembly}
 use Rattle.record.specs.Limits.{fragmentLimit}
 use lib.Seq.{drop-length}
@@ -17,11 +16,11 @@ use Rattle.record.proofs.last_of.Statement.{statement}
 use Rattle.record.proofs.last_of.Tie as tie
 
 -- the element at i is marked last, or it is passed over
-step : (a : Assembly) (i : ℕ) → i < length (heldFragments a) → getD (heldFragments a) i none .last ≡ true
+step : (a : Assembly) (i : ℕ) → i < length (heldFragments a) → isLast (getD (heldFragments a) i none) ≡ true
     → lastOf (drop i (heldFragments a)) ≡ getD (heldFragments a) i none
 step a i h t = last-left (heldFragments a) i none h ∙ ap (λ (b : Bool). if b (getD (heldFragments a) i none) (lastOf (drop (i + 1) (heldFragments a)))) t
 
-skip : (a : Assembly) (i : ℕ) → i < length (heldFragments a) → getD (heldFragments a) i none .last ≡ false
+skip : (a : Assembly) (i : ℕ) → i < length (heldFragments a) → isLast (getD (heldFragments a) i none) ≡ false
     → lastOf (drop i (heldFragments a)) ≡ lastOf (drop (i + 1) (heldFragments a))
 skip a i h t = last-left (heldFragments a) i none h ∙ ap (λ (b : Bool). if b (getD (heldFragments a) i none) (lastOf (drop (i + 1) (heldFragments a)))) t
 
@@ -45,12 +44,15 @@ element-copy-out-f : tie.Need-element-copy-out-f Inv-loop μ-loop
 unfolding fragmentLimit
 element-copy-out-f c = omega arith
 
+is-last-requires : tie.Need-is-last-requires Inv-loop μ-loop
+is-last-requires c κs = search needs
+
 returns : tie.Need-returns Inv-loop μ-loop
 returns c =
-    let l = c .before .before .before in
+    let l = c .before .before .before .before in
     let a = l .before .before .args .t1 in
     let h : l .loop .i < length (heldFragments a) = omega (arith, l .before .held-count .ensures .count) in
-    held-at a (l .loop .i) _ h ∙ sym (step a (l .loop .i) h (ap (λ (f : Fragment). f .last) (sym (held-at a (l .loop .i) _ h)) ∙ c .if1 .taken))
+    held-at a (l .loop .i) _ h ∙ sym (step a (l .loop .i) h (ap isLast (sym (held-at a (l .loop .i) _ h)) ∙ sym (c .before .is-last .ensures) ∙ c .if1 .taken))
     ∙ l .loop .inv .0
 
 add-i : tie.Need-add-i Inv-loop μ-loop
@@ -62,10 +64,10 @@ loop-less c = omega arith
 
 loop-again : tie.Need-loop-again Inv-loop μ-loop
 loop-again c =
-    let l = c .before .before .before in
+    let l = c .before .before .before .before in
     let a = l .before .before .args .t1 in
     let h : l .loop .i < length (heldFragments a) = omega (arith, l .before .held-count .ensures .count) in (
-      sym (skip a (l .loop .i) h (ap (λ (f : Fragment). f .last) (sym (held-at a (l .loop .i) _ h)) ∙ c .if1 .left)) ∙ l .loop .inv .0,
+      sym (skip a (l .loop .i) h (ap isLast (sym (held-at a (l .loop .i) _ h)) ∙ sym (c .before .is-last .ensures) ∙ c .if1 .left)) ∙ l .loop .inv .0,
       omega arith,
     )
 
@@ -90,6 +92,7 @@ last-of-spec =
     loop-holds
     mul-f
     element-copy-out-f
+    is-last-requires
     returns
     add-i
     loop-less

@@ -5,6 +5,9 @@ use borrow.Author.Needs.{needs}
 use Rattle.record.proofs.outruns.Statement.{statement}
 use Rattle.record.proofs.outruns.Tie as tie
 
+is-last-requires : tie.Need-is-last-requires
+is-last-requires c κs = search needs
+
 end-of-requires : tie.Need-end-of-requires
 end-of-requires c κs = search needs
 
@@ -19,4 +22,4 @@ unfolding outruns
 returns c = cc
 
 pub outruns-spec : {M : Type 1} → statement M
-outruns-spec = tie.close (tie.spec end-of-requires end-of-requires-2 both-requires returns)
+outruns-spec = tie.close (tie.spec is-last-requires end-of-requires end-of-requires-2 both-requires returns)

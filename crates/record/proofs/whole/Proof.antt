@@ -14,6 +14,9 @@ end-of-requires c κs = search needs
 covered-to-requires : tie.Need-covered-to-requires
 covered-to-requires c κs = search needs
 
+is-last-requires : tie.Need-is-last-requires
+is-last-requires c κs = search needs
+
 both-requires : tie.Need-both-requires
 both-requires c κs = search needs
 
@@ -23,4 +26,4 @@ returns c = cc
 
 pub whole-spec : {M : Type 1} → statement M
 whole-spec =
-    tie.close (tie.spec last-of-requires end-of-requires covered-to-requires both-requires returns)
+    tie.close (tie.spec last-of-requires end-of-requires is-last-requires covered-to-requires both-requires returns)

@@ -3,14 +3,15 @@
 use borrow.Author.Needs.{needs}
 use Rattle.surface.proofs.reading_for.Statement.{statement}
 use Rattle.surface.proofs.reading_for.Tie as tie
-use Rattle.surface.proofs.reading_for.Reads as reads
-use Rattle.surface.proofs.reading_for.Lts as lts
 
 verdict-for-requires : tie.Need-verdict-for-requires
 verdict-for-requires c κs = search needs
 
+no-bytes-requires : tie.Need-no-bytes-requires
+no-bytes-requires c κs = search needs
+
 returns : tie.Need-returns
-returns c = simp (c .verdict-for .ensures)
+returns c = simp (c .no-bytes .ensures, c .before .verdict-for .ensures)
 
 pub reading-for-spec : {M : Type 1} → statement M
-reading-for-spec = tie.close (tie.spec verdict-for-requires returns)
+reading-for-spec = tie.close (tie.spec verdict-for-requires no-bytes-requires returns)

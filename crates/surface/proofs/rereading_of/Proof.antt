@@ -3,7 +3,7 @@
 use mathlib.Core.Path.{sym, ap, _∙_}
 use Rattle.datagram.specs.Rereading.{reAnswerOf}
 use Rattle.datagram.specs.declared.rereading.RereadOutcome.{RereadOutcome}
-use Rattle.surface.specs.Reading.{unread, hostRereading}
+use Rattle.surface.specs.Reading.{unreread, hostRereading}
 use borrow.Author.Needs.{needs}
 use Rattle.surface.proofs.rereading_of.Statement.{statement}
 use Rattle.surface.proofs.rereading_of.Tie as tie
@@ -16,8 +16,8 @@ enum-known-outcome c = search needs
 reread-number-requires : tie.Need-reread-number-requires
 reread-number-requires c κs = search needs
 
-unread-requires : tie.Need-unread-requires
-unread-requires c κs = search needs
+unreread-requires : tie.Need-unreread-requires
+unreread-requires c κs = search needs
 
 enum-known-outcome-2 : tie.Need-enum-known-outcome-2
 enum-known-outcome-2 c = search needs
@@ -26,7 +26,7 @@ rereading-from-requires : tie.Need-rereading-from-requires
 rereading-from-requires c κs = search needs
 
 returns : tie.Need-returns
-returns c = c .unread .ensures ∙ ap unread (c .before .reread-number .ensures) ∙ sym (ap (λ (o : RereadOutcome). hostRereading (reAnswerOf o)) (c .before .before .before .outcome .given .1))
+returns c = c .unreread .ensures ∙ ap unreread (c .before .reread-number .ensures) ∙ sym (ap (λ (o : RereadOutcome). hostRereading (reAnswerOf o)) (c .before .before .before .outcome .given .1))
 
 returns-2 : tie.Need-returns-2
 returns-2 c = c .rereading-from .ensures ∙ sym (ap (λ (o : RereadOutcome). hostRereading (reAnswerOf o)) (c .before .before .outcome2 .given .1))
@@ -37,7 +37,7 @@ rereading-of-spec =
     (tie.spec
     enum-known-outcome
     reread-number-requires
-    unread-requires
+    unreread-requires
     enum-known-outcome-2
     rereading-from-requires
     returns

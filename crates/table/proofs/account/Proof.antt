@@ -12,10 +12,10 @@ use borrow.Author.Tests.{not-true, not-false}
 use Rattle.record.specs.Limits.{shareSize}
 use Rattle.record.specs.Record.{freshClient}
 use Rattle.reassembly.specs.Answer.{replyOf}
-use Rattle.ledger.specs.Lent.{sized}
 use Rattle.ledger.specs.History.{accounting}
-use Rattle.table.specs.Table.{tableOf, lentOf, recordOf}
-use Rattle.table.proofs.Facts.{misfit-leaves, unknown-leaves, granted-leaves, account-keeps, share-fits, same-part}
+use Rattle.table.specs.Table.{sized, tableOf, lentOf, recordOf}
+use Rattle.table.proofs.Facts.{account-keeps, share-fits, same-part}
+use Rattle.table.proofs.Contracts.{misfit-leaves, unknown-leaves, granted-leaves}
 use Rattle.table.proofs.account.Statement.{statement}
 use Rattle.table.proofs.account.Proof.Tie as tie
 use Rattle.table.proofs.account.Proof.Lts as lts

@@ -10,10 +10,10 @@ use borrow.Author.Needs.{needs}
 use borrow.Author.Tests.{not-true, not-false}
 use Rattle.record.specs.Limits.{shareSize}
 use Rattle.reassembly.specs.Answer.{replyOf}
-use Rattle.ledger.specs.Lent.{sized}
 use Rattle.ledger.specs.History.{advancing}
-use Rattle.table.specs.Table.{tableOf, lentOf}
-use Rattle.table.proofs.Facts.{misfit-leaves, unknown-leaves, granted-leaves, share-fits, same-part}
+use Rattle.table.specs.Table.{sized, tableOf, lentOf}
+use Rattle.table.proofs.Facts.{share-fits, same-part}
+use Rattle.table.proofs.Contracts.{misfit-leaves, unknown-leaves, granted-leaves}
 use Rattle.table.proofs.advance.Statement.{statement}
 use Rattle.table.proofs.advance.Proof.Tie as tie
 use Rattle.table.proofs.advance.Proof.Lts as lts

@@ -2,26 +2,60 @@
 -- `there`), so the client's own rules get that record and that share, and what they leave is put back in its place.
 -- `tools/lent/transplant.py` makes the modules below.
 -- Assumes nothing.
-use Prim.Native.Nat.{_+_, _-_, _*_, _<_}
-use mathlib.Core.Path.{_≡_, refl, sym, ap, _∙_}
+use Prim.Native.Nat.{ℕ, _+_, _-_, _*_, _<_}
+use mathlib.Core.Path.{_≡_, refl, sym, ap, subst, _∙_}
 use mathlib.Core.Bool.{true, false}
+use mathlib.Core.List.{List, _++_}
 use native.Mathlib.Omega.{arith}
-use lib.ListN.{length, set}
+use lib.ListN.{length, take, drop, set}
+use lib.Seq.{drop-drop}
 use borrow.Rule.Slice.PartMut.{putMid}
 use borrow.Author.Needs.{needs}
 use borrow.Author.Tests.{not-true, not-false}
+use Rattle.octets.specs.Octets.{part, overlay}
 use Rattle.record.specs.Limits.{shareSize, assemblyLimit, datagramLimit}
+use Rattle.record.specs.declared.Client.{Client}
 use Rattle.reassembly.specs.Answer.{replyOf}
-use Rattle.ledger.specs.Lent.{sized}
+use Rattle.reassembly.specs.declared.Answer.{Answer}
+use Rattle.reassembly.specs.declared.Arrival.{Arrival}
+use Rattle.reassembly.specs.declared.Step.{Step}
+use Rattle.reassembly.specs.Offer.{fragmentOn}
+use Rattle.reassembly.specs.Post.{Left}
 use Rattle.ledger.specs.History.{Ask, offering}
-use Rattle.table.specs.Table.{Table, tableOf, lentOf}
-use Rattle.table.proofs.Facts.{misfit-leaves, unknown-leaves, share-fits, share-cut, offer-leaves}
+use Rattle.table.specs.Table.{Table, lentOf, sized, shareOf, recordOf, askOn, tableOf, Leaves}
+use Rattle.table.proofs.Facts.{share-fits, share-cut}
+use Rattle.table.proofs.Contracts.{misfit-leaves, unknown-leaves, granted-leaves}
 use Rattle.table.proofs.offer.Statement.{statement}
 use Rattle.table.proofs.offer.Proof.Tie as tie
 use Rattle.table.proofs.offer.Proof.Lts as lts
 use Rattle.table.proofs.Lent.offer.Reads as reads
 mod Lts
 mod Tie
+
+-- the store after client k's share came back as y, as the code puts it there
+put-mid : (store y : List ℕ) (at n : ℕ) → length y ≡ n → putMid at (at + n - at) store y ≡ overlay store at y
+put-mid store y at n e =
+    let m : at + n - at ≡ length y = omega (arith, e) in
+    ap (λ (l : List ℕ). take at store ++ (y ++ l)) (drop-drop (at + n - at) at store ∙ ap (λ (m : ℕ). drop (at + m) store) m)
+
+-- the client's own rules, on the share as the code cuts it out of the store
+offer-leaves : (k : ℕ) (o : Arrival) (bytes out : List ℕ) (t : Table) (step : Step) (share′ out′ : List ℕ) (r : Answer) (c : Client)
+    → sized (lentOf t) ≡ true → k < length (t .records)
+    → Left (fragmentOn (recordOf k t) (part (k * shareSize) (k * shareSize + shareSize - k * shareSize) (t .store)) out o bytes) step share′ out′
+    → length share′ ≡ length (part (k * shareSize) (k * shareSize + shareSize - k * shareSize) (t .store)) → r ≡ step .answer → c ≡ step .client
+    → Leaves (askOn k (offering o bytes out) t) r (set (t .records) k c)
+    (putMid (k * shareSize) (k * shareSize + shareSize - k * shareSize) (t .store) share′) out′
+offer-leaves k o bytes out t step share′ out′ r c e h l n p q =
+    let same : k * shareSize + shareSize - k * shareSize ≡ shareSize = omega arith in
+    let did : Left (fragmentOn (recordOf k t) (shareOf k t) out o bytes) step share′ out′ =
+    subst (λ (m : ℕ). Left (fragmentOn (recordOf k t) (part (k * shareSize) m (t .store)) out o bytes) step share′ out′) same l in
+    granted-leaves k (offering o bytes out) t r _ _ out′ e h
+    (record {
+      answers = ap replyOf p ∙ did .reply;
+      records-left = ap (set (t .records) k) (q ∙ did .client);
+      store-left = put-mid (t .store) share′ (k * shareSize) shareSize (n ∙ share-cut t k e h) ∙ ap (overlay (t .store) (k * shareSize)) (did .share-left);
+      out-left = did .out-left;
+    })
 
 -- ---- the places on the way
 

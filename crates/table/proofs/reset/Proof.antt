@@ -12,9 +12,9 @@ use borrow.Author.Tests.{not-true, not-false}
 use Rattle.record.specs.declared.Client.{Client}
 use Rattle.record.specs.Limits.{clientLimit}
 use Rattle.reassembly.specs.Answer.{replyOf}
-use Rattle.ledger.specs.Lent.{sized}
-use Rattle.table.specs.Table.{tableOf, lentOf}
-use Rattle.table.proofs.Facts.{fits, reset-refused-leaves, reset-leaves, fill-none, fill-more, filled-all}
+use Rattle.table.specs.Table.{sized, tableOf, lentOf}
+use Rattle.table.proofs.Facts.{fits, reset-refused-leaves, reset-leaves}
+use Rattle.table.proofs.Contracts.{fill-none, fill-more, filled-all}
 use Rattle.table.proofs.reset.Statement.{statement}
 use Rattle.table.proofs.reset.Proof.Tie as tie
 use Rattle.table.proofs.reset.Proof.Lts as lts

@@ -1,10 +1,11 @@
 -- `transcribe::put` meets its contract: there is room, so `varint::encode` writes the number.
 -- Assumes nothing.
-use mathlib.Core.Path.{_≡_}
+use mathlib.Core.Path.{_≡_, ap}
 use Prim.Native.Nat.{ℕ, _+_}
 use native.Mathlib.Omega.{arith}
 use lib.ListN.{length}
 use Rattle.varint.specs.SevenBit.{encoded}
+use Rattle.varint.specs.Answer.{encodedAnswer}
 use Rattle.transcribe.proofs.Writes.{written-number}
 use borrow.Author.Needs.{needs}
 use Rattle.transcribe.proofs.put.Statement.{statement}
@@ -26,7 +27,7 @@ returns : tie.Need-returns
 returns c =
     let p = c .before .before .before .before .before .before .before .before in
     let w = written-number (c .before .before .before .before .before .encode .ensures) (p .pre) in
-    let end : c .before .written .given .0 .0 ≡ p .args .at + length (encoded (p .args .value)) = cc (w .0, c .before .written .given .1) in
+    let end : c .before .written .given .0 .0 ≡ p .args .at + length (encoded (p .args .value)) = cc (w .0, ap encodedAnswer (c .before .written .given .1)) in
     record { ends = end; all = w .1 }
 
 same-length-2 : tie.Need-same-length-2
@@ -36,7 +37,7 @@ returns-2 : tie.Need-returns-2
 returns-2 c =
     let p = c .before .before .before .before .before .before .before in
     let w = written-number (c .before .before .before .before .encode .ensures) (p .pre) in
-    absurd (let z : _≡_ {A = ℕ} 0 1 = cc (w .0, c .enum-told .given .1) in omega arith)
+    absurd (let z : _≡_ {A = ℕ} 0 1 = cc (w .0, ap encodedAnswer (c .enum-told .given .1)) in omega arith)
 
 pub put-spec : {M : Type 1} → statement M
 put-spec =

@@ -10,7 +10,7 @@ use lib.Seq.{sets, sets-eq}
 use borrow.Author.Needs.{needs}
 use borrow.Author.Tests.{le-leb, lt-leb}
 use Rattle.varint.specs.SevenBit.{encoded}
-use Rattle.varint.specs.Answer.{endOf, fits, placed, EncodedAt}
+use Rattle.varint.specs.Answer.{given, endOf, fits, placed, EncodedAt}
 use Rattle.varint.specs.declared.Encoded.the-variants.{Next, Full}
 use Rattle.varint.proofs.Groups.{Encodes, encodes, encodes-last, encodes-more}
 use Rattle.varint.proofs.encode.Statement.{statement}
@@ -38,7 +38,7 @@ stored : (value : ℕ) (buffer : List ℕ) (at next : ℕ) (left : List ℕ) →
     → next ≡ at + length (encoded value) → left ≡ sets buffer at (encoded value) → EncodedAt value buffer at (Next next) left
 unfolding fits endOf placed
 stored value buffer at next left h e f =
-    record { answered = rw (le-leb _ _ h) (ap Next e); written = rw (le-leb _ _ h) (f ∙ sets-eq (encoded value) buffer at h) }
+    record { answered = rw (le-leb _ _ h) (ap given e); written = rw (le-leb _ _ h) (f ∙ sets-eq (encoded value) buffer at h) }
 
 encoded-length-requires : tie.Need-encoded-length-requires Inv-loop μ-loop
 encoded-length-requires c κs = search needs

@@ -7,6 +7,7 @@ use Rattle.crc32c.specs.Crc.{crcOf}
 use Rattle.listing.proofs.Places.{ValueAt, value-there, none-there}
 use Rattle.compose.specs.Private.{wiresListed}
 use Rattle.compose.proofs.Listed.{no-apc, listed-counted, listed-uncounted}
+use Rattle.listing.specs.Answer.{fieldAnswer}
 use borrow.Author.Needs.{needs}
 use Rattle.compose.proofs.apc.crc_for.Statement.{statement}
 use Rattle.compose.proofs.apc.crc_for.Tie as tie
@@ -15,7 +16,7 @@ count : (c : tie.After-known-told) → let v = c .before .number .given .0 in
     ValueAt 33 (c .before .before .before .before .before .before .args .list .now) 0 (v .0) (v .1 .0)
 count c =
     let on-number-at = c .before .before .before in
-    value-there _ _ _ _ _ (sym (on-number-at .number-at .ensures) ∙ c .before .number .given .1)
+    value-there _ _ _ _ _ (sym (on-number-at .number-at .ensures) ∙ ap fieldAnswer (c .before .number .given .1))
 
 number-at-requires : tie.Need-number-at-requires
 number-at-requires c κs = search needs
@@ -50,7 +51,7 @@ returns-2 c =
 returns-3 : tie.Need-returns-3
 returns-3 c =
     let s = c .before .before .before .before .before in
-    let e = none-there _ _ _ (sym (c .before .before .number-at .ensures) ∙ c .enum-told .given .1) in
+    let e = none-there _ _ _ (sym (c .before .before .number-at .ensures) ∙ ap fieldAnswer (c .enum-told .given .1)) in
     listed-uncounted 0 (s .args .list .now) _ e ∙ sym (listed-uncounted (crcOf (s .args .«data» .now)) (s .args .list .now) _ e)
 
 pub crc-for-spec : {M : Type 1} → statement M

@@ -6,6 +6,7 @@ use lib.ListN.{length}
 use Rattle.listing.proofs.Places.{ValueAt, value-there, none-there}
 use Rattle.compose.proofs.Laying.{laid-as, laid-none}
 use Rattle.compose.proofs.Listed.{listed-counted, listed-uncounted}
+use Rattle.listing.specs.Answer.{fieldAnswer}
 use borrow.Author.Needs.{needs}
 use Rattle.compose.proofs.area.put_listed.Statement.{statement}
 use Rattle.compose.proofs.area.put_listed.Tie as tie
@@ -15,7 +16,7 @@ count : (c : tie.After-known-told) → let v = c .before .number .given .0 in
 count c =
     let p3 = c .before .before .before in
     let on-number-at = p3 in
-    value-there _ _ _ _ _ (sym (on-number-at .number-at .ensures) ∙ c .before .number .given .1)
+    value-there _ _ _ _ _ (sym (on-number-at .number-at .ensures) ∙ ap fieldAnswer (c .before .number .given .1))
 
 number-at-requires : tie.Need-number-at-requires
 number-at-requires c κs = search needs
@@ -43,7 +44,7 @@ returns c =
 returns-2 : tie.Need-returns-2
 returns-2 c =
     let a = c .before .before .before .before .before .args in
-    let e = none-there _ _ _ (sym (c .before .before .number-at .ensures) ∙ c .enum-told .given .1) in
+    let e = none-there _ _ _ (sym (c .before .before .number-at .ensures) ∙ ap fieldAnswer (c .enum-told .given .1)) in
     laid-as (sym (listed-uncounted (a .crc) (a .list .now) _ e)) (laid-none (a .buffer .now) (a .at))
 
 pub put-listed-spec : {M : Type 1} → statement M

@@ -79,8 +79,8 @@ quiet-requires-5 c κs = search needs
 enum-known-start : tie.Need-enum-known-start
 enum-known-start c = search needs
 
-add-listed : tie.Need-add-listed
-add-listed c = omega (arith, within c)
+add-t18 : tie.Need-add-t18
+add-t18 c = omega (arith, within c)
 
 listed-requires : tie.Need-listed-requires
 listed-requires c κs = (c .before .before .before .before .before .before .pre .0, omega arith, within c)
@@ -134,7 +134,7 @@ accept-spec =
     enum-told-5
     quiet-requires-5
     enum-known-start
-    add-listed
+    add-t18
     listed-requires
     returns
     returns-2

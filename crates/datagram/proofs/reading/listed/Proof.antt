@@ -1,11 +1,10 @@
 -- `datagram::reading::listed` meets its contract: the arm knows what the walk told, and the reading by that is the definition's.
 -- Assumes nothing.
-use Rattle.datagram.specs.Reading.{noData, quiet}
+use Rattle.datagram.specs.Reading.{extent, noData, quiet}
 use mathlib.Core.Path.{_≡_, refl, sym, ap, _∙_}
 use mathlib.Core.List.{List}
 use Prim.Native.Nat.{ℕ, _-_, _≤_}
 use native.Mathlib.Omega.{arith}
-use lib.Dec.{eqb}
 use lib.ListN.{length, drop, length-drop}
 use lib.Seq.{take-all}
 use Rattle.offsets.specs.Offsets.{udpHeader}
@@ -20,14 +19,14 @@ use Rattle.datagram.proofs.reading.listed.Tie as tie
 
 -- the walk was made of the list behind `from`
 area : (c : tie.After-walk-area) → let a = c .before .before .before .args in
-    toldArea (areaOf (noData (a .size)) (a .from) (drop (a .from) (a .payload .now))) ≡ c .walk-area .result
+    toldArea (areaOf (noData (a .size)) (a .from .0) (drop (a .from .0) (a .payload .now))) ≡ c .walk-area .result
 unfolding udpHeader
 area c =
     let start = c .before .before .before in
     let l = start .args .payload .now in
     sym (c .walk-area .ensures
-    ∙ ap (λ (t : List ℕ). toldArea (areaOf (noData (start .args .size)) (start .args .from) t))
-    (take-all (length l - start .args .from) (drop (start .args .from) l) (simp length-drop (omega arith))))
+    ∙ ap (λ (t : List ℕ). toldArea (areaOf (noData (start .args .size)) (start .args .from .0) t))
+    (take-all (length l - start .args .from .0) (drop (start .args .from .0) l) (simp length-drop (omega arith))))
 
 sub-walk-area : tie.Need-sub-walk-area
 sub-walk-area c = search needs
@@ -44,19 +43,13 @@ walk-area-requires c κs = search needs
 enum-known-list : tie.Need-enum-known-list
 enum-known-list c = search needs
 
-span-requires : tie.Need-span-requires
-span-requires c κs = search needs
-
-span-requires-2 : tie.Need-span-requires-2
-span-requires-2 c κs = search needs
-
 sub-apc-of : tie.Need-sub-apc-of
 unfolding udpHeader
-sub-apc-of c = omega (arith, c .before .before .before .before .before .before .before .before .pre)
+sub-apc-of c = omega (arith, c .before .before .before .before .before .before .pre)
 
 part-apc-of-start : tie.Need-part-apc-of-start
 unfolding udpHeader
-part-apc-of-start c = omega (arith, c .before .before .before .before .before .before .before .before .pre)
+part-apc-of-start c = omega (arith, c .before .before .before .before .before .before .pre)
 
 part-apc-of-end : tie.Need-part-apc-of-end
 part-apc-of-end c = search needs
@@ -82,21 +75,21 @@ quiet-requires-2 c κs = search needs
 returns : tie.Need-returns
 unfolding udpHeader
 returns c =
-    let a = c .before .before .before .before .before .before .before .before .before .before .args in
-    let place = c .before .before .before .before .before .before .before in
-    _∙_ {b = readingBy (a .payload .now) (a .size) (a .from)
-    (Listed (c .before .before .before .before .before .list .given .0 .0) (c .before .before .before .before .before .list .given .0 .1 .0)
-    (c .before .before .before .before .before .list .given .0 .1 .1 .0))}
+    let a = c .before .before .before .before .before .before .before .before .args in
+    let place = c .before .before .before .before .before in
+    let list = c .before .before .before .list .given in
+    _∙_ {b = readingBy (a .payload .now) (a .size) (a .from .0)
+    (Listed (list .0 .0) (list .0 .1 .0) (list .0 .1 .1 .0))}
     (λ i. record {
-      user = (c .before .before .before .span .ensures) i;
+      user = extent udpHeader (a .size);
       verdict = Read;
-      options = (c .before .before .span2 .ensures) i;
-      count = c .before .before .before .before .before .list .given .0 .0;
-      fill = c .before .before .before .before .before .list .given .0 .1 .0;
+      options = extent (a .from .0) (length (a .payload .now));
+      count = list .0 .0;
+      fill = list .0 .1 .0;
       apc = (c .apc-of .ensures) i;
     }) (refl)
-    ∙ ap (readingBy (a .payload .now) (a .size) (a .from)) (sym (area place ∙ c .before .before .before .before .before .list .given .1))
-    ∙ reading-told (a .payload .now) (a .size) (a .from) (areaOf (noData (a .size)) (a .from) (drop (a .from) (a .payload .now)))
+    ∙ ap (readingBy (a .payload .now) (a .size) (a .from .0)) (sym (area place ∙ list .1))
+    ∙ reading-told (a .payload .now) (a .size) (a .from .0) (areaOf (noData (a .size)) (a .from .0) (drop (a .from .0) (a .payload .now)))
 
 returns-2 : tie.Need-returns-2
 unfolding udpHeader
@@ -104,8 +97,8 @@ returns-2 c =
     let a = c .before .before .before .before .before .before .before .args in
     let place = c .before .before .before .before in
     c .quiet .ensures
-    ∙ ap (readingBy (a .payload .now) (a .size) (a .from)) (sym (area place ∙ c .before .before .list2 .given .1))
-    ∙ reading-told (a .payload .now) (a .size) (a .from) (areaOf (noData (a .size)) (a .from) (drop (a .from) (a .payload .now)))
+    ∙ ap (readingBy (a .payload .now) (a .size) (a .from .0)) (sym (area place ∙ c .before .before .list2 .given .1))
+    ∙ reading-told (a .payload .now) (a .size) (a .from .0) (areaOf (noData (a .size)) (a .from .0) (drop (a .from .0) (a .payload .now)))
 
 returns-3 : tie.Need-returns-3
 unfolding udpHeader
@@ -113,8 +106,8 @@ returns-3 c =
     let a = c .before .before .before .before .before .before .before .before .args in
     let place = c .before .before .before .before .before in
     c .quiet2 .ensures ∙ ap (quiet (a .size)) (c .before .verdict-of .ensures)
-    ∙ ap (readingBy (a .payload .now) (a .size) (a .from)) (sym (area place ∙ c .before .before .before .list3 .given .1))
-    ∙ reading-told (a .payload .now) (a .size) (a .from) (areaOf (noData (a .size)) (a .from) (drop (a .from) (a .payload .now)))
+    ∙ ap (readingBy (a .payload .now) (a .size) (a .from .0)) (sym (area place ∙ c .before .before .before .list3 .given .1))
+    ∙ reading-told (a .payload .now) (a .size) (a .from .0) (areaOf (noData (a .size)) (a .from .0) (drop (a .from .0) (a .payload .now)))
 
 pub listed-spec : {M : Type 1} → statement M
 listed-spec =
@@ -125,8 +118,6 @@ listed-spec =
     part-walk-area-end
     walk-area-requires
     enum-known-list
-    span-requires
-    span-requires-2
     sub-apc-of
     part-apc-of-start
     part-apc-of-end

@@ -28,16 +28,16 @@ quietly-requires-3 : tie.Need-quietly-requires-3
 quietly-requires-3 c κs = search needs
 
 returns : tie.Need-returns
-returns c = ap (faultily (c .before .before .args .r)) (sym (c .enum-told .given .1))
+returns c = ap (faultily (c .before .before .args .r .0)) (sym (c .enum-told .given .1))
 
 returns-2 : tie.Need-returns-2
-returns-2 c = c .quietly .ensures ∙ ap (faultily (c .before .before .before .args .r)) (sym (c .before .enum-told2 .given .1))
+returns-2 c = c .quietly .ensures ∙ ap (faultily (c .before .before .before .args .r .0)) (sym (c .before .enum-told2 .given .1))
 
 returns-3 : tie.Need-returns-3
-returns-3 c = c .quietly2 .ensures ∙ ap (faultily (c .before .before .before .args .r)) (sym (c .before .enum-told3 .given .1))
+returns-3 c = c .quietly2 .ensures ∙ ap (faultily (c .before .before .before .args .r .0)) (sym (c .before .enum-told3 .given .1))
 
 returns-4 : tie.Need-returns-4
-returns-4 c = c .quietly3 .ensures ∙ ap (faultily (c .before .before .before .args .r)) (sym (c .before .enum-told4 .given .1))
+returns-4 c = c .quietly3 .ensures ∙ ap (faultily (c .before .before .before .args .r .0)) (sym (c .before .enum-told4 .given .1))
 
 pub faultily-spec : {M : Type 1} → statement M
 faultily-spec =

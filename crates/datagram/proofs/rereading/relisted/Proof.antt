@@ -8,7 +8,7 @@ use lib.ListN.{length, drop, length-take, length-drop}
 use lib.Seq.{take-all}
 use Rattle.options.specs.Walk.{walkFrom, optionLimit, told}
 use Rattle.options.specs.declared.walk.Walk.the-variants.{Listed as WalkListed}
-use Rattle.datagram.specs.Rereading.{rereads}
+use Rattle.datagram.specs.Rereading.{places, rereads}
 use Rattle.datagram.specs.Private.{rewalkedBy}
 use Rattle.datagram.specs.declared.reading.Verdict.the-variants.{Read}
 use Rattle.datagram.proofs.Readings.{rereading-told}
@@ -18,13 +18,13 @@ use Rattle.datagram.proofs.rereading.relisted.Tie as tie
 
 -- the walk was made of the list behind `from`
 walk : (c : tie.After-walk-list) → let a = c .before .before .before .args in
-    told (walkFrom optionLimit 0 (drop (a .from) (a .original .now))) ≡ c .walk-list .result
+    told (walkFrom optionLimit 0 (drop (a .from .0) (a .original .now))) ≡ c .walk-list .result
 unfolding optionLimit
 walk c =
     let start = c .before .before .before in
     let l = start .args .original .now in
     sym (c .walk-list .ensures
-    ∙ ap (λ (t : List ℕ). told (walkFrom 32 0 t)) (take-all (length l - start .args .from) (drop (start .args .from) l) (simp length-drop (omega arith))))
+    ∙ ap (λ (t : List ℕ). told (walkFrom 32 0 t)) (take-all (length l - start .args .from .0) (drop (start .args .from .0) l) (simp length-drop (omega arith))))
 
 sub-walk-list : tie.Need-sub-walk-list
 sub-walk-list c = search needs
@@ -41,14 +41,8 @@ walk-list-requires c κs = search needs
 enum-known-list : tie.Need-enum-known-list
 enum-known-list c = search needs
 
-places-requires : tie.Need-places-requires
-places-requires c κs = search needs
-
-places-requires-2 : tie.Need-places-requires-2
-places-requires-2 c κs = search needs
-
 slice-aggregate-apc-of : tie.Need-slice-aggregate-apc-of
-slice-aggregate-apc-of c = simp length-take (omega (arith, c .before .before .before .before .before .before .before .before .before .pre))
+slice-aggregate-apc-of c = simp length-take (omega (arith, c .before .before .before .before .before .before .before .pre))
 
 apc-of-requires : tie.Need-apc-of-requires
 apc-of-requires c κs = search needs
@@ -61,29 +55,29 @@ faultily-requires c κs = search needs
 
 returns : tie.Need-returns
 returns c =
-    let a = c .before .before .before .before .before .before .before .before .before .before .args in
-    let place = c .before .before .before .before .before .before .before in
-    _∙_ {b = rewalkedBy (a .original .now) (a .r) (a .from)
-    (WalkListed (c .before .before .before .before .before .list .given .0 .0) (c .before .before .before .before .before .list .given .0 .1 .0)
-    (c .before .before .before .before .before .list .given .0 .1 .1 .0))}
+    let a = c .before .before .before .before .before .before .before .before .args in
+    let place = c .before .before .before .before .before in
+    let list = c .before .before .before .list .given in
+    _∙_ {b = rewalkedBy (a .original .now) (a .r .0) (a .from .0)
+    (WalkListed (list .0 .0) (list .0 .1 .0) (list .0 .1 .1 .0))}
     (λ i. rereads (record {
-      user = (c .before .before .before .places .ensures) i;
+      user = places 0 (a .r .0);
       verdict = Read;
-      options = (c .before .before .places2 .ensures) i;
-      count = c .before .before .before .before .before .list .given .0 .0;
-      fill = c .before .before .before .before .before .list .given .0 .1 .0;
+      options = places (a .from .0) (length (a .original .now));
+      count = list .0 .0;
+      fill = list .0 .1 .0;
       apc = (c .apc-of .ensures) i;
     })) refl
-    ∙ ap (rewalkedBy (a .original .now) (a .r) (a .from)) (sym (walk place ∙ c .before .before .before .before .before .list .given .1))
-    ∙ rereading-told (a .original .now) (a .r) (a .from) (walkFrom optionLimit 0 (drop (a .from) (a .original .now)))
+    ∙ ap (rewalkedBy (a .original .now) (a .r .0) (a .from .0)) (sym (walk place ∙ list .1))
+    ∙ rereading-told (a .original .now) (a .r .0) (a .from .0) (walkFrom optionLimit 0 (drop (a .from .0) (a .original .now)))
 
 returns-2 : tie.Need-returns-2
 returns-2 c =
     let a = c .before .before .before .before .before .before .before .args in
     let place = c .before .before .before .before in
     c .faultily .ensures
-    ∙ ap (rewalkedBy (a .original .now) (a .r) (a .from)) (sym (walk place ∙ c .before .before .list2 .given .1))
-    ∙ rereading-told (a .original .now) (a .r) (a .from) (walkFrom optionLimit 0 (drop (a .from) (a .original .now)))
+    ∙ ap (rewalkedBy (a .original .now) (a .r .0) (a .from .0)) (sym (walk place ∙ c .before .before .list2 .given .1))
+    ∙ rereading-told (a .original .now) (a .r .0) (a .from .0) (walkFrom optionLimit 0 (drop (a .from .0) (a .original .now)))
 
 pub relisted-spec : {M : Type 1} → statement M
 relisted-spec =
@@ -94,8 +88,6 @@ relisted-spec =
     part-walk-list-end
     walk-list-requires
     enum-known-list
-    places-requires
-    places-requires-2
     slice-aggregate-apc-of
     apc-of-requires
     enum-known-list-2

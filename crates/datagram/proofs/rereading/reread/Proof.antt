@@ -104,8 +104,8 @@ quietly-requires-5 c κs = search needs
 enum-known-start : tie.Need-enum-known-start
 enum-known-start c = search needs
 
-add-relisted : tie.Need-add-relisted
-add-relisted c = omega (arith, within c)
+add-t20 : tie.Need-add-t20
+add-t20 c = omega (arith, within c)
 
 relisted-requires : tie.Need-relisted-requires
 relisted-requires c κs =
@@ -171,7 +171,7 @@ reread-spec =
     enum-told-5
     quietly-requires-5
     enum-known-start
-    add-relisted
+    add-t20
     relisted-requires
     returns-3
     returns-4

@@ -5,6 +5,7 @@ use native.Mathlib.Omega.{arith}
 use Rattle.listing.specs.Wire.{measured}
 use Rattle.listing.proofs.Places.{ValueAt, value-there, none-there}
 use Rattle.listing.proofs.Checks.{list-counted, list-uncounted}
+use Rattle.listing.specs.Answer.{fieldAnswer}
 use borrow.Author.Needs.{needs}
 use Rattle.listing.proofs.check.check.Statement.{statement}
 use Rattle.listing.proofs.check.check.Tie as tie
@@ -12,7 +13,7 @@ use Rattle.listing.proofs.check.check.Tie as tie
 -- the count of the list
 count : (c : tie.After-known-told) → let a = c .before .before .before .before .before .args in
     ValueAt 33 (a .list .now) 0 (c .before .number .given .0 .0) (c .before .number .given .0 .1 .0)
-count c = value-there _ _ _ _ _ (sym (c .before .before .before .number-at .ensures) ∙ c .before .number .given .1)
+count c = value-there _ _ _ _ _ (sym (c .before .before .before .number-at .ensures) ∙ ap fieldAnswer (c .before .number .given .1))
 
 number-at-requires : tie.Need-number-at-requires
 number-at-requires c κs = search needs
@@ -30,7 +31,7 @@ returns : tie.Need-returns
 returns c = c .check-options .ensures ∙ sym (ap measured (list-counted (count (c .before))))
 
 returns-2 : tie.Need-returns-2
-returns-2 c = sym (ap measured (list-uncounted _ (none-there _ _ _ (sym (c .before .before .number-at .ensures) ∙ c .enum-told .given .1))))
+returns-2 c = sym (ap measured (list-uncounted _ (none-there _ _ _ (sym (c .before .before .number-at .ensures) ∙ ap fieldAnswer (c .enum-told .given .1)))))
 
 pub check-spec : {M : Type 1} → statement M
 check-spec =

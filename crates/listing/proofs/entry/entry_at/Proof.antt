@@ -1,9 +1,10 @@
 -- `listing::entry::entry_at` meets its contract: the number that `number_at` finds is the kind, and `kind_at` reads what stands behind it.
 -- Assumes nothing.
-use mathlib.Core.Path.{sym, _∙_}
+use mathlib.Core.Path.{sym, ap, _∙_}
 use native.Mathlib.Omega.{arith}
 use Rattle.listing.proofs.Places.{ValueAt, value-there, none-there}
 use Rattle.listing.proofs.Entries.{entry-kind, entry-none}
+use Rattle.listing.specs.Answer.{fieldAnswer}
 use borrow.Author.Needs.{needs}
 use Rattle.listing.proofs.entry.entry_at.Statement.{statement}
 use Rattle.listing.proofs.entry.entry_at.Tie as tie
@@ -11,7 +12,7 @@ use Rattle.listing.proofs.entry.entry_at.Tie as tie
 -- the kind that was found
 value : (c : tie.After-known-told) → let a = c .before .before .before .before .before .args in
     ValueAt 256 (a .list .now) (a .at) (c .before .number .given .0 .0) (c .before .number .given .0 .1 .0)
-value c = value-there _ _ _ _ _ (sym (c .before .before .before .number-at .ensures) ∙ c .before .number .given .1)
+value c = value-there _ _ _ _ _ (sym (c .before .before .before .number-at .ensures) ∙ ap fieldAnswer (c .before .number .given .1))
 
 number-at-requires : tie.Need-number-at-requires
 number-at-requires c κs = search needs
@@ -32,7 +33,7 @@ returns : tie.Need-returns
 returns c = c .kind-at .ensures ∙ sym (entry-kind (value (c .before)))
 
 returns-2 : tie.Need-returns-2
-returns-2 c = sym (entry-none _ _ (none-there _ _ _ (sym (c .before .before .number-at .ensures) ∙ c .enum-told .given .1)))
+returns-2 c = sym (entry-none _ _ (none-there _ _ _ (sym (c .before .before .number-at .ensures) ∙ ap fieldAnswer (c .enum-told .given .1))))
 
 pub entry-at-spec : {M : Type 1} → statement M
 entry-at-spec =

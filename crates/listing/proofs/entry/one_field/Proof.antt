@@ -6,7 +6,7 @@ use native.Mathlib.Omega.{arith}
 use lib.ListN.{length}
 use mathlib.Core.List.{[], _∷_}
 use Rattle.listing.specs.Encoding.{Read, readAs}
-use Rattle.listing.specs.Answer.{fieldsBefore}
+use Rattle.listing.specs.Answer.{fieldAnswer, fieldsBefore}
 use Rattle.listing.proofs.Places.{ValueAt, value-there, none-there}
 use Rattle.listing.proofs.Entries.{one-there}
 use borrow.Author.Needs.{needs}
@@ -16,7 +16,7 @@ use Rattle.listing.proofs.entry.one_field.Tie as tie
 -- the number that was found
 value : (c : tie.After-known-told) → let a = c .before .before .before .before .before .args in
     ValueAt (a .limit) (a .list .now) (a .at) (c .before .number .given .0 .0) (c .before .number .given .0 .1 .0)
-value c = value-there _ _ _ _ _ (sym (c .before .before .before .number-at .ensures) ∙ c .before .number .given .1)
+value c = value-there _ _ _ _ _ (sym (c .before .before .before .number-at .ensures) ∙ ap fieldAnswer (c .before .number .given .1))
 
 number-at-requires : tie.Need-number-at-requires
 number-at-requires c κs = search needs
@@ -37,7 +37,7 @@ returns-2 : tie.Need-returns-2
 returns-2 c =
     let a = c .before .before .before .before .args in
     sym (ap (λ (r : Read ℕ). fieldsBefore (length (a .list .now)) (a .kind) (readAs (λ (n : ℕ). n ∷ []) r))
-    (none-there _ _ _ (sym (c .before .before .number-at .ensures) ∙ c .enum-told .given .1)))
+    (none-there _ _ _ (sym (c .before .before .number-at .ensures) ∙ ap fieldAnswer (c .enum-told .given .1))))
 
 pub one-field-spec : {M : Type 1} → statement M
 one-field-spec =

@@ -1,11 +1,12 @@
 -- `listing::entry::raw_body` meets its contract: the number that `number_at` finds is the body's size, and the body is within the list or not.
 -- Assumes nothing.
-use mathlib.Core.Path.{sym, _∙_}
+use mathlib.Core.Path.{sym, ap, _∙_}
 use Prim.Native.Nat.{_+_}
 use native.Mathlib.Omega.{arith}
 use Rattle.listing.specs.Encoding.{longestBody}
 use Rattle.listing.proofs.Places.{ValueAt, value-there, none-there}
 use Rattle.listing.proofs.Entries.{raw-cut, raw-there, raw-none}
+use Rattle.listing.specs.Answer.{fieldAnswer}
 use borrow.Author.Needs.{needs}
 use Rattle.listing.proofs.entry.raw_body.Statement.{statement}
 use Rattle.listing.proofs.entry.raw_body.Tie as tie
@@ -13,7 +14,7 @@ use Rattle.listing.proofs.entry.raw_body.Tie as tie
 -- the size that was found
 value : (c : tie.After-known-told) → let a = c .before .before .before .before .before .args in
     ValueAt (longestBody + 1) (a .list .now) (a .at) (c .before .number .given .0 .0) (c .before .number .given .0 .1 .0)
-value c = value-there _ _ _ _ _ (sym (c .before .before .before .number-at .ensures) ∙ c .before .number .given .1)
+value c = value-there _ _ _ _ _ (sym (c .before .before .before .number-at .ensures) ∙ ap fieldAnswer (c .before .number .given .1))
 
 number-at-requires : tie.Need-number-at-requires
 number-at-requires c κs = search needs
@@ -40,7 +41,7 @@ returns-3 : tie.Need-returns-3
 returns-3 c =
     let a = c .before .before .before .before in
     sym (raw-none (a .args .list .now) (a .args .at) (a .args .kind) (a .pre)
-    (none-there _ _ _ (sym (c .before .before .number-at .ensures) ∙ c .enum-told .given .1)))
+    (none-there _ _ _ (sym (c .before .before .number-at .ensures) ∙ ap fieldAnswer (c .enum-told .given .1))))
 
 pub raw-body-spec : {M : Type 1} → statement M
 raw-body-spec =

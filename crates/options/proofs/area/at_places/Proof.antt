@@ -28,9 +28,9 @@ returns-2 c = search needs
 
 returns-3 : tie.Need-returns-3
 returns-3 c =
-    let a = c .before .before .before .before .before .before .args in
-    sym (ap (λ (o : Origin). placedAt (a .fields) (a .end .0) o (a .option-start)) (c .before .before .before .before .place .given .1)
-    ∙ ap (placedAt (a .fields) (a .end .0) (At (c .before .before .before .before .place .given .0 .0))) (c .before .option-start .given .1))
+    let a = c .before .before .before .before .before .before .before .args in
+    sym (ap (λ (o : Origin). placedAt (a .fields) (a .end .0) o (a .option-start)) (c .before .before .before .before .before .place .given .1)
+    ∙ ap (placedAt (a .fields) (a .end .0) (At (c .before .before .before .before .before .place .given .0 .0))) (c .before .before .option-start .given .1))
 
 pub at-places-spec : {M : Type 1} → statement M
 at-places-spec =

@@ -15,8 +15,8 @@ use Rattle.options.proofs.area.fields_of.Tie as tie
 get-u16-requires : tie.Need-get-u16-requires
 get-u16-requires c κs = search needs
 
-cast-start : tie.Need-cast-start
-cast-start c = search needs
+cast-t8 : tie.Need-cast-t8
+cast-t8 c = search needs
 
 get-u32-requires : tie.Need-get-u32-requires
 get-u32-requires c κs = search needs
@@ -34,7 +34,7 @@ returns c =
     let six : eqb (a .size) 12 ≡ true = eq-eqb (a .size) 12 (c .before .if1 .taken) in
     let r : c .get-u163 .result ≡ cond (eqb (a .size) 12) (number (part 10 2 (a .option .now))) 8 = c .get-u163 .ensures ∙ sym (simp six) in (
       λ i. record {
-        start = (c .before .before .before .before .get-u16 .ensures) i;
+        start = record { 0 = (c .before .before .before .before .get-u16 .ensures) i };
         identification = (c .before .before .before .get-u32 .ensures) i;
         offset = (c .before .before .get-u162 .ensures) i;
         last = (sym six) i;
@@ -50,7 +50,7 @@ returns-2 c =
     let short : eqb (a .size) 12 ≡ false = ne-eqb (a .size) 12 (c .if1 .left) in
     let r : 8 ≡ cond (eqb (a .size) 12) (number (part 10 2 (a .option .now))) 8 = sym (simp short) in (
       λ i. record {
-        start = (c .before .before .before .get-u16 .ensures) i;
+        start = record { 0 = (c .before .before .before .get-u16 .ensures) i };
         identification = (c .before .before .get-u32 .ensures) i;
         offset = (c .before .get-u162 .ensures) i;
         last = (sym short) i;
@@ -64,7 +64,7 @@ fields-of-spec =
     tie.close
     (tie.spec
     get-u16-requires
-    cast-start
+    cast-t8
     get-u32-requires
     get-u16-requires-2
     get-u16-requires-3

@@ -13,23 +13,23 @@ returns : tie.Need-returns
 unfolding fragmentOf
 returns c =
     let a = c .before .before .args in
-    let low : a .fields .start < a .base .0 + a .behind = omega arith in
-    simp (lt-leb (a .base .0 + a .behind) (a .fields .start) low)
+    let low : a .fields .start .0 < a .base .0 + a .behind = omega arith in
+    simp (lt-leb (a .base .0 + a .behind) (a .fields .start .0) low)
 
 returns-2 : tie.Need-returns-2
 unfolding fragmentOf
 returns-2 c =
     let a = c .before .before .before .before .args in
-    let low : a .fields .start < a .base .0 + a .behind = omega arith in
-    simp (lt-leb (a .base .0 + a .behind) (a .fields .start) low)
+    let low : a .fields .start .0 < a .base .0 + a .behind = omega arith in
+    simp (lt-leb (a .base .0 + a .behind) (a .fields .start .0) low)
 
 returns-3 : tie.Need-returns-3
 unfolding fragmentOf
 returns-3 c =
     let a = c .before .before .before .before .before .before .args in
-    let in-list : a .base .0 + a .behind ≤ a .fields .start = omega arith in
-    let past : a .base .0 + a .size < a .fields .start = omega arith in
-    simp (le-leb (a .base .0 + a .behind) (a .fields .start) in-list, lt-leb (a .fields .start) (a .base .0 + a .size) past)
+    let in-list : a .base .0 + a .behind ≤ a .fields .start .0 = omega arith in
+    let past : a .base .0 + a .size < a .fields .start .0 = omega arith in
+    simp (le-leb (a .base .0 + a .behind) (a .fields .start .0) in-list, lt-leb (a .fields .start .0) (a .base .0 + a .size) past)
 
 place-of-requires : tie.Need-place-of-requires
 place-of-requires c κs = search needs
@@ -47,11 +47,11 @@ returns-4 : tie.Need-returns-4
 unfolding fragmentOf
 returns-4 c =
     let a = c .before .before .before .before .before .before .before .before .before .before .args in
-    let in-list : a .base .0 + a .behind ≤ a .fields .start = omega (arith, c .before .before .before .before .before .before) in
-    let within : a .fields .start ≤ a .base .0 + a .size = omega (arith, c .before .before .before .before) in
+    let in-list : a .base .0 + a .behind ≤ a .fields .start .0 = omega (arith, c .before .before .before .before .before .before) in
+    let within : a .fields .start .0 ≤ a .base .0 + a .size = omega (arith, c .before .before .before .before) in
     c .at-places .ensures
     ∙ ap₂ (placedAt (a .fields) (a .base .0 + a .size)) (c .before .before .before .place-of .ensures) (c .before .before .place-of2 .ensures)
-    ∙ sym (simp (le-leb (a .base .0 + a .behind) (a .fields .start) in-list, le-leb (a .fields .start) (a .base .0 + a .size) within))
+    ∙ sym (simp (le-leb (a .base .0 + a .behind) (a .fields .start .0) in-list, le-leb (a .fields .start .0) (a .base .0 + a .size) within))
 
 pub fragment-of-spec : {M : Type 1} → statement M
 fragment-of-spec =

@@ -6,10 +6,10 @@ use Rattle.vectors.proofs.table.run.Statement.{statement}
 use Rattle.vectors.proofs.table.run.Tie as tie
 
 abbrev Inv-loop : tie.InvT-loop
-Inv-loop form table at₀ at = at ≤ length table
+Inv-loop table at₀ at = at ≤ length table
 
 abbrev μ-loop : tie.MeasureT-loop
-μ-loop form table at₀ at = length table - at
+μ-loop table at₀ at = length table - at
 
 loop-holds : tie.Need-loop-holds Inv-loop μ-loop
 loop-holds c = search needs

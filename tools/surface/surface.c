@@ -1,0 +1,229 @@
+/* Holds include/wuraketozo.h to the library: every constant of the header is what the library answers, and a pointer with length 0 may
+ * be NULL in every call that takes one. Prints how many checks were made; a failed one is named by its line. */
+#include <stdio.h>
+#include <stdlib.h>
+#include <string.h>
+
+#include "wuraketozo.h"
+
+static unsigned checks, failures;
+
+static void check_at(int line, int holds, const char *text)
+{
+    checks++;
+    if (!holds) {
+        failures++;
+        printf("surface.c:%d: not so: %s\n", line, text);
+    }
+}
+#define CHECK(test) check_at(__LINE__, (test), #test)
+
+static const wuraketozo_address here = {{192, 0, 2, 1}}, there = {{198, 51, 100, 7}};
+
+/* ---- equal answers, field by field ---- */
+
+#define SAME(field) (a.field == b.field)
+
+static int same_reading(wuraketozo_reading a, wuraketozo_reading b)
+{
+    return SAME(refusal) && SAME(verdict) && SAME(user.from) && SAME(user.to) && SAME(options.from) && SAME(options.to) && SAME(count) &&
+           SAME(fill) && SAME(apc) && SAME(identification) && SAME(place) && SAME(part.from) && SAME(part.to) && SAME(option_start) &&
+           SAME(last);
+}
+
+static int same_rereading(wuraketozo_rereading a, wuraketozo_rereading b)
+{
+    return SAME(refusal) && SAME(verdict) && SAME(user.from) && SAME(user.to) && SAME(options.from) && SAME(options.to) && SAME(count) &&
+           SAME(fill) && SAME(apc);
+}
+
+static int same_listing(wuraketozo_listing a, wuraketozo_listing b)
+{
+    return SAME(refusal) && SAME(size) && SAME(fill);
+}
+
+static int same_written(wuraketozo_written a, wuraketozo_written b)
+{
+    return SAME(refusal) && SAME(size);
+}
+
+static int same_answer(wuraketozo_answer a, wuraketozo_answer b)
+{
+    return SAME(refusal) && SAME(outcome) && SAME(length) && SAME(option_start) && SAME(figures.offered) && SAME(figures.held) &&
+           SAME(figures.delivered) && SAME(figures.expired) && SAME(figures.conflicted) && SAME(figures.repeated) &&
+           SAME(figures.rejected);
+}
+
+static int same_received(wuraketozo_received a, wuraketozo_received b)
+{
+    return SAME(what) && same_reading(a.reading, b.reading) && same_answer(a.answer, b.answer);
+}
+
+/* ---- payloads, with checksum 0 unless they say otherwise ---- */
+
+#define HEAD(length) 0x12, 0x34, 0, 53, 0, (length), 0, 0
+static const uint8_t none[] = {HEAD(8)};
+static const uint8_t short_area[] = {HEAD(8), 0};
+static const uint8_t pad[] = {HEAD(9), 'x', 1, 0, 0};
+static const uint8_t malformed[] = {HEAD(8), 0, 0, 6, 5, 0, 0, 0};
+static const uint8_t unsafe_kind[] = {HEAD(8), 0, 0, 192};
+static const uint8_t fragdata[] = {HEAD(10), 'x', 'y', 0, 0, 3, 10, 0, 22, 0, 0, 0, 7, 0, 8};
+static const uint8_t read_list[] = {HEAD(8), 0, 0};
+static const uint8_t apc_right[] = {HEAD(8), 0, 0, 2, 6, 0, 0, 0, 0};
+static const uint8_t apc_wrong[] = {HEAD(8), 0, 0, 2, 6, 0, 0, 0, 1};
+static const uint8_t piece[] = {HEAD(8), 0, 0, 3, 10, 0, 20, 0, 0, 0, 7, 0, 8, 'a', 'b'};
+
+#define READ(payload) wuraketozo_read(payload, sizeof(payload), here, there)
+
+static void verdicts_and_apc(void)
+{
+    uint8_t summed[64], crowded[10 + 33 * 2] = {HEAD(8), 0, 0};
+    const uint8_t no_options[] = {0};
+    wuraketozo_written written = wuraketozo_write(here, there, 4660, 53, none, 0, no_options, 1, 0, summed, sizeof summed);
+    for (size_t i = 10; i < sizeof crowded; i += 2) {
+        crowded[i] = 9;
+        crowded[i + 1] = 2;
+    }
+    CHECK(written.refusal == 0 && written.size == 10);
+    CHECK(wuraketozo_read(summed, 10, here, there).verdict == WURAKETOZO_READ);
+    summed[9] ^= 1;
+    CHECK(wuraketozo_read(summed, 10, here, there).verdict == WURAKETOZO_BADSUM);
+    summed[8] = summed[9] = 0;
+    CHECK(wuraketozo_read(summed, 10, here, there).verdict == WURAKETOZO_UNSUMMED);
+    CHECK(READ(none).verdict == WURAKETOZO_NONE);
+    CHECK(READ(short_area).verdict == WURAKETOZO_SHORT);
+    CHECK(READ(pad).verdict == WURAKETOZO_PAD);
+    CHECK(READ(malformed).verdict == WURAKETOZO_MALFORMED);
+    CHECK(READ(unsafe_kind).verdict == WURAKETOZO_UNSAFE);
+    CHECK(READ(fragdata).verdict == WURAKETOZO_FRAGDATA);
+    CHECK(READ(crowded).verdict == WURAKETOZO_CROWDED);
+    CHECK(READ(piece).verdict == WURAKETOZO_PIECE);
+    CHECK(READ(read_list).apc == WURAKETOZO_APC_NONE);
+    CHECK(READ(apc_right).apc == WURAKETOZO_APC_RIGHT);
+    CHECK(READ(apc_wrong).apc == WURAKETOZO_APC_WRONG);
+    /* of an original: its bytes are the payload's behind the header */
+    CHECK(wuraketozo_reread(read_list + 8, 2, 0).verdict == WURAKETOZO_READ);
+    CHECK(wuraketozo_reread(unsafe_kind + 8, 3, 0).refusal == 5);
+    CHECK(wuraketozo_reread(apc_wrong + 8, 8, 0).apc == WURAKETOZO_APC_WRONG);
+    CHECK(READ(piece).part.from == 20 && READ(piece).part.to == sizeof piece && READ(piece).place == 0);
+    CHECK(READ(apc_right).user.from == 8 && READ(apc_right).options.from == 10);
+    CHECK(wuraketozo_reread(apc_right + 8, 8, 0).user.from == 0 && wuraketozo_reread(apc_right + 8, 8, 0).options.from == 2);
+}
+
+/* ---- the table ---- */
+
+static wuraketozo_client records[1];
+static uint8_t store[16384], out[4096];
+
+static wuraketozo_fragment fragment(size_t place, uint32_t last)
+{
+    wuraketozo_fragment f = {0, {{{0}}, {{0}}, 0, 0}, 7, place, 2, last};
+    return f;
+}
+
+#define OFFER(place, bytes, last) \
+    wuraketozo_offer(records, 1, store, sizeof store, 0, fragment(place, last), (const uint8_t *)(bytes), sizeof(bytes) - 1, out, \
+                     sizeof out)
+#define RECEIVE(payload) \
+    wuraketozo_receive(records, 1, store, sizeof store, 0, 0, here, there, payload, sizeof(payload), out, sizeof out)
+
+static void outcomes(void)
+{
+    CHECK(wuraketozo_record_size() == sizeof records[0] && wuraketozo_layout_2() == sizeof records[0]);
+    CHECK(wuraketozo_share_size() == sizeof store && wuraketozo_out_size() == sizeof out && wuraketozo_client_limit() == 12);
+    CHECK(wuraketozo_reset(records, 1, store, sizeof store).outcome == WURAKETOZO_RESET);
+    CHECK(OFFER(0, "ab", 0).outcome == WURAKETOZO_STORED);
+    CHECK(OFFER(0, "ab", 0).outcome == WURAKETOZO_REPEATED);
+    CHECK(OFFER(1, "xy", 0).outcome == WURAKETOZO_CONFLICT);
+    CHECK(OFFER(0, "ab", 0).outcome == WURAKETOZO_STORED);
+    wuraketozo_answer delivered = OFFER(2, "cd", 1);
+    CHECK(delivered.outcome == WURAKETOZO_DELIVERED && delivered.length == 4 && delivered.option_start == 2);
+    CHECK(memcmp(out, "abcd", 4) == 0);
+    CHECK(wuraketozo_advance(records, 1, store, sizeof store, 0, 5).outcome == WURAKETOZO_ADVANCED);
+    CHECK(wuraketozo_account(records, 1, store, sizeof store, 0).outcome == WURAKETOZO_ACCOUNT);
+    CHECK(wuraketozo_account(records, 1, store, sizeof store, 1).outcome == WURAKETOZO_REFUSED);
+    CHECK(wuraketozo_reset(records, 1, store, sizeof store).outcome == WURAKETOZO_RESET);
+    CHECK(RECEIVE(apc_right).what == WURAKETOZO_DATAGRAM);
+    CHECK(RECEIVE(piece).what == WURAKETOZO_FRAGMENT);
+    CHECK(wuraketozo_receive(records, 1, store, sizeof store, 0, 0, here, there, none, 7, out, sizeof out).what == WURAKETOZO_UNREAD);
+}
+
+/* ---- NULL with length 0 ---- */
+
+/* With each of the pointers NULL that has length 0, a call answers what it answers with a pointer, and leaves the same. */
+static void nothing_at_all(void)
+{
+    uint8_t some[16], buffer[16], left[16];
+    memset(some, 0xee, sizeof some);
+    memset(buffer, 0xee, sizeof buffer);
+    memset(left, 0xee, sizeof left);
+    const uint8_t list[] = {0};
+    const wuraketozo_extent whole = {0, 0};
+    const wuraketozo_original_extent whole_original = {0, 0};
+
+    CHECK(same_reading(wuraketozo_read(NULL, 0, here, there), wuraketozo_read(some, 0, here, there)));
+    CHECK(wuraketozo_read(NULL, 0, here, there).refusal == 1);
+    CHECK(same_rereading(wuraketozo_reread(NULL, 0, 0), wuraketozo_reread(some, 0, 0)));
+    CHECK(wuraketozo_reread(NULL, 0, 0).refusal == 0 && wuraketozo_reread(NULL, 0, 0).verdict == WURAKETOZO_NONE);
+    CHECK(same_rereading(wuraketozo_reread(NULL, 0, 1), wuraketozo_reread(some, 0, 1)));
+
+    for (uint32_t verdict = WURAKETOZO_NONE; verdict <= WURAKETOZO_PIECE; verdict++) {
+        CHECK(same_listing(wuraketozo_list(NULL, 0, verdict, whole, buffer, sizeof buffer),
+                           wuraketozo_list(some, 0, verdict, whole, left, sizeof left)));
+        CHECK(memcmp(buffer, left, sizeof left) == 0);
+        CHECK(same_listing(wuraketozo_list(NULL, 0, verdict, whole, NULL, 0), wuraketozo_list(some, 0, verdict, whole, left, 0)));
+        CHECK(same_listing(wuraketozo_relist(NULL, 0, verdict, whole_original, buffer, sizeof buffer),
+                           wuraketozo_relist(some, 0, verdict, whole_original, left, sizeof left)));
+        CHECK(memcmp(buffer, left, sizeof left) == 0);
+        CHECK(same_listing(wuraketozo_relist(NULL, 0, verdict, whole_original, NULL, 0),
+                           wuraketozo_relist(some, 0, verdict, whole_original, left, 0)));
+    }
+    CHECK(wuraketozo_list(NULL, 0, WURAKETOZO_READ, whole, buffer, sizeof buffer).size == 1 && buffer[0] == 0);
+    CHECK(wuraketozo_list(NULL, 0, WURAKETOZO_READ, whole, NULL, 0).refusal == 8);
+
+    CHECK(same_written(wuraketozo_write(here, there, 1, 2, NULL, 0, list, 1, 0, buffer, sizeof buffer),
+                       wuraketozo_write(here, there, 1, 2, some, 0, list, 1, 0, left, sizeof left)));
+    CHECK(memcmp(buffer, left, sizeof left) == 0);
+    CHECK(wuraketozo_write(here, there, 1, 2, NULL, 0, list, 1, 0, buffer, sizeof buffer).size == 10);
+    CHECK(wuraketozo_write(here, there, 1, 2, NULL, 0, NULL, 0, 0, buffer, sizeof buffer).refusal == 7);
+    CHECK(wuraketozo_write(here, there, 1, 2, NULL, 0, list, 1, 0, NULL, 0).refusal == 8);
+    CHECK(wuraketozo_write(here, there, 1, 2, NULL, 0, NULL, 0, 255, NULL, 0).refusal == 7);
+    CHECK(memcmp(buffer, left, sizeof left) == 0);
+
+    /* the table: bit 0 of `way` leaves out the records, bit 1 the store, bit 2 what is read, bit 3 out */
+    for (unsigned way = 0; way < 16; way++) {
+        wuraketozo_client one[2];
+        size_t count = way & 1 ? 0 : 1, size = way & 2 ? 0 : sizeof store, length = way & 4 ? 0 : sizeof piece, room = way & 8 ? 0 : sizeof out;
+        wuraketozo_client *no_records = count ? &one[1] : NULL;
+        uint8_t *no_store = size ? store : NULL, *no_out = room ? out : NULL;
+        const uint8_t *no_bytes = length ? piece : NULL;
+        uint8_t dummy = 0;
+        memset(one, 0, sizeof one);
+        CHECK(same_answer(wuraketozo_reset(no_records, count, no_store, size), wuraketozo_reset(&one[0], count, size ? store : &dummy, size)));
+        CHECK(same_answer(wuraketozo_offer(no_records, count, no_store, size, 0, fragment(0, 0), no_bytes, length, no_out, room),
+                          wuraketozo_offer(&one[0], count, size ? store : &dummy, size, 0, fragment(0, 0), length ? piece : &dummy, length,
+                                           room ? out : &dummy, room)));
+        CHECK(same_received(
+            wuraketozo_receive(no_records, count, no_store, size, 0, 0, here, there, no_bytes, length, no_out, room),
+            wuraketozo_receive(&one[0], count, size ? store : &dummy, size, 0, 0, here, there, length ? piece : &dummy, length,
+                               room ? out : &dummy, room)));
+        CHECK(same_answer(wuraketozo_account(no_records, count, no_store, size, 0), wuraketozo_account(&one[0], count, size ? store : &dummy, size, 0)));
+        CHECK(same_answer(wuraketozo_advance(no_records, count, no_store, size, 0, 9),
+                          wuraketozo_advance(&one[0], count, size ? store : &dummy, size, 0, 9)));
+        CHECK(memcmp(&one[0], &one[1], sizeof one[0]) == 0 && dummy == 0);
+        if (way != 0 && !(way & 3))
+            CHECK(wuraketozo_offer(&one[0], count, store, size, 0, fragment(0, 0), no_bytes, length, no_out, room).refusal ==
+                  (way & 8 ? 23u : 24u));
+        if (way & 3)
+            CHECK(wuraketozo_account(no_records, count, no_store, size, 0).refusal == 20);
+    }
+}
+
+int main(void)
+{
+    verdicts_and_apc();
+    outcomes();
+    nothing_at_all();
+    printf("%u checks, %u failed\n", checks, failures);
+    return failures == 0 ? EXIT_SUCCESS : EXIT_FAILURE;
+}
