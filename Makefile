@@ -16,9 +16,9 @@ check:
 fmt:
 	rt fmt
 
-# The static library for hosts, target/staticlib/libhost.a.
+# The static library for hosts, target/staticlib/libhost_calls.a.
 library:
-	@rt staticlib host >target-library.log 2>&1 || { tail -n 20 target-library.log; exit 1; }
+	@rt staticlib host_calls >target-library.log 2>&1 || { tail -n 20 target-library.log; exit 1; }
 	@rm -f target-library.log
 
 # A C program on it.

@@ -1,6 +1,6 @@
 /* A host that receives for three clients: a gauge at a weir, a data logger that has lost its way, and a weather mast.
  *
- *     gcc -std=c11 -Wall -Wextra -Werror -Iinclude examples/host.c target/staticlib/libhost.a -o target/host-example
+ *     gcc -std=c11 -Wall -Wextra -Werror -Iinclude examples/host.c target/staticlib/libhost_calls.a -o target/host-example
  *
  * The logger sends the first fragment of one message after another and never the rest. It fills its own four places again and
  * again; the gauge and the mast get their messages as if it were not there. What this prints stands in examples/host.expected.

@@ -3,7 +3,7 @@
 set -eu
 cd "$(dirname "$0")/.."
 program=target/host-example
-gcc -std=c11 -Wall -Wextra -Werror -Iinclude examples/host.c target/staticlib/libhost.a -o "$program"
+gcc -std=c11 -Wall -Wextra -Werror -Iinclude examples/host.c target/staticlib/libhost_calls.a -o "$program"
 if [ $# -gt 0 ]; then
     "$program" | diff "$1" -
 else

@@ -1,9 +1,9 @@
 #!/bin/sh
-# Writes a datagram and reads it back with `roundtrip`, then shows what `inspect` says of sample datagrams; with IN, what it says of
+# Writes a datagram and reads it back with `program_roundtrip`, then shows what `program_inspect` says of sample datagrams; with IN, what it says of
 # that file alone: 8 address bytes (source, destination), then a UDP payload.
 set -u
 cd "$(dirname "$0")/.." || exit 2
-program=target/bin/inspect
+program=target/bin/program_inspect
 
 # build NAME: proves and builds a program.
 build() {
@@ -21,7 +21,7 @@ if [ -n "${IN:-}" ]; then
 fi
 build roundtrip
 echo "-- written and read back"
-target/bin/roundtrip
+target/bin/program_roundtrip
 for sample in samples/*.bin; do
     echo "-- $sample"
     "$program" <"$sample"

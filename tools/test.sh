@@ -68,12 +68,12 @@ fi
 # The program on each sample, against the output that stands beside it.
 for sample in samples/*.bin; do
     [ -f "$sample" ] || continue
-    target/bin/inspect <"$sample" | cmp -s - "${sample%.bin}.txt"
+    target/bin/program_inspect <"$sample" | cmp -s - "${sample%.bin}.txt"
     report "$sample" $?
 done
 
 # The static library for hosts, the C header held to it, and the C example on it against the output that stands beside it.
-quietly static-library rt staticlib host
+quietly static-library rt staticlib host_calls
 if command -v gcc >/dev/null 2>&1; then
     quietly c-surface sh tools/surface/test.sh
     quietly c-example sh tools/example.sh examples/host.expected
@@ -108,13 +108,13 @@ if command -v python3 >/dev/null 2>&1; then
     PYTHONDONTWRITEBYTECODE=1
     export PYTHONDONTWRITEBYTECODE
     quietly reader-by-hand python3 tools/vectors/make.py check
-    python3 tools/vectors/make.py numbers | cmp -s - crates/vectors/stdout
+    python3 tools/vectors/make.py numbers | cmp -s - crates/program_vectors/stdout
     report vectors-predicted $?
     python3 tools/vectors/make.py script | cmp -s - rust/scripts/lists/readings.txt
     report readings-listed $?
     python3 tools/vectors/make.py readings | cmp -s - rust/scripts/lists/readings.expected
     report readings-predicted $?
-    python3 tools/vectors/writer.py example | cmp -s - crates/roundtrip/stdout
+    python3 tools/vectors/writer.py example | cmp -s - crates/program_roundtrip/stdout
     report roundtrip-predicted $?
     python3 tools/vectors/writer.py script | cmp -s - rust/scripts/lists/writings.txt
     report writings-listed $?

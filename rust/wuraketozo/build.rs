@@ -1,5 +1,5 @@
-//! Links the proved static library `libhost.a`. It is looked for in the
-//! directory WURAKETOZO_LIB, or else where `rt staticlib host` writes it.
+//! Links the proved static library `libhost_calls.a`. It is looked for in the
+//! directory WURAKETOZO_LIB, or else where `rt staticlib host_calls` writes it.
 
 use std::env;
 use std::path::PathBuf;
@@ -12,16 +12,16 @@ fn main() {
         Some(directory) => PathBuf::from(directory),
         None => manifest.join("../../target/staticlib"),
     };
-    let library = directory.join("libhost.a");
+    let library = directory.join("libhost_calls.a");
     println!("cargo:rerun-if-env-changed=WURAKETOZO_LIB");
     println!("cargo:rerun-if-changed=build.rs");
     println!("cargo:rerun-if-changed={}", library.display());
     if !library.is_file() {
         println!(
-            "cargo:warning={} is missing: make it with `rt staticlib host`, or name its directory in WURAKETOZO_LIB",
+            "cargo:warning={} is missing: make it with `rt staticlib host_calls`, or name its directory in WURAKETOZO_LIB",
             library.display()
         );
     }
     println!("cargo:rustc-link-search=native={}", directory.display());
-    println!("cargo:rustc-link-lib=static=host");
+    println!("cargo:rustc-link-lib=static=host_calls");
 }

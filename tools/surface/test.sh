@@ -3,7 +3,7 @@
 # is another one.
 set -eu
 cd "$(dirname "$0")/../.."
-library=target/staticlib/libhost.a
+library=target/staticlib/libhost_calls.a
 room=$(mktemp -d)
 trap 'rm -rf "$room"' EXIT
 flags="-std=c11 -Wall -Wextra -Werror"
@@ -44,7 +44,7 @@ done
 # The same of a host in Rust: against a library whose symbol has another number.
 if command -v cargo >/dev/null 2>&1 && command -v objcopy >/dev/null 2>&1; then
     mkdir "$room/lib"
-    objcopy --redefine-sym "wuraketozo_layout_$number=wuraketozo_layout_$((number + 1))" "$library" "$room/lib/libhost.a"
+    objcopy --redefine-sym "wuraketozo_layout_$number=wuraketozo_layout_$((number + 1))" "$library" "$room/lib/libhost_calls.a"
     if WURAKETOZO_LIB=$room/lib CARGO_TARGET_DIR=$room/rust \
         cargo build --quiet --offline --example gauges --manifest-path rust/wuraketozo/Cargo.toml 2>"$room/log"; then
         echo "the wrapper for Rust links with another layout's number"

@@ -1,6 +1,6 @@
 """make.py check      the reader against results written by hand
-make.py numbers    what the program `vectors` has to print
-make.py source     its table, crates/vectors/src/vectors.rt, for rt fmt
+make.py numbers    what the program `program_vectors` has to print
+make.py source     its table, crates/program_vectors/src/vectors.rt, for rt fmt
 make.py script     packets and originals as a script, rust/scripts/lists/readings.txt
 make.py readings   what has to come of it, rust/scripts/lists/readings.expected
 """

@@ -1,6 +1,6 @@
 """A writer in plain Python, from document 01 alone.
 
-    writer.py example   what the program `roundtrip` has to print
+    writer.py example   what the program `program_roundtrip` has to print
     writer.py script    cases as a script, rust/scripts/lists/writings.txt
     writer.py cases     what has to come of it, rust/scripts/lists/writings.expected
 """

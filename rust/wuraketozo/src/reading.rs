@@ -49,7 +49,7 @@ pub enum Verdict {
 }
 
 impl Verdict {
-    /// The word in the documents and in the output of `inspect`.
+    /// The word in the documents and in the output of `program_inspect`.
     pub const fn word(&self) -> &'static str {
         match self {
             Verdict::Bare => "none",

@@ -1,0 +1,123 @@
+-- A fragment call leaves the share as long as it was: only a fragment that joins is written, and that lies in its place's part of the share. This
+-- is a law of the record's own rules; the book has no part in it.
+-- Assumes nothing.
+use Prim.Native.Nat.{ℕ, _+_, _*_, _<_, _≤_}
+use mathlib.Core.Path.{_≡_, refl, sym, subst, _∙_}
+use mathlib.Core.Bool.{Bool, true, false}
+use mathlib.Core.List.{List}
+use mathlib.Core.Option.{Option, none, some}
+use native.Mathlib.Nat.{suc-mul, mul-le-mul-right}
+use native.Mathlib.Omega.{arith}
+use lib.ListN.{length, length-map}
+use borrow.Author.Tests.{eqb-false}
+use Rattle.number_octets.specs.Octets.{part, overlay}
+use Rattle.number_octets.proofs.Laws.{length-overlay}
+use Rattle.client_record.specs.declared.Fragment.{Fragment}
+use Rattle.client_record.specs.declared.Assembly.{Assembly}
+use Rattle.client_record.specs.declared.Client.{Client}
+use Rattle.client_record.specs.Limits.{datagramLimit, assemblyLimit, shareSize}
+use Rattle.client_record.specs.Lists.{if}
+use Rattle.client_record.specs.Record.{whole, heldFragments}
+use Rattle.client_reassembly.specs.declared.Arrival.{Arrival}
+use Rattle.client_reassembly.specs.Answer.{refused, stored, repeated, conflict, firstOf}
+use Rattle.client_reassembly.specs.Advance.{expire, elapse}
+use Rattle.client_reassembly.specs.Offer.{
+  offerTests,
+  fragmentOf,
+  noRoom,
+  placeFor,
+  assemblyFor,
+  repeats,
+  isConflict,
+  isFull,
+  added,
+  rejecting,
+  repeating,
+  conflicting,
+  storing,
+  Outcome,
+  leaving,
+  base,
+  handedOut,
+  joined,
+  startOf,
+  placed,
+  taken,
+  refuseOr,
+  fragmentOn,
+}
+use Rattle.client_reassembly.proofs.Fates.{taken-rejected, taken-placed}
+use Rattle.client_reassembly.proofs.Passes.{passes}
+use Rattle.client_reassembly.proofs.Places.{room-place, place-le}
+use Rattle.client_ledger.specs.Shapes.{Shaped}
+
+-- a fragment that ends within the limit lies in the share
+place-fits : (p : ℕ) (f : Fragment) (bytes share : List ℕ) → p < assemblyLimit → f .offset + length bytes ≤ datagramLimit → length share ≡ shareSize
+    → startOf p f + length bytes ≤ length share
+unfolding startOf base shareSize
+place-fits p f bytes share h e size =
+    omega (arith, size, suc-mul p datagramLimit, mul-le-mul-right datagramLimit h)
+
+abbrev Whole : Outcome → Type 0
+Whole o = length (o .share) ≡ shareSize
+
+placed-share : (c : Client) (share out : List ℕ) (p : ℕ) (a : Assembly) (f : Fragment) (bytes : List ℕ) → p < assemblyLimit
+    → f .offset + length bytes ≤ datagramLimit → length share ≡ shareSize → Whole (placed c share out p a f bytes)
+unfolding placed joined handedOut
+placed-share c share out p a f bytes h e size =
+    go (repeats a f (part (startOf p f) (f .length) share) bytes) (isConflict a f) (isFull a) (whole (heldFragments (added a f)))
+  where
+    laid : length (overlay share (startOf p f) bytes) ≡ shareSize
+    laid = length-overlay share (startOf p f) bytes (place-fits p f bytes share h e size) ∙ size
+
+    go : (x y z w : Bool)
+        → Whole (if x (leaving (repeating (f .length) c) share out repeated)
+        (if y (leaving (conflicting p a (f .length) c) share out conflict)
+        (if z (leaving (rejecting (f .length) c) share out (refused 30))
+        (if w (handedOut c (overlay share (startOf p f) bytes) out p a f)
+        (leaving (storing p (added a f) (f .length) c) (overlay share (startOf p f) bytes) out stored)))))
+    go true y z w = size
+    go false true z w = size
+    go false false true w = size
+    go false false false true = laid
+    go false false false false = laid
+
+fragment-offset : (o : Arrival) (n : ℕ) → fragmentOf o n .offset ≡ o .offset .0
+unfolding fragmentOf
+fragment-offset o n = refl
+
+taken-share : (c : Client) (share out : List ℕ) (o : Arrival) (bytes : List ℕ) → length (c .assemblies) ≡ assemblyLimit
+    → o .offset .0 + length bytes ≤ datagramLimit → length share ≡ shareSize → Whole (taken c share out o bytes)
+taken-share c share out o bytes places e size = go (noRoom o (c .assemblies)) refl
+  where
+    p : ℕ
+    p = placeFor o (c .assemblies)
+
+    within : noRoom o (c .assemblies) ≡ false → p < assemblyLimit
+    within t =
+        let ne = eqb-false p (length (c .assemblies)) (sym (room-place o (c .assemblies)) ∙ t) in
+        omega (arith, ne, place-le o (c .assemblies), places)
+
+    go : (t : Bool) → noRoom o (c .assemblies) ≡ t → Whole (taken c share out o bytes)
+    go true t = subst Whole (sym (taken-rejected c share out o bytes t)) size
+    go false t =
+        subst Whole (sym (taken-placed c share out o bytes t))
+        (placed-share c share out p (assemblyFor o p (c .assemblies)) (fragmentOf o (length bytes)) bytes (within t)
+        (omega (arith, e, fragment-offset o (length bytes))) size)
+
+elapse-places : (t : ℕ) (c : Client) → length (c .assemblies) ≡ assemblyLimit → length (elapse t c .assemblies) ≡ assemblyLimit
+unfolding elapse
+elapse-places t c e = length-map (c .assemblies) (expire t) ∙ e
+
+-- the share is as long after a fragment call
+pub fragment-call-share : (c : Client) (share out : List ℕ) (o : Arrival) (bytes : List ℕ) → Shaped c share
+    → length (fragmentOn c share out o bytes .share) ≡ shareSize
+unfolding fragmentOn
+fragment-call-share c share out o bytes shape = go (firstOf (offerTests c (length out) o (length bytes))) refl
+  where
+    go : (r : Option ℕ) → firstOf (offerTests c (length out) o (length bytes)) ≡ r
+        → Whole (refuseOr c share out r (taken (elapse (o .time) c) share out o bytes))
+    go none e =
+        taken-share (elapse (o .time) c) share out o bytes (elapse-places (o .time) c (shape .places))
+        (passes c (length out) o (length bytes) e .sized .ends) (shape .size)
+    go (some n) e = shape .size

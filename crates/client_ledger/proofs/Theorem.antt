@@ -1,0 +1,29 @@
+-- The one-client theorem, with no premise: the record's own rules keep the record test passing, so each call can be followed by the next.
+-- Assumes nothing.
+use mathlib.Core.Path.{_≡_}
+use mathlib.Core.List.{List}
+use lib.ListN.{length}
+use Prim.Native.Nat.{ℕ}
+use Rattle.client_record.specs.Limits.{shareSize}
+use Rattle.client_record.specs.Record.{freshClient}
+use Rattle.client_reassembly.proofs.Lasting.{shaped, fragment-call-sound}
+use Rattle.client_ledger.specs.Book.{empty}
+use Rattle.client_ledger.specs.Shapes.{slotted}
+use Rattle.client_ledger.specs.OneClient.{Lasts, OneClient}
+use Rattle.client_ledger.specs.History.{Ask, recordGives}
+use Rattle.client_ledger.specs.Bookkeeping.{bookGives}
+use Rattle.client_ledger.proofs.OneClient.{one-client}
+use Rattle.client_ledger.proofs.History.{whole-history}
+
+lasts : Lasts
+unfolding Lasts slotted shaped
+lasts c share out o bytes sound shape =
+    fragment-call-sound c share out o bytes sound (record { places = shape .places; slots = shape .slots })
+
+-- a client's record and share do, call after call, what its plain book does
+pub one-client-theorem : OneClient
+one-client-theorem = one-client lasts
+
+-- over every list of calls from a fresh record: every answer and every out buffer is the book's
+pub every-history : (share : List ℕ) → length share ≡ shareSize → (asks : List Ask) → recordGives freshClient share asks ≡ bookGives empty asks
+every-history = whole-history one-client-theorem

@@ -1,0 +1,73 @@
+-- What an exported call leaves, from what the call below it leaves: the answer's value by one more equation, and all else as it stands.
+-- Assumes nothing.
+use Prim.Native.Nat.{ℕ}
+use mathlib.Core.Path.{_≡_, ap, subst, _∙_}
+use mathlib.Core.List.{List}
+use Rattle.wire_datagram.specs.declared.reading.Extent.{Extent}
+use Rattle.wire_datagram.specs.declared.reading.Reading.{Reading}
+use Rattle.wire_datagram.specs.declared.rereading.OriginalExtent.{OriginalExtent}
+use Rattle.wire_datagram.specs.declared.rereading.Rereading.{Rereading}
+use Rattle.list_options.specs.Listing.{listedAnswer, ListedInto}
+use Rattle.list_options.specs.declared.Listed.{Listed}
+use Rattle.list_readings.specs.Catalogue.{walkOfValue}
+use Rattle.list_writer.specs.Answer as Compose
+use Rattle.list_writer.specs.Answer.{writtenAnswer, Wrote}
+use Rattle.list_writer.specs.declared.Written as Compose′
+use Rattle.client_record.specs.declared.Client.{Client}
+use Rattle.client_reassembly.specs.Answer.{replyOf}
+use Rattle.client_reassembly.specs.declared.Answer as Reassembly
+use Rattle.client_reassembly.specs.declared.Arrival.{Arrival}
+use Rattle.client_ledger.specs.History.{offering}
+use Rattle.table_calls.specs.Table as Table
+use Rattle.table_receiver.specs.Receive as Receive
+use Rattle.table_receiver.specs.Receive.{fateIn}
+use Rattle.table_receiver.specs.declared.Received as Receiver
+use Rattle.host_values.specs.Lists.{verdictFor, readingFor, rereadingFor, hostListing, hostWritten}
+use Rattle.host_values.specs.Answer.{hostAnswer, arrivalFrom, hostFate}
+use Rattle.host_values.specs.declared.Listing.{Listing}
+use Rattle.host_values.specs.declared.Written.{Written}
+use Rattle.host_values.specs.declared.Answer.{Answer}
+use Rattle.host_values.specs.declared.Fragment.{Fragment}
+use Rattle.host_values.specs.declared.Received.{Received}
+use Rattle.host_calls.specs.Left.{Lists, Writes, Leaves, Receives}
+
+-- the option list of a reading value with these numbers
+pub lists : (bytes : List ℕ) (number : ℕ) (options : Extent) {buffer left : List ℕ} {listed : Listed} {answer : Listing} {r : Reading}
+    → r ≡ readingFor number options → ListedInto (walkOfValue bytes (r .verdict) (r .options .from .0) (r .options .to .0)) buffer listed left
+    → answer ≡ hostListing (listedAnswer listed) → Lists (walkOfValue bytes (verdictFor number) (options .from .0) (options .to .0)) buffer answer left
+lists bytes number options {buffer} {left} {listed} is into says =
+    let h = subst (λ (r : Reading). ListedInto (walkOfValue bytes (r .verdict) (r .options .from .0) (r .options .to .0)) buffer listed left) is into in
+    record { answers = says ∙ ap hostListing (h .answered); buffer-left = h .written }
+
+-- and of a rereading value
+pub relists : (bytes : List ℕ) (number : ℕ) (options : OriginalExtent) {buffer left : List ℕ} {listed : Listed} {answer : Listing} {r : Rereading}
+    → r ≡ rereadingFor number options → ListedInto (walkOfValue bytes (r .verdict) (r .options .from .0) (r .options .to .0)) buffer listed left
+    → answer ≡ hostListing (listedAnswer listed) → Lists (walkOfValue bytes (verdictFor number) (options .from .0) (options .to .0)) buffer answer left
+relists bytes number options {buffer} {left} {listed} is into says =
+    let h = subst (λ (r : Rereading). ListedInto (walkOfValue bytes (r .verdict) (r .options .from .0) (r .options .to .0)) buffer listed left) is into in
+    record { answers = says ∙ ap hostListing (h .answered); buffer-left = h .written }
+
+pub writes : {o : Compose.Outcome} {written : Compose′.Written} {answer : Written} {left : List ℕ} → Wrote o written left
+    → answer ≡ hostWritten (writtenAnswer written) → Writes o answer left
+writes h says = record { answers = says ∙ ap hostWritten (h .answered); buffer-left = h .left }
+
+pub leaves : {a : Table.After} {told : Reassembly.Answer} {answer : Answer} {records : List Client} {store out : List ℕ}
+    → Table.Leaves a told records store out → answer ≡ hostAnswer (replyOf told) → Leaves a answer records store out
+leaves h says =
+    record { answers = says ∙ ap hostAnswer (h .answers); records-left = h .records-left; store-left = h .store-left; out-left = h .out-left }
+
+-- the fragment that was offered is the one that the call was given
+abbrev Offered : ℕ → List ℕ → List ℕ → Table.Table → Reassembly.Answer → List Client → List ℕ → List ℕ → Arrival → Type 0
+Offered k bytes out t told records store left arrival = Table.Leaves (Table.askOn k (offering arrival bytes out) t) told records store left
+
+pub offers : (k : ℕ) (f : Fragment) (bytes out : List ℕ) (t : Table.Table) {arrival : Arrival} {told : Reassembly.Answer} {answer : Answer}
+    {records : List Client} {store left : List ℕ} → arrival ≡ arrivalFrom f
+    → Table.Leaves (Table.askOn k (offering arrival bytes out) t) told records store left → answer ≡ hostAnswer (replyOf told)
+    → Leaves (Table.askOn k (offering (arrivalFrom f) bytes out) t) answer records store left
+offers k f bytes out t {told = told} {records = records} {store = store} {left = left} is h says =
+    leaves (subst (Offered k bytes out t told records store left) is h) says
+
+pub receives : {o : Receive.Outcome′} {told : Receiver.Received} {answer : Received} {records : List Client} {store out : List ℕ}
+    → Receive.Leaves o told records store out → answer ≡ hostFate (fateIn told) → Receives o answer records store out
+receives h says =
+    record { answers = says ∙ ap hostFate (h .answers); records-left = h .records-left; store-left = h .store-left; out-left = h .out-left }

@@ -1,0 +1,10 @@
+pub mod table_receiver·receive
+pub mod table_calls·account
+pub mod table_calls·advance
+pub mod table_calls·offer
+pub mod table_calls·reset
+pub mod wuraketozo_account
+pub mod wuraketozo_advance
+pub mod wuraketozo_offer
+pub mod wuraketozo_receive
+pub mod wuraketozo_reset

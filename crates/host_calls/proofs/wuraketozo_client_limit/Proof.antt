@@ -1,0 +1,15 @@
+-- `host_calls::wuraketozo_client_limit` meets its contract: the constant is the limit.
+-- Assumes nothing.
+use mathlib.Core.Path.{refl}
+use Rattle.client_record.specs.Limits.{clientLimit}
+use Rattle.host_calls.proofs.wuraketozo_client_limit.Statement.{statement}
+use Rattle.host_calls.proofs.wuraketozo_client_limit.Tie as tie
+use Rattle.host_calls.proofs.wuraketozo_client_limit.Reads as reads
+use Rattle.host_calls.proofs.wuraketozo_client_limit.Lts as lts
+
+returns : tie.Need-returns
+unfolding clientLimit
+returns c = refl
+
+pub wuraketozo-client-limit-spec : {M : Type 1} → statement M
+wuraketozo-client-limit-spec = tie.close (tie.spec returns)

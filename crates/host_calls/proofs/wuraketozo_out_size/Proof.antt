@@ -1,0 +1,15 @@
+-- `host_calls::wuraketozo_out_size` meets its contract: the constant is the limit.
+-- Assumes nothing.
+use mathlib.Core.Path.{refl}
+use Rattle.client_record.specs.Limits.{datagramLimit}
+use Rattle.host_calls.proofs.wuraketozo_out_size.Statement.{statement}
+use Rattle.host_calls.proofs.wuraketozo_out_size.Tie as tie
+use Rattle.host_calls.proofs.wuraketozo_out_size.Reads as reads
+use Rattle.host_calls.proofs.wuraketozo_out_size.Lts as lts
+
+returns : tie.Need-returns
+unfolding datagramLimit
+returns c = refl
+
+pub wuraketozo-out-size-spec : {M : Type 1} → statement M
+wuraketozo-out-size-spec = tie.close (tie.spec returns)

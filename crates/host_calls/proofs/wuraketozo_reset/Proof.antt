@@ -1,0 +1,25 @@
+-- `host_calls::wuraketozo_reset` meets its contract: the value of the table's answer. `tools/lent/transplant.py` makes the modules below.
+-- Assumes nothing.
+use borrow.Author.Needs.{needs}
+use Rattle.host_calls.proofs.Facts.{leaves}
+use Rattle.host_calls.proofs.wuraketozo_reset.Statement.{statement}
+use Rattle.host_calls.proofs.wuraketozo_reset.Proof.Tie as tie
+use Rattle.host_calls.proofs.wuraketozo_reset.Proof.Lts as lts
+use Rattle.host_calls.proofs.Lent.wuraketozo_reset.Reads as reads
+mod Lts
+mod Tie
+
+reset-requires : tie.Need-reset-requires
+reset-requires c κs = search needs
+
+answer-of-requires : tie.Need-answer-of-requires
+answer-of-requires c κs = search needs
+
+same-length : tie.Need-same-length
+same-length c = search needs
+
+returns : tie.Need-returns
+returns c = leaves (c .before .before .reset .ensures) (c .answer-of .ensures)
+
+pub wuraketozo-reset-spec : {M : Type 1} → statement M
+wuraketozo-reset-spec = tie.close (tie.spec reset-requires answer-of-requires same-length returns)

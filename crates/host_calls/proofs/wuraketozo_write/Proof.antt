@@ -1,0 +1,23 @@
+-- `host_calls::wuraketozo_write` meets its contract: the value of what was written.
+-- Assumes nothing.
+use Rattle.host_calls.proofs.Facts.{writes}
+use borrow.Author.Needs.{needs}
+use Rattle.host_calls.proofs.wuraketozo_write.Statement.{statement}
+use Rattle.host_calls.proofs.wuraketozo_write.Tie as tie
+use Rattle.host_calls.proofs.wuraketozo_write.Reads as reads
+use Rattle.host_calls.proofs.wuraketozo_write.Lts as lts
+
+write-requires : tie.Need-write-requires
+write-requires c κs = search needs
+
+written-of-requires : tie.Need-written-of-requires
+written-of-requires c κs = search needs
+
+same-length : tie.Need-same-length
+same-length c = search needs
+
+returns : tie.Need-returns
+returns c = writes (c .before .before .before .write .ensures) (c .written-of .ensures)
+
+pub wuraketozo-write-spec : {M : Type 1} → statement M
+wuraketozo-write-spec = tie.close (tie.spec write-requires written-of-requires same-length returns)

@@ -1,0 +1,228 @@
+// The library for C and Rust: the calls of include/wuraketozo.h under their names there. A slice is a pointer and a length in C. No
+// call asks anything of the values of its arguments.
+use wire_datagram::reading;
+use wire_datagram::reading::Extent;
+use wire_datagram::rereading;
+use wire_datagram::rereading::OriginalExtent;
+use number_offsets::OriginalOffset;
+use client_record::Client;
+use host_values::Address;
+use host_values::Answer;
+use host_values::Fragment;
+use host_values::Listing;
+use host_values::Reading;
+use host_values::Received;
+use host_values::Rereading;
+use host_values::Written;
+ghost use mathlib.Core.Path.{_≡_};
+ghost use mathlib.Core.List.{[]};
+ghost use Rattle.wire_datagram.specs.Reading.{reading};
+ghost use Rattle.wire_datagram.specs.Rereading.{rereading};
+ghost use Rattle.list_readings.specs.Catalogue.{walkOfValue};
+ghost use Rattle.list_writer.specs.Answer.{written, datagramFor};
+ghost use Rattle.client_record.specs.Limits.{datagramLimit, shareSize, clientLimit};
+ghost use Rattle.client_ledger.specs.History.{Ask, offering, advancing, accounting};
+ghost use Rattle.table_calls.specs.Table.{tableOf, resetOn, askOn};
+ghost use Rattle.table_receiver.specs.Receive.{receiveOn};
+ghost use Rattle.host_values.specs.Reading.{hostReading, hostRereading};
+ghost use Rattle.host_values.specs.Lists.{verdictFor};
+ghost use Rattle.host_values.specs.Answer.{arrivalFrom};
+ghost use Rattle.host_calls.specs.Left.{recordSize, Lists, Writes, Leaves, Receives};
+
+// ---- reading
+
+// Reads one IPv4 payload.
+#[no_mangle]
+pub extern "C" fn wuraketozo_read(payload: &[u8], source: Address, destination: Address) -> Reading
+    ensures { λ r. ⌜ r ≡ hostReading (reading (now (payload .entry)) (source .octets) (destination .octets)) ⌝ }
+{
+    let from = source.octets;
+    let to = destination.octets;
+    host_values::reading_of(reading::read(payload, from, to))
+}
+
+// Reads an original again that was put together from fragments.
+#[no_mangle]
+pub extern "C" fn wuraketozo_reread(original: &[u8], option_start: OriginalOffset) -> Rereading
+    ensures { λ r. ⌜ r ≡ hostRereading (rereading (now (original .entry)) («option_start» .0)) ⌝ }
+{
+    host_values::rereading_of(rereading::reread(original, option_start))
+}
+
+// ---- option lists and payloads
+
+// Lists the options of a reading of `payload`, which is given by its verdict's number and its option list.
+#[no_mangle]
+pub extern "C" fn wuraketozo_list(
+    payload: &[u8],
+    verdict: u32,
+    options: Extent,
+    buffer: &mut [u8],
+) -> Listing
+    ensures { λ r. ⌜ Lists (walkOfValue (now (payload .entry)) (verdictFor verdict) (options .from .0) (options .to .0)) (now (buffer .entry)) r (now (buffer .exit)) ⌝ }
+{
+    let reading = host_values::reading_for(verdict, options);
+    host_values::listing_of(list_readings::list_reading(payload, reading, buffer))
+}
+
+// Lists the options of a rereading of `original`.
+#[no_mangle]
+pub extern "C" fn wuraketozo_relist(
+    original: &[u8],
+    verdict: u32,
+    options: OriginalExtent,
+    buffer: &mut [u8],
+) -> Listing
+    ensures { λ r. ⌜ Lists (walkOfValue (now (original .entry)) (verdictFor verdict) (options .from .0) (options .to .0)) (now (buffer .entry)) r (now (buffer .exit)) ⌝ }
+{
+    let rereading = host_values::rereading_for(verdict, options);
+    host_values::listing_of(list_readings::list_rereading(original, rereading, buffer))
+}
+
+// Writes a whole payload.
+#[no_mangle]
+pub extern "C" fn wuraketozo_write(
+    source: Address,
+    destination: Address,
+    source_port: u16,
+    destination_port: u16,
+    user: &[u8],
+    list: &[u8],
+    fill: u8,
+    buffer: &mut [u8],
+) -> Written
+    ensures { λ r. ⌜ Writes
+        (written (datagramFor (source .octets) (destination .octets) «source_port» «destination_port» (now (user .entry)) fill) (now (list .entry)) (now (buffer .entry)))
+        r (now (buffer .exit)) ⌝ }
+{
+    let from = source.octets;
+    let to = destination.octets;
+    host_values::written_of(list_writer::write(
+        from,
+        to,
+        source_port,
+        destination_port,
+        user,
+        list,
+        fill,
+        buffer,
+    ))
+}
+
+// ---- sizes
+
+// The bytes of a record: 64 for the eight numbers, and 160 for each of the four assemblies (12 for the flow, 4, 8 and 8, and 8 for each of
+// the 16 fragments), with no gap between them. `recordSize` is the size of the layout, so no other number is proved.
+#[no_mangle]
+pub extern "C" fn wuraketozo_record_size() -> usize
+    ensures { λ r. ⌜ r ≡ recordSize ⌝ }
+{
+    704
+}
+
+// The same under a name that has the number of the header's layout. The header and the wrapper for Rust refer to it, so that a host that was
+// compiled for another layout does not link. The number goes up with every change of a struct or of a call's arguments.
+#[no_mangle]
+pub extern "C" fn wuraketozo_layout_2() -> usize
+    ensures { λ r. ⌜ r ≡ recordSize ⌝ }
+{
+    wuraketozo_record_size()
+}
+
+// The bytes of a client's share of the store.
+#[no_mangle]
+pub extern "C" fn wuraketozo_share_size() -> usize
+    ensures { λ r. ⌜ r ≡ shareSize ⌝ }
+{
+    client_record::SHARE
+}
+
+// The bytes of the smallest out buffer.
+#[no_mangle]
+pub extern "C" fn wuraketozo_out_size() -> usize
+    ensures { λ r. ⌜ r ≡ datagramLimit ⌝ }
+{
+    client_record::DATAGRAM_LIMIT
+}
+
+// The most clients of a table.
+#[no_mangle]
+pub extern "C" fn wuraketozo_client_limit() -> usize
+    ensures { λ r. ⌜ r ≡ clientLimit ⌝ }
+{
+    client_record::CLIENT_LIMIT
+}
+
+// By hand from here on.
+// ---- the table
+
+// Makes every record fresh.
+#[no_mangle]
+pub extern "C" fn wuraketozo_reset(records: &mut [Client], store: &[u8]) -> Answer
+    ensures { λ r. ⌜ Leaves (resetOn (tableOf (now (records .entry)) (now (store .entry)))) r (now (records .exit)) (now (store .entry)) [] ⌝ }
+{
+    let answer = table_calls::reset(records, store);
+    host_values::answer_of(answer)
+}
+
+// Offers a fragment for client `k`.
+#[no_mangle]
+pub extern "C" fn wuraketozo_offer(
+    records: &mut [Client],
+    store: &mut [u8],
+    k: usize,
+    fragment: Fragment,
+    bytes: &[u8],
+    out: &mut [u8],
+) -> Answer
+    ensures { λ r. ⌜ Leaves (askOn k (offering (arrivalFrom fragment) (now (bytes .entry)) (now (out .entry))) (tableOf (now (records .entry)) (now (store .entry)))) r (now (records .exit)) (now (store .exit)) (now (out .exit)) ⌝ }
+{
+    let arrival = host_values::arrival_of(fragment);
+    let answer = table_calls::offer(records, store, k, arrival, bytes, out);
+    host_values::answer_of(answer)
+}
+
+// Moves the time of client `k` on.
+#[no_mangle]
+pub extern "C" fn wuraketozo_advance(
+    records: &mut [Client],
+    store: &[u8],
+    k: usize,
+    time: u64,
+) -> Answer
+    ensures { λ r. ⌜ Leaves (askOn k (advancing time) (tableOf (now (records .entry)) (now (store .entry)))) r (now (records .exit)) (now (store .entry)) [] ⌝ }
+{
+    let answer = table_calls::advance(records, store, k, time);
+    host_values::answer_of(answer)
+}
+
+// The account of client `k`.
+#[no_mangle]
+pub extern "C" fn wuraketozo_account(records: &[Client], store: &[u8], k: usize) -> Answer
+    ensures { λ r. ⌜ Leaves (askOn k accounting (tableOf (now (records .entry)) (now (store .entry)))) r (now (records .entry)) (now (store .entry)) [] ⌝ }
+{
+    let answer = table_calls::account(records, store, k);
+    host_values::answer_of(answer)
+}
+
+// ---- one call for each datagram
+
+// Reads a payload that arrived for client `k` and, if it is a fragment, offers it.
+#[no_mangle]
+pub extern "C" fn wuraketozo_receive(
+    records: &mut [Client],
+    store: &mut [u8],
+    k: usize,
+    time: u64,
+    source: Address,
+    destination: Address,
+    payload: &[u8],
+    out: &mut [u8],
+) -> Received
+    ensures { λ r. ⌜ Receives (receiveOn k (record { time = time; source = source .octets; destination = destination .octets; payload = now (payload .entry) }) (now (out .entry)) (tableOf (now (records .entry)) (now (store .entry)))) r (now (records .exit)) (now (store .exit)) (now (out .exit)) ⌝ }
+{
+    let from = source.octets;
+    let to = destination.octets;
+    let received = table_receiver::receive(records, store, k, time, from, to, payload, out);
+    host_values::received_of(received)
+}

@@ -1,0 +1,325 @@
+-- Reading an encoded option list and writing it are inverse: number by number and body by body, each is read back as it was written (`-back`), and
+-- what was read is the encoding at the front of the list (`-read`). Assumes nothing.
+use mathlib.Core.Path.{_≡_, refl, sym, ap, ap₂, _∙_}
+use mathlib.Core.Bool.{Bool, true, false, cond}
+use mathlib.Core.List.{List, [], _∷_, _++_, append-assoc, append-nil}
+use Prim.Native.Nat.{ℕ, zero, suc, _+_, _^_, _≤_, _<_}
+use native.Mathlib.Omega.{arith}
+use borrow.Author.Tests.{le-leb, leb-true}
+use lib.Dec.{leb}
+use lib.ListN.{length, take, drop, take-append-drop, length-append, length-drop}
+use lib.Seq.{take-append-seam, drop-append-seam, take-at, drop-at, length-take-le}
+use Rattle.number_octets.specs.Octets.{Octets, number, octets}
+use Rattle.number_octets.proofs.Laws.{number-lt, number-octets, octets-number, length-octets, octets-bytes, part-bytes}
+use Rattle.number_varint.specs.SevenBit.{encoded}
+use Rattle.wire_options.specs.Walk.{Item, optionLimit}
+use Rattle.list_encoding.specs.Shape.{Shape, fields, raw, barred, shapeOf}
+use Rattle.list_encoding.specs.Encoding.{
+  given,
+  unreadable,
+  longestBody,
+  encodedFields,
+  encodedBody,
+  encodedOption,
+  encodedOptions,
+  encodedList,
+  Read,
+  got,
+  failed,
+  andThen,
+  readAs,
+  readNumber,
+  readFields,
+  readBytes,
+  readBody,
+  itemOf,
+  readKind,
+  readOption,
+  readOptions,
+  toTheEnd,
+  decodedList,
+  total,
+  Shaped,
+  ValidOption,
+  Each,
+  Valid,
+}
+use Rattle.list_encoding.proofs.Shapes.{Narrow, NarrowShape, ByteKind, shape-narrow, shape-byte}
+use Rattle.list_encoding.proofs.Numbers.{bytes-drop, number-back, NumberRead, number-read, number-bytes, number-whole}
+
+-- ---- lists of bytes
+
+none-long : (l : List ℕ) → length l ≡ 0 → l ≡ []
+none-long [] e = refl
+none-long (x ∷ l) e = absurd (omega arith)
+
+bytes-take : (n : ℕ) (l : List ℕ) → Octets l → Octets (take n l)
+bytes-take n l h = part-bytes 0 n l h
+
+pub bytes-append : (a b : List ℕ) → Octets a → Octets b → Octets (a ++ b)
+bytes-append [] b h g i = g i
+bytes-append (x ∷ a) b h g zero = h 0
+bytes-append (x ∷ a) b h g (suc i) = bytes-append a b (λ j. h (suc j)) g i
+
+-- ---- the fields of an option
+
+module _ (width value : ℕ) (body : List ℕ) where
+  front-octets : take width (octets width value ++ body) ≡ octets width value
+  front-octets = take-at (octets width value) body width (length-octets width value)
+
+  pub behind-octets : drop width (octets width value ++ body) ≡ body
+  behind-octets = drop-at (octets width value) body width (length-octets width value)
+
+  -- the first field of bytes laid end to end
+  pub field-value : value < 256 ^ width → number (take width (octets width value ++ body)) ≡ value
+  field-value h = ap number front-octets ∙ number-octets width value h
+
+fields-back : (widths body rest : List ℕ) → Narrow widths → length body ≡ total widths → Octets body
+    → readFields widths (encodedFields widths body ++ rest) ≡ got body rest
+unfolding readFields encodedFields total
+fields-back [] body rest n s h = ap (λ (b : List ℕ). got b rest) (sym (none-long body s))
+fields-back (width ∷ widths) body rest n s h =
+    let front : List ℕ = take width body in
+    let behind : List ℕ = drop width body in
+    let size : length front ≡ width = length-take-le width body (omega arith) in
+    let octets-front : Octets front = bytes-take width body h in
+    let value : ℕ = number front in
+    let small : value < 256 ^ width = rw size at (number-lt front octets-front) in
+    let next : ℕ → List ℕ → Read (List ℕ) =
+    λ v r. readAs (λ b. octets width v ++ b) (readFields widths r) in
+    let ih = fields-back widths behind rest (n .1) (simp length-drop (omega arith)) (bytes-drop width body h) in
+    let same : octets width value ≡ front = rw size at (octets-number front octets-front) in
+    ap (λ (l : List ℕ). andThen (readNumber (256 ^ width) l) next) (append-assoc (encoded value) (encodedFields widths behind) rest)
+    ∙ ap (λ (r : Read ℕ). andThen r next) (number-back (256 ^ width) value (encodedFields widths behind ++ rest) small (omega (arith, n .0)))
+    ∙ ap (readAs (λ (b : List ℕ). octets width value ++ b)) ih
+    ∙ ap (λ (b : List ℕ). got b rest) (ap (λ (a : List ℕ). a ++ behind) same ∙ take-append-drop width body)
+
+pub record BodyRead (encoding l body rest : List ℕ) : Type 0 where
+  pub whole : encoding ++ rest ≡ l
+  pub bytes : Octets body
+  pub behind : Octets rest
+
+-- one field more in front of those that were read
+field-joined : (width v : ℕ) (widths l b r t : List ℕ) → Octets l → NumberRead (256 ^ width) l v r
+    → BodyRead (encodedFields widths b) r b t × (length b ≡ total widths)
+    → BodyRead (encodedFields (width ∷ widths) (octets width v ++ b)) l (octets width v ++ b) t
+    × (length (octets width v ++ b) ≡ width + total widths)
+unfolding encodedFields
+field-joined width v widths l b r t h n m =
+    let code : encodedFields (width ∷ widths) (octets width v ++ b) ≡ encoded v ++ encodedFields widths b =
+    ap₂ (λ (k : ℕ) (c : List ℕ). encoded k ++ encodedFields widths c) (field-value width v b (n .small)) (behind-octets width v b) in (
+      record {
+        whole =
+            ap (λ (c : List ℕ). c ++ t) code ∙ append-assoc (encoded v) (encodedFields widths b) t
+            ∙ ap (λ (c : List ℕ). encoded v ++ c) (m .0 .whole) ∙ number-whole n h;
+        bytes = bytes-append (octets width v) b (octets-bytes width v) (m .0 .bytes);
+        behind = m .0 .behind;
+      },
+      simp (length-append, length-octets) (omega (arith, m .1)),
+    )
+
+fields-read : (widths l body rest : List ℕ) → Octets l → readFields widths l ≡ got body rest
+    → BodyRead (encodedFields widths body) l body rest × (length body ≡ total widths)
+unfolding readFields encodedFields total
+fields-read [] l body rest h e =
+    let none : [] ≡ body = cc in
+    let all : l ≡ rest = cc in (
+      record { whole = sym all; bytes = rw (← none) (λ i. omega arith); behind = rw (← all) h },
+      sym (ap length none),
+    )
+fields-read (width ∷ widths) l body rest h e = first (λ r b t. fields-read widths r b t) (readNumber (256 ^ width) l) refl e
+  where
+    Goal : Type 0
+    Goal = BodyRead (encodedFields (width ∷ widths) body) l body rest × (length body ≡ width + total widths)
+
+    Later : Type 0
+    Later = (r b t : List ℕ) → Octets r → readFields widths r ≡ got b t → BodyRead (encodedFields widths b) r b t × (length b ≡ total widths)
+
+    second : Later → (v : ℕ) (r : List ℕ) (t : Read (List ℕ)) → readFields widths r ≡ t → NumberRead (256 ^ width) l v r
+        → readAs (λ b. octets width v ++ b) t ≡ got body rest → Goal
+    second later v r (failed n) p q f = absurd (let z : _≡_ {A = ℕ} 0 1 = cc in omega arith)
+    second later v r (got b t) p q f =
+        let whole : octets width v ++ b ≡ body = cc in
+        let left : t ≡ rest = cc in
+        rw (← whole, ← left) (field-joined width v widths l b r t h q (later r b t (number-bytes q h) p))
+
+    first : Later → (t : Read ℕ) → readNumber (256 ^ width) l ≡ t
+        → andThen t (λ v r. readAs (λ b. octets width v ++ b) (readFields widths r)) ≡ got body rest → Goal
+    first later (failed n) p f = absurd (let z : _≡_ {A = ℕ} 0 1 = cc in omega arith)
+    first later (got v r) p f = second later v r (readFields widths r) refl (number-read (256 ^ width) l v r p) f
+
+-- ---- the body of an option
+
+body-back : (shape : Shape) (body rest : List ℕ) → NarrowShape shape → Shaped shape body → Octets body
+    → readBody shape (encodedBody shape body ++ rest) ≡ got body rest
+unfolding readBody encodedBody
+body-back (fields widths) body rest n s h = fields-back widths body rest n s h
+body-back barred body rest n s h = absurd s
+body-back raw body rest n s h =
+    let limit : ℕ = longestBody + 1 in
+    let all : leb (length body) (length (body ++ rest)) ≡ true = le-leb (length body) (length (body ++ rest)) (omega (arith, length-append body rest)) in
+    ap (λ (l : List ℕ). andThen (readNumber limit l) readBytes) (append-assoc (encoded (length body)) body rest)
+    ∙ ap (λ (r : Read ℕ). andThen r readBytes) (number-back limit (length body) (body ++ rest) (omega arith) (omega arith))
+    ∙ rw all (ap₂ got (take-append-seam body rest) (drop-append-seam body rest))
+
+body-read : (shape : Shape) (l body rest : List ℕ) → Octets l → readBody shape l ≡ got body rest
+    → BodyRead (encodedBody shape body) l body rest × Shaped shape body
+unfolding readBody encodedBody
+body-read (fields widths) l body rest h e = fields-read widths l body rest h e
+body-read barred l body rest h e = absurd (let z : _≡_ {A = ℕ} 0 1 = cc in omega arith)
+body-read raw l body rest h e = first (readNumber (longestBody + 1) l) refl e
+  where
+    Goal : Type 0
+    Goal = BodyRead (encoded (length body) ++ body) l body rest × (length body ≤ longestBody)
+
+    second : (n : ℕ) (r : List ℕ) (t : Bool) → leb n (length r) ≡ t → NumberRead (longestBody + 1) l n r
+        → cond t (got (take n r) (drop n r)) (failed unreadable) ≡ got body rest → Goal
+    second n r false p q f = absurd (let z : _≡_ {A = ℕ} 0 1 = cc in omega arith)
+    second n r true p q f =
+        let front : take n r ≡ body = cc in
+        let behind : drop n r ≡ rest = cc in
+        let size : length body ≡ n = sym (ap length front) ∙ length-take-le n r (leb-true n (length r) p) in
+        let octets-r : Octets r = number-bytes q h in
+        let all : body ++ rest ≡ r = ap₂ _++_ (sym front) (sym behind) ∙ take-append-drop n r in (
+          record {
+            whole =
+                append-assoc (encoded (length body)) body rest ∙ ap₂ (λ (k : ℕ) (c : List ℕ). encoded k ++ c) size all ∙ number-whole q h;
+            bytes = rw (← front) (bytes-take n r octets-r);
+            behind = rw (← behind) (bytes-drop n r octets-r);
+          },
+          omega (arith, q .small),
+        )
+
+    first : (t : Read ℕ) → readNumber (longestBody + 1) l ≡ t → andThen t readBytes ≡ got body rest → Goal
+    first (failed n) p f = absurd (let z : _≡_ {A = ℕ} 0 1 = cc in omega arith)
+    first (got n r) p f = second n r (leb n (length r)) refl (number-read (longestBody + 1) l n r p) f
+
+-- ---- one option
+
+-- What is encoded is read back, whatever is behind it.
+pub option-back : (item : Item) (rest : List ℕ) → ValidOption item → readOption (encodedOption item ++ rest) ≡ got item rest
+unfolding readOption readKind encodedOption
+option-back item rest v =
+    let kind : ℕ = item .kind in
+    let shape : Shape = shapeOf kind in
+    let code : List ℕ = encodedBody shape (item .body) in
+    let small : kind < 256 = byte (shapeOf kind) (shape-byte kind) (v .shaped) in
+    ap (λ (l : List ℕ). andThen (readNumber 256 l) readKind) (append-assoc (encoded kind) code rest)
+    ∙ ap (λ (r : Read ℕ). andThen r readKind) (number-back 256 kind (code ++ rest) small (omega arith))
+    ∙ ap (readAs (itemOf kind)) (body-back shape (item .body) rest (shape-narrow kind) (v .shaped) (v .bytes))
+  where
+    byte : (shape : Shape) → ByteKind (item .kind) shape → Shaped shape (item .body) → item .kind < 256
+    byte (fields widths) b s = b
+    byte raw b s = b
+    byte barred b s = absurd s
+
+pub record OptionRead (l : List ℕ) (item : Item) (rest : List ℕ) : Type 0 where
+  pub whole : encodedOption item ++ rest ≡ l
+  pub valid : ValidOption item
+  pub behind : Octets rest
+
+-- What was read is the encoding of a valid option.
+pub option-read : (l : List ℕ) (item : Item) (rest : List ℕ) → Octets l → readOption l ≡ got item rest → OptionRead l item rest
+unfolding readOption readKind encodedOption
+option-read l item rest h e = first (readNumber 256 l) refl e
+  where
+    second : (kind : ℕ) (r : List ℕ) (t : Read (List ℕ)) → readBody (shapeOf kind) r ≡ t → NumberRead 256 l kind r
+        → readAs (itemOf kind) t ≡ got item rest → OptionRead l item rest
+    second kind r (failed n) p q f = absurd (let z : _≡_ {A = ℕ} 0 1 = cc in omega arith)
+    second kind r (got body t) p q f =
+        let same : itemOf kind body ≡ item = cc in
+        let left : t ≡ rest = cc in
+        let m = body-read (shapeOf kind) r body t (number-bytes q h) p in
+        rw (← same, ← left)
+        record {
+          whole =
+              append-assoc (encoded kind) (encodedBody (shapeOf kind) body) t
+              ∙ ap (λ (c : List ℕ). encoded kind ++ c) (m .0 .whole) ∙ number-whole q h;
+          valid = record { shaped = m .1; bytes = m .0 .bytes };
+          behind = m .0 .behind;
+        }
+
+    first : (t : Read ℕ) → readNumber 256 l ≡ t → andThen t readKind ≡ got item rest → OptionRead l item rest
+    first (failed n) p f = absurd (let z : _≡_ {A = ℕ} 0 1 = cc in omega arith)
+    first (got kind r) p f = second kind r (readBody (shapeOf kind) r) refl (number-read 256 l kind r p) f
+
+-- ---- options one after the other
+
+pub options-back : (items : List Item) (rest : List ℕ) → Each items → readOptions (length items) (encodedOptions items ++ rest) ≡ got items rest
+unfolding readOptions encodedOptions
+options-back [] rest v = refl
+options-back (item ∷ items) rest v =
+    let next : Item → List ℕ → Read (List Item) = λ i r. readAs (λ is. i ∷ is) (readOptions (length items) r) in
+    ap (λ (l : List ℕ). andThen (readOption l) next) (append-assoc (encodedOption item) (encodedOptions items) rest)
+    ∙ ap (λ (r : Read Item). andThen r next) (option-back item (encodedOptions items ++ rest) (v .0))
+    ∙ ap (readAs (λ (is : List Item). item ∷ is)) (options-back items rest (v .1))
+
+pub record OptionsRead (count : ℕ) (l : List ℕ) (items : List Item) (rest : List ℕ) : Type 0 where
+  pub whole : encodedOptions items ++ rest ≡ l
+  pub counted : length items ≡ count
+  pub each : Each items
+
+pub options-read : (count : ℕ) (l : List ℕ) (items : List Item) (rest : List ℕ) → Octets l → readOptions count l ≡ got items rest
+    → OptionsRead count l items rest
+unfolding readOptions encodedOptions
+options-read zero l items rest h e =
+    let none : [] ≡ items = cc in
+    let all : l ≡ rest = cc in
+    rw (← none, ← all) record { whole = refl; counted = refl; each = tt }
+options-read (suc count) l items rest h e = first (λ r is t. options-read count r is t) (readOption l) refl e
+  where
+    Later : Type 0
+    Later = (r : List ℕ) (is : List Item) (t : List ℕ) → Octets r → readOptions count r ≡ got is t → OptionsRead count r is t
+
+    second : Later → (item : Item) (r : List ℕ) (t : Read (List Item)) → readOptions count r ≡ t → OptionRead l item r
+        → readAs (λ is. item ∷ is) t ≡ got items rest → OptionsRead (suc count) l items rest
+    second later item r (failed n) p q f = absurd (let z : _≡_ {A = ℕ} 0 1 = cc in omega arith)
+    second later item r (got is t) p q f =
+        let same : item ∷ is ≡ items = cc in
+        let left : t ≡ rest = cc in
+        let m = later r is t (q .behind) p in
+        rw (← same, ← left)
+        record {
+          whole =
+              append-assoc (encodedOption item) (encodedOptions is) t
+              ∙ ap (λ (c : List ℕ). encodedOption item ++ c) (m .whole) ∙ q .whole;
+          counted = ap suc (m .counted);
+          each = (q .valid, m .each);
+        }
+
+    first : Later → (t : Read Item) → readOption l ≡ t → andThen t (λ i r. readAs (λ is. i ∷ is) (readOptions count r)) ≡ got items rest
+        → OptionsRead (suc count) l items rest
+    first later (failed n) p f = absurd (let z : _≡_ {A = ℕ} 0 1 = cc in omega arith)
+    first later (got item r) p f = second later item r (readOptions count r) refl (option-read l item r h p) f
+
+-- ---- whole lists: one option list, one encoding
+
+pub decode-encode : (items : List Item) → Valid items → decodedList (encodedList items) ≡ given items
+unfolding decodedList encodedList optionLimit
+decode-encode items v =
+    let limit : ℕ = optionLimit + 1 in
+    ap (λ (r : Read ℕ). toTheEnd (andThen r readOptions))
+    (number-back limit (length items) (encodedOptions items) (omega (arith, v .few)) (omega (arith, v .few)))
+    ∙ ap (λ (l : List ℕ). toTheEnd (readOptions (length items) l)) (sym (append-nil (encodedOptions items)))
+    ∙ ap toTheEnd (options-back items [] (v .each))
+
+pub encode-decode : (l : List ℕ) (items : List Item) → Octets l → decodedList l ≡ given items → (encodedList items ≡ l) × Valid items
+unfolding decodedList encodedList
+encode-decode l items h e = first (readNumber (optionLimit + 1) l) refl e
+  where
+    second : (count : ℕ) (r : List ℕ) (t : Read (List Item)) → readOptions count r ≡ t → NumberRead (optionLimit + 1) l count r
+        → toTheEnd t ≡ given items → (encodedList items ≡ l) × Valid items
+    second count r (failed n) p q f = absurd (let z : _≡_ {A = ℕ} 0 1 = cc in omega arith)
+    second count r (got is (b ∷ t)) p q f = absurd (let z : _≡_ {A = ℕ} 0 1 = cc in omega arith)
+    second count r (got is []) p q f =
+        let same : is ≡ items = cc in
+        let m = options-read count r is [] (number-bytes q h) p in
+        rw (← same) (
+          ap₂ (λ (n : ℕ) (c : List ℕ). encoded n ++ c) (m .counted) (sym (append-nil (encodedOptions is)) ∙ m .whole) ∙ number-whole q h,
+          record { few = omega (arith, q .small, m .counted); each = m .each },
+        )
+
+    first : (t : Read ℕ) → readNumber (optionLimit + 1) l ≡ t → toTheEnd (andThen t readOptions) ≡ given items
+        → (encodedList items ≡ l) × Valid items
+    first (failed n) p f = absurd (let z : _≡_ {A = ℕ} 0 1 = cc in omega arith)
+    first (got count r) p f = second count r (readOptions count r) refl (number-read (optionLimit + 1) l count r p) f

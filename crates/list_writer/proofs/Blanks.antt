@@ -1,0 +1,141 @@
+-- The area and the datagram, written with a checksum of zero and with their checksum set in place afterwards, are what `Payload` says: setting a
+-- field replaces just that part. Assumes nothing.
+use mathlib.Core.Path.{_≡_, refl, sym, ap, ap₂, _∙_}
+use mathlib.Core.Bool.{Bool, true, false}
+use mathlib.Core.List.{List, [], _∷_, _++_}
+use Prim.Native.Nat.{ℕ, zero, suc, _+_, _-_, _%_, _≤_, _<_}
+use native.Mathlib.Omega.{arith}
+use lib.Dec.{eqb}
+use lib.ListN.{length, take, drop, replicate, length-append, length-replicate}
+use Rattle.number_octets.specs.Octets.{octets, overlay}
+use Rattle.number_octets.proofs.Laws.{length-octets, part-overlay}
+use Rattle.number_offsets.specs.Offsets.{udpHeader}
+use Rattle.number_checksum.specs.Checksum.{wordSum, folded, sent}
+use Rattle.wire_datagram.specs.Reading.{pseudoHeader, isOdd}
+use Rattle.list_writer.specs.Payload.{padding, areaWith, areaOf, Datagram, sizeOf, frontOf, datagramWith, udpChecksumOf}
+use Rattle.list_writer.specs.Private.{Laid, summed}
+use Rattle.list_writer.proofs.Areas.{ocsFor, area-is, area-length}
+use Rattle.list_writer.proofs.Laying.{laid-append, laid-length, laid-as, laid-by, laid-replace}
+
+-- ---- the area
+
+blank-is : (n : ℕ) → n < 2 → (l : List ℕ) → replicate (n + 2) 0 ++ l ≡ areaWith (eqb n 1) (0 ∷ 0 ∷ []) l
+blank-is zero h l = refl
+blank-is (suc zero) h l = refl
+blank-is (suc (suc n)) h l = absurd (omega arith)
+
+pad-size : (n : ℕ) → n < 2 → length (padding (eqb n 1)) ≡ n
+pad-size zero h = refl
+pad-size (suc zero) h = refl
+pad-size (suc (suc n)) h = absurd (omega arith)
+
+pub area-size : (n : ℕ) → n < 2 → (l : List ℕ) → length (areaOf (eqb n 1) l) ≡ n + 2 + length l
+area-size zero h l = area-length false l
+area-size (suc zero) h l = area-length true l
+area-size (suc (suc n)) h l = absurd (omega arith)
+
+pub blank-size : (at : ℕ) (l : List ℕ) → length (replicate (at % 2 + 2) 0 ++ l) ≡ length (areaOf (isOdd at) l)
+blank-size at l =
+    let n : ℕ = at % 2 + 2 in
+    let zeros : List ℕ = replicate n 0 in
+    length-append zeros l ∙ ap (λ (k : ℕ). k + length l) (length-replicate {A = ℕ} n 0) ∙ sym (area-size (at % 2) (omega arith) l)
+
+module _ {t u : List ℕ} (at : ℕ) {end : ℕ} (l : List ℕ) (sum field : ℕ) (p : Laid t at (replicate (at % 2 + 2) 0 ++ l) u end)
+    (fits : at + length (areaOf (isOdd at) l) ≤ length t) where
+  abbrev odd : Bool
+  odd = isOdd at
+
+  abbrev blank : List ℕ
+  blank = areaWith odd (0 ∷ 0 ∷ []) l
+
+  p′ : Laid t at blank u end
+  p′ = laid-as (blank-is (at % 2) (omega arith) l) p
+
+  room : at + length blank ≤ length t
+  room = omega (arith, fits, ap length (blank-is (at % 2) (omega arith) l), blank-size at l)
+
+  span : end - at ≡ length blank
+  span = omega (arith, p′ .ends)
+
+  there : take (end - at) (drop at u) ≡ blank
+  there = ap₂ (λ (n : ℕ) (x : List ℕ). take n (drop at x)) span (p′ .over) ∙ part-overlay t at blank room
+
+  pub area-summed : {v : List ℕ} → sum ≡ folded (end - at + wordSum odd (take (end - at) (drop at u))) → field ≡ sent sum
+      → v ≡ overlay u (at + at % 2) (octets 2 field)
+      → Laid t at (areaOf odd l) v end
+  area-summed s f e =
+      let is : field ≡ ocsFor odd l =
+      f ∙ ap sent (s ∙ ap₂ (λ (n : ℕ) (x : List ℕ). folded (n + wordSum odd x)) span there) in
+      let place : at + at % 2 ≡ at + length (padding odd) = ap (λ (n : ℕ). at + n) (sym (pad-size (at % 2) (omega arith))) in
+      laid-as (ap (λ (w : ℕ). areaWith odd (octets 2 w) l) is ∙ sym (area-is odd l))
+      (laid-replace (padding odd) (0 ∷ 0 ∷ []) (octets 2 field) l p′ (e ∙ ap (λ (n : ℕ). overlay u n (octets 2 field)) place)
+      (length-octets 2 field) room)
+
+-- ---- the datagram
+
+zero-two : octets 2 0 ≡ 0 ∷ 0 ∷ []
+unfolding octets
+zero-two = refl
+
+pub front-size : (d : Datagram) → length (frontOf d) ≡ 6
+front-size d =
+    let a : List ℕ = octets 2 (d .sourcePort) in
+    let b : List ℕ = octets 2 (d .destinationPort) in
+    let c : List ℕ = octets 2 (sizeOf d) in
+    omega (
+      arith,
+      length-append a (b ++ c),
+      length-append b c,
+      length-octets 2 (d .sourcePort),
+      length-octets 2 (d .destinationPort),
+      length-octets 2 (sizeOf d),
+    )
+
+pub datagram-size : (d : Datagram) (sum : List ℕ) → length sum ≡ 2 → length (datagramWith d sum) ≡ 8 + length (d .user)
+datagram-size d sum two =
+    omega (arith, front-size d, length-append (frontOf d) (sum ++ d .user), length-append sum (d .user))
+
+-- the fields of the header one behind the other, with a checksum of zero, and the data
+pub datagram-laid : (t a b c z v : List ℕ) (d : Datagram) → 8 + length (d .user) ≤ length t → a ≡ overlay t 0 (octets 2 (d .sourcePort))
+    → b ≡ overlay a 2 (octets 2 (d .destinationPort)) → c ≡ overlay b 4 (octets 2 (8 + length (d .user))) → z ≡ overlay c 6 (octets 2 0)
+    → v ≡ overlay z 8 (d .user) → Laid t 0 (datagramWith d (0 ∷ 0 ∷ [])) v (8 + length (d .user))
+unfolding udpHeader
+datagram-laid t a b c z v d fits ea eb ec ez ev =
+    let n : ℕ = 8 + length (d .user) in
+    let A : List ℕ = octets 2 (d .sourcePort) in
+    let B : List ℕ = octets 2 (d .destinationPort) in
+    let C : List ℕ = octets 2 n in
+    let la : length A ≡ 2 = length-octets 2 (d .sourcePort) in
+    let lb : length B ≡ 2 = length-octets 2 (d .destinationPort) in
+    let lc : length C ≡ 2 = length-octets 2 n in
+    let pa : Laid t 0 A a 2 = laid-by 2 ea la in
+    let pb : Laid a 2 B b 4 = laid-by 2 eb lb in
+    let pc : Laid b 4 C c 6 = laid-by 2 ec lc in
+    let pz : Laid c 6 (0 ∷ 0 ∷ []) z 8 = laid-by 2 (ez ∙ ap (overlay c 6) zero-two) refl in
+    let pv : Laid z 8 (d .user) v n = laid-by (length (d .user)) ev refl in
+    let sa : length a ≡ length t = laid-length pa (omega arith) in
+    let sb : length b ≡ length t = laid-length pb (omega arith) ∙ sa in
+    let sc : length c ≡ length t = laid-length pc (omega arith) ∙ sb in
+    let bc : length (B ++ C) ≡ 4 = length-append B C ∙ ap₂ _+_ lb lc in
+    let abc : length (A ++ (B ++ C)) ≡ 6 = length-append A (B ++ C) ∙ ap₂ _+_ la bc in
+    let whole : length ((A ++ (B ++ C)) ++ (0 ∷ 0 ∷ d .user)) ≡ n = length-append (A ++ (B ++ C)) (0 ∷ 0 ∷ d .user) ∙ omega arith in
+    laid-append (laid-append pa (laid-append pb pc (omega arith)) (omega arith)) (laid-append pz pv (omega arith)) (omega arith)
+
+-- the checksum set in its place
+pub datagram-summed : {t u v : List ℕ} (d : Datagram) {end : ℕ} (sum field : ℕ) → Laid t 0 (datagramWith d (0 ∷ 0 ∷ [])) u end
+    → 8 + length (d .user) ≤ length t
+    → sum ≡ folded (wordSum false (pseudoHeader (d .source) (d .destination) (length (take end u)) ++ take end u)) → field ≡ sent sum
+    → v ≡ overlay u 6 (octets 2 field) → Laid t 0 (summed d) v end
+unfolding udpChecksumOf udpHeader
+datagram-summed {t} {u} d {end} sum field p fits s f e =
+    let blank : List ℕ = datagramWith d (0 ∷ 0 ∷ []) in
+    let size : length blank ≡ 8 + length (d .user) = datagram-size d (0 ∷ 0 ∷ []) refl in
+    let ends : end ≡ length blank = p .ends ∙ omega arith in
+    let there : take end u ≡ blank = ap₂ take ends (p .over) ∙ part-overlay t 0 blank (omega arith) in
+    let long : length (take end u) ≡ sizeOf d = ap length there ∙ size in
+    let is : field ≡ udpChecksumOf d =
+    f ∙ ap sent (s ∙ ap₂ (λ (n : ℕ) (x : List ℕ). folded (wordSum false (pseudoHeader (d .source) (d .destination) n ++ x))) long there) in
+    let place : _≡_ {A = ℕ} 6 (0 + length (frontOf d)) = omega (arith, front-size d) in
+    laid-as (ap (λ (w : ℕ). datagramWith d (octets 2 w)) is)
+    (laid-replace (frontOf d) (0 ∷ 0 ∷ []) (octets 2 field) (d .user) p (e ∙ ap (λ (n : ℕ). overlay u n (octets 2 field)) place)
+    (length-octets 2 field) (omega arith))

@@ -1,0 +1,71 @@
+-- `list_writer::area::put_blank` meets its contract: zeros, options and fill are laid one behind the other.
+-- Assumes nothing.
+use mathlib.Core.List.{List, _++_}
+use Prim.Native.Nat.{ℕ, _+_, _%_}
+use native.Mathlib.Omega.{arith}
+use lib.ListN.{replicate, length-append, length-replicate}
+use Rattle.list_writer.specs.Private.{wiresListed}
+use Rattle.list_writer.proofs.Laying.{laid-append, behind-room}
+use borrow.Author.Needs.{needs}
+use Rattle.list_writer.proofs.area.put_blank.Statement.{statement}
+use Rattle.list_writer.proofs.area.put_blank.Tie as tie
+
+add-put-zeros : tie.Need-add-put-zeros
+add-put-zeros c = search needs
+
+put-zeros-requires : tie.Need-put-zeros-requires
+put-zeros-requires c κs =
+    let s = c .before .before .before in
+    let a = s .args in
+    let list : List ℕ = wiresListed (a .crc) (a .list .now) in
+    let zeros : List ℕ = replicate (a .fill) 0 in
+    let n : ℕ = a .at % 2 + 2 in
+    let front : List ℕ = replicate n 0 in
+    omega (arith, s .pre, length-append front (list ++ zeros), length-replicate {A = ℕ} n 0)
+
+put-listed-requires : tie.Need-put-listed-requires
+put-listed-requires c κs =
+    let on-put-zeros = c .before .before .before in
+    let s = on-put-zeros .before .before .before .before in
+    let a = s .args in
+    let list : List ℕ = wiresListed (a .crc) (a .list .now) in
+    let zeros : List ℕ = replicate (a .fill) 0 in
+    omega (arith, behind-room (list ++ zeros) (on-put-zeros .put-zeros .ensures) (s .pre), length-append list zeros)
+
+put-zeros-requires-2 : tie.Need-put-zeros-requires-2
+put-zeros-requires-2 c κs =
+    let on-put-listed = c .before .before .before in
+    let on-put-zeros = on-put-listed .before .before .before .before in
+    let s = on-put-zeros .before .before .before .before in
+    let a = s .args in
+    let list : List ℕ = wiresListed (a .crc) (a .list .now) in
+    let zeros : List ℕ = replicate (a .fill) 0 in
+    let rest = behind-room (list ++ zeros) (on-put-zeros .put-zeros .ensures) (s .pre) in
+    omega (arith, behind-room zeros (on-put-listed .put-listed .ensures) rest, length-replicate {A = ℕ} (a .fill) 0)
+
+same-length : tie.Need-same-length
+same-length c = search needs
+
+returns : tie.Need-returns
+returns c =
+    let p6 = c .before .before .before .before .before .before in
+    let on-put-listed = p6 in
+    let on-put-zeros = on-put-listed .before .before .before .before in
+    let s = on-put-zeros .before .before .before .before in
+    let a = s .args in
+    let list : List ℕ = wiresListed (a .crc) (a .list .now) in
+    let zeros : List ℕ = replicate (a .fill) 0 in
+    let first = on-put-zeros .put-zeros .ensures in
+    let rest = laid-append (on-put-listed .put-listed .ensures) (c .before .before .put-zeros2 .ensures) (behind-room (list ++ zeros) first (s .pre)) in
+    laid-append first rest (s .pre)
+
+pub put-blank-spec : {M : Type 1} → statement M
+put-blank-spec =
+    tie.close
+    (tie.spec
+    add-put-zeros
+    put-zeros-requires
+    put-listed-requires
+    put-zeros-requires-2
+    same-length
+    returns)

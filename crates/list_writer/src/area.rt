@@ -1,0 +1,126 @@
+// The surplus area, laid over a buffer whose first byte is that of the UDP header.
+use crate::apc::COUNTS;
+use crate::wire;
+use list_encoding::entry;
+use list_encoding::entry::Entry;
+use list_encoding::entry::Field;
+ghost use mathlib.Core.List.{_++_};
+ghost use Prim.Native.Nat.{_+_, _%_, _≤_};
+ghost use lib.ListN.{length, drop, replicate};
+ghost use Rattle.wire_datagram.specs.Reading.{isOdd};
+ghost use Rattle.list_encoding.specs.Encoding.{readOption};
+ghost use Rattle.list_writer.specs.Payload.{areaOf};
+ghost use Rattle.list_writer.specs.Private.{Laid, Passes, wireRead, wiresRead, wiresListed, listedBytes};
+
+// Where the next option stands in the list, and where the one before it ends in the buffer.
+struct Passed {
+    next: usize,
+    end: usize,
+}
+
+// The area of a datagram of `at` bytes: pad, option checksum, the options of the list, and the fill. The answer is where it ends.
+pub fn put_area(list: &[u8], crc: u32, fill: u8, buffer: &mut [u8], at: usize) -> usize
+    requires { ⌜ (at + length (areaOf (isOdd at) (listedBytes crc (now list) fill)) ≤ length (now buffer))
+        × (length (areaOf (isOdd at) (listedBytes crc (now list) fill)) ≤ 65535) ⌝ }
+    ensures { λ r. ⌜ Laid (now (buffer .entry)) at (areaOf (isOdd at) (listedBytes crc (now (list .entry)) fill)) (now (buffer .exit)) r ⌝ }
+{
+    let end = put_blank(list, crc, fill, buffer, at);
+    let sum = number_checksum::add((end - at) as u16, &buffer[at..end], at % 2 == 1);
+    number_octets::put_u16(buffer, at + at % 2, number_checksum::field(sum));
+    end
+}
+
+// The area with an option checksum of zero.
+fn put_blank(list: &[u8], crc: u32, fill: u8, buffer: &mut [u8], at: usize) -> usize
+    requires { ⌜ at + length (replicate (at % 2 + 2) 0 ++ listedBytes crc (now list) fill) ≤ length (now buffer) ⌝ }
+    ensures { λ r. ⌜ Laid (now (buffer .entry)) at (replicate (at % 2 + 2) 0 ++ listedBytes crc (now (list .entry)) fill) (now (buffer .exit)) r ⌝ }
+{
+    let start = put_zeros(at % 2 + 2, buffer, at);
+    let end = put_listed(list, crc, buffer, start);
+    put_zeros(fill as usize, buffer, end)
+}
+
+// The options of an encoded list.
+fn put_listed(list: &[u8], crc: u32, buffer: &mut [u8], at: usize) -> usize
+    requires { ⌜ at + length (wiresListed crc (now list)) ≤ length (now buffer) ⌝ }
+    ensures { λ r. ⌜ Laid (now (buffer .entry)) at (wiresListed crc (now (list .entry))) (now (buffer .exit)) r ⌝ }
+{
+    let number = entry::number_at(list, 0, COUNTS);
+    match number {
+        Field::Value { value, next } => put_options(list, next, value as usize, crc, buffer, at),
+        Field::Refused => at,
+    }
+}
+
+// `count` options of a list, from `start` on.
+fn put_options(
+    list: &[u8],
+    start: usize,
+    count: usize,
+    crc: u32,
+    buffer: &mut [u8],
+    at: usize,
+) -> usize
+    requires { ⌜ at + length (wiresRead crc count (drop start (now list))) ≤ length (now buffer) ⌝ }
+    ensures { λ r. ⌜ Laid (now (buffer .entry)) at (wiresRead crc count (drop start (now (list .entry)))) (now (buffer .exit)) r ⌝ }
+{
+    let mut from = start;
+    let mut end = at;
+    let mut left = count;
+    while 0 < left {
+        let passed = put_entry(list, from, crc, buffer, end);
+        from = passed.next;
+        end = passed.end;
+        left -= 1;
+    }
+    end
+}
+
+// The option that stands at `from`. Of what can't be read nothing is taken.
+fn put_entry(list: &[u8], from: usize, crc: u32, buffer: &mut [u8], at: usize) -> Passed
+    requires { ⌜ at + length (wireRead crc (readOption (drop from (now list)))) ≤ length (now buffer) ⌝ }
+    ensures { λ r. ⌜ Passes (now (list .entry)) from crc (now (buffer .entry)) at (now (buffer .exit)) (r .next) (r .end) ⌝ }
+{
+    let found = entry::entry_at(list, from);
+    match found {
+        Entry::Fields {
+            kind,
+            first,
+            second,
+            next,
+        } => Passed {
+            next,
+            end: wire::put_fields(kind, first, second, crc, buffer, at),
+        },
+        Entry::Body {
+            kind,
+            start,
+            size: _,
+            next,
+        } => Passed {
+            next,
+            end: wire::put_option(kind, &list[start..next], buffer, at),
+        },
+        Entry::Unreadable => Passed {
+            next: from,
+            end: at,
+        },
+        Entry::Forbidden => Passed {
+            next: from,
+            end: at,
+        },
+    }
+}
+
+// `count` zero bytes.
+fn put_zeros(count: usize, buffer: &mut [u8], at: usize) -> usize
+    requires { ⌜ at + count ≤ length (now buffer) ⌝ }
+    ensures { λ r. ⌜ Laid (now (buffer .entry)) at (replicate count 0) (now (buffer .exit)) r ⌝ }
+{
+    let mut i = 0;
+    while i < count {
+        buffer[at + i] = 0;
+        i += 1;
+    }
+    at + count
+}

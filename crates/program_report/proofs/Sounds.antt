@@ -1,0 +1,51 @@
+-- Every reading has its user data behind the header; with verdict "read" its option list is a part of the payload that is walked without fault.
+-- Assumes nothing.
+use mathlib.Core.Path.{_≡_, sym, ap, _∙_, subst⁻¹}
+use mathlib.Core.Bool.{Bool, true, false, cond}
+use mathlib.Core.List.{List, _++_, append-nil, []}
+use Prim.Native.Nat.{ℕ, _≤_}
+use native.Mathlib.Omega.{arith}
+use lib.ListN.{length}
+use Rattle.wire_options.specs.Walk.{walkFrom, optionLimit}
+use Rattle.wire_datagram.specs.Extents.{sizeOf}
+use Rattle.wire_datagram.specs.Reading.{reads, reading, isRead}
+use Rattle.wire_datagram.specs.declared.reading.Extent.{Extent}
+use Rattle.wire_datagram.specs.declared.reading.Reading.{Reading}
+use Rattle.wire_datagram.proofs.Claims.{met-none, in-range, user-extent}
+use Rattle.wire_datagram.proofs.Lists.{ListsIn, lists-part, read-verdict, reading-lists}
+use Rattle.program_report.specs.Words.{userWord}
+use Rattle.program_report.specs.Report.{numberLine, verdictLine, listingOf, readingText}
+use Rattle.program_report.specs.Sound.{isListed, Listable, Sound}
+
+-- ---- a reading
+
+listable : (p : List ℕ) (r : Reading) → ListsIn p r → Listable p (r .options)
+listable p r l =
+    let n : r .options .to .0 ≡ length p = l .ends in
+    record {
+      ordered = l .ordered;
+      within = omega arith;
+      walks = ap (λ (x : List ℕ). isListed (walkFrom optionLimit 0 x)) (lists-part p _ _ _ _ l) ∙ ap isListed (l .walks);
+    }
+
+pub reading-sound : (p s d : List ℕ) (r : Reading) → reading p s d ≡ reads r → Sound p r
+reading-sound p s d r e = record {
+  user = subst⁻¹ (λ (x : Extent). x .from .0 ≤ x .to .0) (user-extent p s d r e) (in-range p s d (met-none p s d r e .0) .0);
+  options = λ q. listable p r (reading-lists p s d r e (read-verdict (r .verdict) q));
+}
+
+-- ---- its text
+
+module _ (p : List ℕ) (r : Reading) where
+  abbrev twoLines : List ℕ
+  twoLines = numberLine userWord (sizeOf (r .user)) ++ verdictLine (r .verdict)
+
+  textBy : (t : Bool) → isRead (r .verdict) ≡ t → twoLines ++ cond t (listingOf p (r .options) (r .fill)) [] ≡ readingText p r
+  unfolding readingText
+  textBy t e = ap (λ (x : Bool). twoLines ++ cond x (listingOf p (r .options) (r .fill)) []) (sym e)
+
+  pub text-read : isRead (r .verdict) ≡ true → twoLines ++ listingOf p (r .options) (r .fill) ≡ readingText p r
+  text-read e = textBy true e
+
+  pub text-other : isRead (r .verdict) ≡ false → twoLines ≡ readingText p r
+  text-other e = sym (append-nil twoLines) ∙ textBy false e

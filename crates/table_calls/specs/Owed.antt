@@ -1,0 +1,50 @@
+-- Each client's own history in a list of calls over a table, and what its plain book says of it (document 01): of the tables only their sizes, of
+-- the calls only the client's own.
+use Prim.Native.Nat.{ℕ}
+use mathlib.Core.List.{List, [], _∷_, _++_}
+use lib.Dec.{eqb}
+use Rattle.client_record.specs.Lists.{if}
+use Rattle.client_reassembly.specs.Answer.{refused, ready}
+use Rattle.client_ledger.specs.Book.{Book, Result}
+use Rattle.client_ledger.specs.Lent.{misfits, Own, answered, bookOf}
+use Rattle.client_ledger.specs.History.{Lent, Ask, Given}
+use Rattle.client_ledger.specs.Bookkeeping.{callOf}
+use Rattle.table_calls.specs.Table.{lentOf}
+use Rattle.table_calls.specs.Events.{Lending, current, another, Event, resetting, asking}
+
+abbrev pub sizesFor : Lending → Lent → Lent
+sizesFor current l = l
+sizesFor (another u) l = lentOf u
+
+abbrev pub ownCall : Lending → Lent → ℕ → Ask → Own
+ownCall g l k a = record { lent = sizesFor g l; client = k; call = callOf a }
+
+-- the sizes of the current table after an event
+abbrev pub sizesAfter : Lent → Event → Lent
+sizesAfter l (resetting g) = if (misfits (sizesFor g l)) l (sizesFor g l)
+sizesAfter l (asking g k a) = l
+
+-- client k's history after an event: its calls since the last set-up taken
+abbrev pub pastAfter : ℕ → Lent → List Own → Event → List Own
+pastAfter k l past (resetting g) = if (misfits (sizesFor g l)) past []
+pastAfter k l past (asking g j a) = if (eqb j k) (past ++ ownCall g l k a ∷ []) past
+
+unfoldable pub history : ℕ → Lent → List Own → List Event → List Own
+history k l past [] = past
+history k l past (e ∷ es) = history k (sizesAfter l e) (pastAfter k l past e) es
+
+abbrev pub givenIn : Result → Given
+givenIn r = record { reply = r .reply; out = r .out }
+
+-- a set-up is refused for the sizes of its table alone
+abbrev pub resetOwes : Lent → Given
+resetOwes l = record { reply = if (misfits l) (refused 20) ready; out = [] }
+
+-- what client k's book answers and leaves in out, call by call
+unfoldable pub owes : ℕ → Lent → List Own → List Event → List Given
+owes k l past [] = []
+owes k l past (resetting g ∷ es) = resetOwes (sizesFor g l) ∷ owes k (sizesAfter l (resetting g)) (pastAfter k l past (resetting g)) es
+owes k l past (asking g j a ∷ es) =
+    if (eqb j k)
+    (givenIn (answered (ownCall g l k a) (bookOf past)) ∷ owes k l (pastAfter k l past (asking g j a)) es)
+    (owes k l (pastAfter k l past (asking g j a)) es)

@@ -1,0 +1,167 @@
+-- Demand 2's claims about a reading: user data survives whatever the area holds, and options are reported only with "read".
+-- Both go by what the area's start and walk come to: every case has the user data's extent, and only "read" has more.
+-- Assumes nothing.
+use mathlib.Core.Path.{_≡_, refl, sym, ap, ap₂, subst, _∙_}
+use mathlib.Core.Bool.{Bool, true, false, cond, not, _&&_, _||_}
+use mathlib.Core.List.{List, [], _∷_, _++_}
+use mathlib.Core.Logic.{_⊎_, inl, inr}
+use mathlib.Core.Option.{Option, none, some}
+use Prim.Native.Nat.{ℕ, _+_, _-_, _≤_}
+use native.Mathlib.Omega.{arith}
+use borrow.Author.Tests.{ltb-false}
+use lib.Dec.{eqb, ltb}
+use lib.ListN.{length, take, drop}
+use Rattle.number_octets.specs.Octets.{number, part}
+use Rattle.number_octets.proofs.Laws.{part-take}
+use Rattle.number_offsets.specs.Offsets.{udpHeader}
+use Rattle.wire_options.specs.Area.{AreaWalk, plain, piece, fault, areaOf}
+use Rattle.wire_datagram.specs.Surplus.{startOf}
+use Rattle.wire_datagram.specs.Reading.{
+  noData,
+  payloadLimit,
+  udpLength,
+  udpChecksum,
+  pseudoHeader,
+  sumHolds,
+  firstOf,
+  refusalTests,
+  extent,
+  walked,
+  started,
+  isOdd,
+  accepted,
+  Answer,
+  refused,
+  reads,
+  answered,
+  reading,
+}
+use Rattle.wire_datagram.specs.declared.surplus.Start.{Start}
+use Rattle.wire_datagram.specs.declared.surplus.Start.the-variants.{Empty, Short, Pad, Unsummed, BadSum, List as ListAt}
+use Rattle.wire_datagram.specs.declared.reading.Apc.the-variants.{Absent}
+use Rattle.wire_datagram.specs.declared.reading.Verdict.the-variants.{Read}
+use Rattle.wire_datagram.specs.declared.reading.Reading.{Reading}
+
+-- ---- the user data
+
+walked-user : (p : List ℕ) (size from : ℕ) (w : AreaWalk) → walked p size from w .user ≡ extent udpHeader size
+walked-user p size from (plain items fill) = refl
+walked-user p size from (piece f) = refl
+walked-user p size from (fault f) = refl
+
+started-user : (p : List ℕ) (size : ℕ) (start : Start) → started p size start .user ≡ extent udpHeader size
+started-user p size Empty = refl
+started-user p size Short = refl
+started-user p size Pad = refl
+started-user p size Unsummed = refl
+started-user p size BadSum = refl
+started-user p size (ListAt at) = walked-user p size (size + at) (areaOf (noData size) (size + at) (drop (size + at) p))
+
+pub accepted-user : (p : List ℕ) → accepted p .user ≡ extent udpHeader (udpLength p)
+unfolding accepted
+accepted-user p = started-user p (udpLength p) (startOf (isOdd (udpLength p)) (eqb (udpChecksum p) 0) (drop (udpLength p) p))
+
+-- a payload that is read met no refusal, and its reading is the accepted one
+pub met-none : (p s d : List ℕ) (r : Reading) → reading p s d ≡ reads r → (firstOf (refusalTests p s d) ≡ none) × (accepted p ≡ r)
+unfolding reading
+met-none p s d r = go (firstOf (refusalTests p s d)) refl
+  where
+    go : (o : Option ℕ) → firstOf (refusalTests p s d) ≡ o → answered o (accepted p) ≡ reads r → (firstOf (refusalTests p s d) ≡ none) × (accepted p ≡ r)
+    go none e q = (e, cc)
+    go (some n) e q = absurd (let z : _≡_ {A = ℕ} 0 1 = cc in omega arith)
+
+-- the user data of a reading is bytes 8 to L, whatever the verdict
+pub user-extent : (p s d : List ℕ) (r : Reading) → reading p s d ≡ reads r → r .user ≡ extent udpHeader (udpLength p)
+user-extent p s d r e = ap (λ (x : Reading). x .user) (sym (met-none p s d r e .1)) ∙ accepted-user p
+
+-- ---- options only with "read"
+
+-- nothing is reported of the area
+pub record Silent (r : Reading) : Type 0 where
+  pub no-list : r .options ≡ extent 0 0
+  pub no-count : r .count ≡ 0
+  pub no-fill : r .fill ≡ 0
+  pub no-apc : r .apc ≡ Absent
+
+walked-silent : (p : List ℕ) (size from : ℕ) (w : AreaWalk) → (walked p size from w .verdict ≡ Read) ⊎ Silent (walked p size from w)
+walked-silent p size from (plain items fill) = inl refl
+walked-silent p size from (piece f) = inr (record { no-list = refl; no-count = refl; no-fill = refl; no-apc = refl })
+walked-silent p size from (fault f) = inr (record { no-list = refl; no-count = refl; no-fill = refl; no-apc = refl })
+
+started-silent : (p : List ℕ) (size : ℕ) (start : Start) → (started p size start .verdict ≡ Read) ⊎ Silent (started p size start)
+started-silent p size Empty = inr (record { no-list = refl; no-count = refl; no-fill = refl; no-apc = refl })
+started-silent p size Short = inr (record { no-list = refl; no-count = refl; no-fill = refl; no-apc = refl })
+started-silent p size Pad = inr (record { no-list = refl; no-count = refl; no-fill = refl; no-apc = refl })
+started-silent p size Unsummed = inr (record { no-list = refl; no-count = refl; no-fill = refl; no-apc = refl })
+started-silent p size BadSum = inr (record { no-list = refl; no-count = refl; no-fill = refl; no-apc = refl })
+started-silent p size (ListAt at) = walked-silent p size (size + at) (areaOf (noData size) (size + at) (drop (size + at) p))
+
+pub options-only-with-read : (p s d : List ℕ) (r : Reading) → reading p s d ≡ reads r → (r .verdict ≡ Read) ⊎ Silent r
+unfolding accepted
+options-only-with-read p s d r e =
+    subst (λ (x : Reading). (x .verdict ≡ Read) ⊎ Silent x) (met-none p s d r e .1)
+    (started-silent p (udpLength p) (startOf (isOdd (udpLength p)) (eqb (udpChecksum p) 0) (drop (udpLength p) p)))
+
+-- ---- user data survives
+
+-- the refusal tests see a payload's length, its UDP length, its UDP checksum and the bytes up to L
+abbrev testsOf : List ℕ → List ℕ → ℕ → ℕ → ℕ → List ℕ → List (Bool × ℕ)
+testsOf s d n size sum front =
+    (ltb n udpHeader, 1)
+    ∷ (ltb payloadLimit n, 2)
+    ∷ (ltb size udpHeader || ltb n size, 3)
+    ∷ (not (eqb sum 0) && not (sumHolds (pseudoHeader s d size) front), 4)
+    ∷ []
+
+pub first-none : (x : Bool × ℕ) (xs : List (Bool × ℕ)) → firstOf (x ∷ xs) ≡ none → (x .0 ≡ false) × (firstOf xs ≡ none)
+unfolding firstOf
+first-none x xs = go (x .0) refl
+  where
+    go : (t : Bool) → x .0 ≡ t → cond t (some (x .1)) (firstOf xs) ≡ none → (x .0 ≡ false) × (firstOf xs ≡ none)
+    go true e q = absurd (let z : _≡_ {A = ℕ} 0 1 = cc in omega arith)
+    go false e q = (e, q)
+
+both-false : (a b : Bool) → (a || b) ≡ false → (a ≡ false) × (b ≡ false)
+both-false true b e = absurd (let z : _≡_ {A = ℕ} 0 1 = cc in omega arith)
+both-false false b e = (refl, e)
+
+-- L is at least a header and within the payload
+pub in-range : (p s d : List ℕ) → firstOf (refusalTests p s d) ≡ none → (udpHeader ≤ udpLength p) × (udpLength p ≤ length p)
+in-range p s d e =
+    let size = udpLength p in
+    let rest = first-none _ _ (first-none _ _ e .1) .1 in
+    let third = both-false (ltb size udpHeader) (ltb (length p) size) (first-none _ _ rest .0) in
+    (ltb-false size udpHeader (third .0), ltb-false (length p) size (third .1))
+
+pub record Survives (p q s d : List ℕ) (r : Reading) : Type 0 where
+  pub other : Reading
+  pub is-read : reading q s d ≡ reads other
+  pub same-user : other .user ≡ r .user
+  pub same-bytes : part udpHeader (udpLength p - udpHeader) q ≡ part udpHeader (udpLength p - udpHeader) p
+
+-- Two payloads of one length that agree up to L: if the one is read so is the other, with the same user data.
+pub user-data-survives : (p q s d : List ℕ) (r : Reading) → reading p s d ≡ reads r → length q ≡ length p
+    → take (udpLength p) q ≡ take (udpLength p) p → Survives p q s d r
+unfolding udpHeader reading
+user-data-survives p q s d r e n front =
+    let m = met-none p s d r e in
+    let range = in-range p s d (m .0) in
+    let L : ℕ = udpLength p in
+    let same : (at k : ℕ) → at + k ≤ L → part at k q ≡ part at k p =
+    λ at k h. sym (part-take at k L q h (omega arith)) ∙ ap (part at k) front ∙ part-take at k L p h (omega arith) in
+    let size : udpLength q ≡ L = ap number (same 4 2 (omega arith)) in
+    let sum : udpChecksum q ≡ udpChecksum p = ap number (same 6 2 (omega arith)) in
+    let fronts : take (udpLength q) q ≡ take L p = ap (λ (k : ℕ). take k q) size ∙ front in
+    let tests : refusalTests q s d ≡ refusalTests p s d =
+    ap (λ (k : ℕ). testsOf s d k (udpLength q) (udpChecksum q) (take (udpLength q) q)) n
+    ∙ ap (λ (k : ℕ). testsOf s d (length p) k (udpChecksum q) (take (udpLength q) q)) size
+    ∙ ap₂ (λ (k : ℕ) (t : List ℕ). testsOf s d (length p) L k t) sum fronts in
+    record {
+      other = accepted q;
+      is-read = answered-none (ap firstOf tests ∙ m .0);
+      same-user = accepted-user q ∙ ap (extent udpHeader) size ∙ sym (user-extent p s d r e);
+      same-bytes = same udpHeader (L - udpHeader) (omega arith);
+    }
+  where
+    answered-none : firstOf (refusalTests q s d) ≡ none → reading q s d ≡ reads (accepted q)
+    answered-none = ap (λ (o : Option ℕ). answered o (accepted q))

@@ -1,0 +1,91 @@
+-- Each refusal from the facts that lead to it, and the reading where none applies.
+-- Assumes nothing.
+use mathlib.Core.Path.{_≡_, refl}
+use mathlib.Core.Bool.{Bool, true, false, cond, not, _&&_, _||_, and-false}
+use mathlib.Core.List.{List, _++_}
+use mathlib.Core.Logic.{_⊎_, inl, inr}
+use Prim.Native.Nat.{ℕ, _+_, _≤_, _<_}
+use native.Mathlib.Omega.{arith}
+use borrow.Author.Tests.{eq-eqb, ne-eqb, lt-ltb, le-ltb}
+use lib.Dec.{eqb}
+use lib.ListN.{length, take, drop}
+use Rattle.number_offsets.specs.Offsets.{udpHeader}
+use Rattle.number_checksum.specs.Checksum.{wordSum, folded, allOnes}
+use Rattle.wire_datagram.specs.Reading.{payloadLimit, udpLength, udpChecksum, pseudoHeader, firstOf, accepted, isOdd, Answer, refused, reads, reading}
+use Rattle.wire_datagram.specs.Rereading.{originalLimit, restarted, rereading, refused as refusedAgain}
+use Rattle.wire_datagram.specs.Surplus.{startOf}
+
+-- what refusals 1 to 3 leave of a payload
+pub record Sized (payload : List ℕ) : Type 0 where
+  pub least : udpHeader ≤ length payload
+  pub most : length payload ≤ payloadLimit
+  pub header : udpHeader ≤ udpLength payload
+  pub within : udpLength payload ≤ length payload
+
+module _ (p s d : List ℕ) where
+  -- the sum that refusal 4 looks at
+  abbrev pub sumOf : ℕ
+  sumOf = folded (wordSum false (pseudoHeader s d (udpLength p) ++ take (udpLength p) p))
+
+  pub refused-short : length p < udpHeader → reading p s d ≡ refused 1
+  unfolding reading firstOf
+  refused-short h = simp (lt-ltb (length p) udpHeader h)
+
+  pub refused-long : udpHeader ≤ length p → payloadLimit < length p → reading p s d ≡ refused 2
+  unfolding reading firstOf
+  refused-long g h = simp (le-ltb (length p) udpHeader g, lt-ltb payloadLimit (length p) h)
+
+  pub refused-small : udpHeader ≤ length p → length p ≤ payloadLimit → udpLength p < udpHeader → reading p s d ≡ refused 3
+  unfolding reading firstOf
+  refused-small g h l = simp (le-ltb (length p) udpHeader g, le-ltb payloadLimit (length p) h, lt-ltb (udpLength p) udpHeader l)
+
+  pub refused-large : udpHeader ≤ length p → length p ≤ payloadLimit → udpHeader ≤ udpLength p → length p < udpLength p → reading p s d ≡ refused 3
+  unfolding reading firstOf
+  refused-large g h l m =
+      simp
+      (le-ltb (length p) udpHeader g, le-ltb payloadLimit (length p) h, le-ltb (udpLength p) udpHeader l, lt-ltb (length p) (udpLength p) m)
+
+  pub refused-sum : Sized p → (udpChecksum p ≡ 0 → ⊥) → (sumOf ≡ allOnes → ⊥) → reading p s d ≡ refused 4
+  unfolding reading firstOf
+  refused-sum z c w =
+      simp (
+        le-ltb (length p) udpHeader (z .least),
+        le-ltb payloadLimit (length p) (z .most),
+        le-ltb (udpLength p) udpHeader (z .header),
+        le-ltb (length p) (udpLength p) (z .within),
+        ne-eqb (udpChecksum p) 0 c,
+        ne-eqb sumOf allOnes w,
+      )
+
+  pub reading-accepted : Sized p → ((udpChecksum p ≡ 0) ⊎ (sumOf ≡ allOnes)) → reading p s d ≡ reads (accepted p)
+  unfolding reading firstOf
+  reading-accepted z (inl e) =
+      simp (
+        le-ltb (length p) udpHeader (z .least),
+        le-ltb payloadLimit (length p) (z .most),
+        le-ltb (udpLength p) udpHeader (z .header),
+        le-ltb (length p) (udpLength p) (z .within),
+        eq-eqb (udpChecksum p) 0 e,
+      )
+  reading-accepted z (inr e) =
+      simp (
+        le-ltb (length p) udpHeader (z .least),
+        le-ltb payloadLimit (length p) (z .most),
+        le-ltb (udpLength p) udpHeader (z .header),
+        le-ltb (length p) (udpLength p) (z .within),
+        eq-eqb sumOf allOnes e,
+        and-false (not (eqb (udpChecksum p) 0)),
+      )
+
+module _ (o : List ℕ) (r : ℕ) where
+  pub re-long : originalLimit < length o → rereading o r ≡ refusedAgain 2
+  unfolding rereading firstOf
+  re-long h = simp (lt-ltb originalLimit (length o) h)
+
+  pub re-past : length o ≤ originalLimit → length o < r → rereading o r ≡ refusedAgain 6
+  unfolding rereading firstOf
+  re-past g h = simp (le-ltb originalLimit (length o) g, lt-ltb (length o) r h)
+
+  pub re-accepted : length o ≤ originalLimit → r ≤ length o → rereading o r ≡ restarted o r (startOf (isOdd (udpHeader + r)) true (drop r o))
+  unfolding rereading firstOf
+  re-accepted g h = simp (le-ltb originalLimit (length o) g, le-ltb (length o) r h)

@@ -1,0 +1,82 @@
+-- What is claimed of every rereading: its user data is what stands before the option start, and options are reported only with "read". Both go by
+-- what the area's start and the walk come to.
+-- Assumes nothing.
+use mathlib.Core.Path.{_≡_, refl, subst}
+use mathlib.Core.Bool.{Bool, true}
+use mathlib.Core.List.{List}
+use mathlib.Core.Logic.{_⊎_, inl, inr}
+use mathlib.Core.Option.{Option, none, some}
+use Prim.Native.Nat.{ℕ, _+_}
+use lib.ListN.{drop}
+use Rattle.number_offsets.specs.Offsets.{udpHeader}
+use Rattle.wire_options.specs.Walk.{Walked, listed, faulty, walkFrom, optionLimit}
+use Rattle.wire_options.specs.declared.walk.Fault.the-variants.{
+  Malformed as malformedList,
+  Unsafe as unsafeList,
+  FragData as fragData,
+  Crowded as crowdedList,
+}
+use Rattle.wire_datagram.specs.Surplus.{startOf}
+use Rattle.wire_datagram.specs.Reading.{firstOf, isOdd}
+use Rattle.wire_datagram.specs.Rereading.{places, ReAnswer, refused, rereads, quietly, rewalked, restarted, reTests, reAnswered, rereading}
+use Rattle.wire_datagram.specs.declared.surplus.Start.{Start}
+use Rattle.wire_datagram.specs.declared.surplus.Start.the-variants.{
+  Empty,
+  Short as shortArea,
+  Pad as badPad,
+  Unsummed as noSum,
+  BadSum as badSum,
+  List as ListAt,
+}
+use Rattle.wire_datagram.specs.declared.reading.Apc.the-variants.{Absent}
+use Rattle.wire_datagram.specs.declared.reading.Verdict.{Verdict}
+use Rattle.wire_datagram.specs.declared.reading.Verdict.the-variants.{Bare, Short, Pad, Unsummed, BadSum, Malformed, FragData, Crowded, Read}
+use Rattle.wire_datagram.specs.declared.rereading.Rereading.{Rereading}
+
+-- nothing is reported of the area
+pub record Silent (x : Rereading) : Type 0 where
+  pub no-list : x .options ≡ places 0 0
+  pub no-count : x .count ≡ 0
+  pub no-fill : x .fill ≡ 0
+  pub no-apc : x .apc ≡ Absent
+
+pub record Reread (r : ℕ) (x : Rereading) : Type 0 where
+  pub user : x .user ≡ places 0 r
+  pub options-only-with-read : (x .verdict ≡ Read) ⊎ Silent x
+
+-- said of an answer
+abbrev RereadBy : ℕ → ReAnswer → Type 0
+RereadBy r (refused n) = Unit {0}
+RereadBy r (rereads x) = Reread r x
+
+quietly-by : (r : ℕ) (verdict : Verdict) → RereadBy r (quietly r verdict)
+quietly-by r verdict = record {
+  user = refl;
+  options-only-with-read = inr (record { no-list = refl; no-count = refl; no-fill = refl; no-apc = refl });
+}
+
+rewalked-by : (original : List ℕ) (r from : ℕ) (w : Walked) → RereadBy r (rewalked original r from w)
+rewalked-by original r from (listed items fill) = record { user = refl; options-only-with-read = inl refl }
+rewalked-by original r from (faulty unsafeList) = tt
+rewalked-by original r from (faulty malformedList) = quietly-by r Malformed
+rewalked-by original r from (faulty fragData) = quietly-by r FragData
+rewalked-by original r from (faulty crowdedList) = quietly-by r Crowded
+
+restarted-by : (original : List ℕ) (r : ℕ) (start : Start) → RereadBy r (restarted original r start)
+restarted-by original r Empty = quietly-by r Bare
+restarted-by original r shortArea = quietly-by r Short
+restarted-by original r badPad = quietly-by r Pad
+restarted-by original r noSum = quietly-by r Unsummed
+restarted-by original r badSum = quietly-by r BadSum
+restarted-by original r (ListAt at) = rewalked-by original r (r + at) (walkFrom optionLimit 0 (drop (r + at) original))
+
+pub reread-claims : (original : List ℕ) (r : ℕ) (x : Rereading) → rereading original r ≡ rereads x → Reread r x
+unfolding rereading
+reread-claims original r x e = subst (RereadBy r) e (go (firstOf (reTests original r)))
+  where
+    start : Start
+    start = startOf (isOdd (udpHeader + r)) true (drop r original)
+
+    go : (o : Option ℕ) → RereadBy r (reAnswered o (restarted original r start))
+    go none = restarted-by original r start
+    go (some n) = tt

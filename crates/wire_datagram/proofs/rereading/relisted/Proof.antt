@@ -1,0 +1,96 @@
+-- `wire_datagram::rereading::relisted` meets its contract: the arm knows what the walk told, and the rereading by that is the definition's.
+-- Assumes nothing.
+use mathlib.Core.Path.{_≡_, refl, sym, ap, _∙_}
+use mathlib.Core.List.{List}
+use Prim.Native.Nat.{ℕ, _-_}
+use native.Mathlib.Omega.{arith}
+use lib.ListN.{length, drop, length-take, length-drop}
+use lib.Seq.{take-all}
+use Rattle.wire_options.specs.Walk.{walkFrom, optionLimit, told}
+use Rattle.wire_options.specs.declared.walk.Walk.the-variants.{Listed as WalkListed}
+use Rattle.wire_datagram.specs.Rereading.{places, rereads}
+use Rattle.wire_datagram.specs.Private.{rewalkedBy}
+use Rattle.wire_datagram.specs.declared.reading.Verdict.the-variants.{Read}
+use Rattle.wire_datagram.proofs.Readings.{rereading-told}
+use borrow.Author.Needs.{needs}
+use Rattle.wire_datagram.proofs.rereading.relisted.Statement.{statement}
+use Rattle.wire_datagram.proofs.rereading.relisted.Tie as tie
+
+-- the walk was made of the list behind `from`
+walk : (c : tie.After-walk-list) → let a = c .before .before .before .args in
+    told (walkFrom optionLimit 0 (drop (a .from .0) (a .original .now))) ≡ c .walk-list .result
+unfolding optionLimit
+walk c =
+    let start = c .before .before .before in
+    let l = start .args .original .now in
+    sym (c .walk-list .ensures
+    ∙ ap (λ (t : List ℕ). told (walkFrom 32 0 t)) (take-all (length l - start .args .from .0) (drop (start .args .from .0) l) (simp length-drop (omega arith))))
+
+sub-walk-list : tie.Need-sub-walk-list
+sub-walk-list c = search needs
+
+part-walk-list-start : tie.Need-part-walk-list-start
+part-walk-list-start c = search needs
+
+part-walk-list-end : tie.Need-part-walk-list-end
+part-walk-list-end c = search needs
+
+walk-list-requires : tie.Need-walk-list-requires
+walk-list-requires c κs = search needs
+
+enum-known-list : tie.Need-enum-known-list
+enum-known-list c = search needs
+
+slice-aggregate-apc-of : tie.Need-slice-aggregate-apc-of
+slice-aggregate-apc-of c = simp length-take (omega (arith, c .before .before .before .before .before .before .before .pre))
+
+apc-of-requires : tie.Need-apc-of-requires
+apc-of-requires c κs = search needs
+
+enum-known-list-2 : tie.Need-enum-known-list-2
+enum-known-list-2 c = search needs
+
+faultily-requires : tie.Need-faultily-requires
+faultily-requires c κs = search needs
+
+returns : tie.Need-returns
+returns c =
+    let a = c .before .before .before .before .before .before .before .before .args in
+    let place = c .before .before .before .before .before in
+    let list = c .before .before .before .list .given in
+    _∙_ {b = rewalkedBy (a .original .now) (a .r .0) (a .from .0)
+    (WalkListed (list .0 .0) (list .0 .1 .0) (list .0 .1 .1 .0))}
+    (λ i. rereads (record {
+      user = places 0 (a .r .0);
+      verdict = Read;
+      options = places (a .from .0) (length (a .original .now));
+      count = list .0 .0;
+      fill = list .0 .1 .0;
+      apc = (c .apc-of .ensures) i;
+    })) refl
+    ∙ ap (rewalkedBy (a .original .now) (a .r .0) (a .from .0)) (sym (walk place ∙ list .1))
+    ∙ rereading-told (a .original .now) (a .r .0) (a .from .0) (walkFrom optionLimit 0 (drop (a .from .0) (a .original .now)))
+
+returns-2 : tie.Need-returns-2
+returns-2 c =
+    let a = c .before .before .before .before .before .before .before .args in
+    let place = c .before .before .before .before in
+    c .faultily .ensures
+    ∙ ap (rewalkedBy (a .original .now) (a .r .0) (a .from .0)) (sym (walk place ∙ c .before .before .list2 .given .1))
+    ∙ rereading-told (a .original .now) (a .r .0) (a .from .0) (walkFrom optionLimit 0 (drop (a .from .0) (a .original .now)))
+
+pub relisted-spec : {M : Type 1} → statement M
+relisted-spec =
+    tie.close
+    (tie.spec
+    sub-walk-list
+    part-walk-list-start
+    part-walk-list-end
+    walk-list-requires
+    enum-known-list
+    slice-aggregate-apc-of
+    apc-of-requires
+    enum-known-list-2
+    faultily-requires
+    returns
+    returns-2)

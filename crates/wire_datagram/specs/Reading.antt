@@ -1,0 +1,179 @@
+-- Reading one IPv4 payload, and rereading a reassembled original (document 01, "Reading one IPv4 payload" and "Walking the list").
+use mathlib.Core.Bool.{Bool, true, false, cond, not, _&&_, _||_}
+use mathlib.Core.List.{List, [], _∷_, _++_}
+use mathlib.Core.Option.{Option, none, some}
+use Prim.Native.Nat.{ℕ, _+_, _-_, _%_}
+use lib.Dec.{eqb, leb, ltb}
+use lib.ListN.{length, take, drop}
+use Rattle.number_octets.specs.Octets.{number, octets, part}
+use Rattle.number_offsets.specs.Offsets.{udpHeader}
+use Rattle.number_checksum.specs.Checksum.{wordSum, folded, allOnes}
+use Rattle.number_crc32c.specs.Crc.{crcOf}
+use Rattle.wire_options.specs.Kinds.{apc}
+use Rattle.wire_options.specs.Walk.{Item, walkFrom, optionLimit}
+use Rattle.wire_options.specs.Area.{AreaWalk, plain, piece, fault, plainly, areaOf}
+use Rattle.wire_options.specs.declared.walk.Fault.{Fault}
+use Rattle.wire_options.specs.declared.walk.Fault.the-variants.{Malformed as malformedList, Unsafe as unsafeList, FragData as fragData, Crowded as crowdedList}
+use Rattle.wire_datagram.specs.Surplus.{startOf}
+use Rattle.wire_datagram.specs.declared.surplus.Start.{Start}
+use Rattle.wire_datagram.specs.declared.surplus.Start.the-variants.{
+  Empty,
+  Short as shortArea,
+  Pad as badPad,
+  Unsummed as noSum,
+  BadSum as badSum,
+  List as ListAt,
+}
+use Rattle.wire_datagram.specs.declared.reading.Extent.{Extent}
+use Rattle.wire_datagram.specs.declared.reading.Apc.{Apc}
+use Rattle.wire_datagram.specs.declared.reading.Apc.the-variants.{Absent, Right, Wrong}
+use Rattle.wire_datagram.specs.declared.reading.Verdict.{Verdict}
+use Rattle.wire_datagram.specs.declared.reading.Verdict.the-variants.{Bare, Short, Pad, Unsummed, BadSum, Malformed, Unsafe, FragData, Crowded, Read, Piece}
+use Rattle.wire_datagram.specs.declared.reading.Reading.{Reading}
+use Rattle.wire_datagram.specs.declared.reading.Refusal.{Refusal}
+use Rattle.wire_datagram.specs.declared.reading.Refusal.the-variants.{PayloadTooShort, PayloadTooLong, LengthOutOfRange, ChecksumWrong}
+use Rattle.wire_datagram.specs.declared.reading.Outcome.{Outcome}
+use Rattle.wire_datagram.specs.declared.reading.Outcome.the-variants.{Refused, Accepted}
+
+-- ---- limits
+
+-- an IPv4 packet of 65,535 bytes less its header
+unfoldable pub payloadLimit : ℕ
+payloadLimit = 65515
+
+-- ---- the UDP header (RFC 768)
+
+abbrev pub udpLength : List ℕ → ℕ
+udpLength payload = number (part 4 2 payload)
+
+abbrev pub udpChecksum : List ℕ → ℕ
+udpChecksum payload = number (part 6 2 payload)
+
+-- source, destination, zero, protocol 17 and UDP length
+unfoldable pub pseudoHeader : List ℕ → List ℕ → ℕ → List ℕ
+pseudoHeader source destination size = source ++ destination ++ (0 ∷ 17 ∷ octets 2 size)
+
+-- the sum over a pseudo-header and the datagram behind it is FFFF
+abbrev pub sumHolds : List ℕ → List ℕ → Bool
+sumHolds pseudo datagram = eqb (folded (wordSum false (pseudo ++ datagram))) allOnes
+
+-- ---- tests in order
+
+-- the number of the first test that applies
+unfoldable pub firstOf : List (Bool × ℕ) → Option ℕ
+firstOf [] = none
+firstOf (x ∷ xs) = cond (x .0) (some (x .1)) (firstOf xs)
+
+abbrev pub refusalTests : List ℕ → List ℕ → List ℕ → List (Bool × ℕ)
+refusalTests payload source destination =
+    let size = udpLength payload in
+    (ltb (length payload) udpHeader, 1)
+    ∷ (ltb payloadLimit (length payload), 2)
+    ∷ (ltb size udpHeader || ltb (length payload) size, 3)
+    ∷ (not (eqb (udpChecksum payload) 0) && not (sumHolds (pseudoHeader source destination size) (take size payload)), 4)
+    ∷ []
+
+-- ---- what a reading says
+
+abbrev pub extent : ℕ → ℕ → Extent
+extent from to = record { from = record { 0 = from }; to = record { 0 = to } }
+
+-- the values of the APCs in a list
+unfoldable pub apcValues : List Item → List ℕ
+apcValues [] = []
+apcValues (item ∷ items) = cond (eqb (item .kind) apc) (number (item .body) ∷ apcValues items) (apcValues items)
+
+unfoldable pub allAre : ℕ → List ℕ → Bool
+allAre n [] = true
+allAre n (x ∷ xs) = eqb x n && allAre n xs
+
+-- none without an APC, wrong if any differs from the CRC32c of the user data
+abbrev pub apcOf : List ℕ → List ℕ → Apc
+apcOf user [] = Absent
+apcOf user (v ∷ values) = cond (allAre (crcOf user) (v ∷ values)) Right Wrong
+
+-- a reading that reports no option
+abbrev pub quiet : ℕ → Verdict → Reading
+quiet size verdict = record { user = extent udpHeader size; verdict = verdict; options = extent 0 0; count = 0; fill = 0; apc = Absent }
+
+abbrev pub verdictOf : Fault → Verdict
+verdictOf malformedList = Malformed
+verdictOf unsafeList = Unsafe
+verdictOf fragData = FragData
+verdictOf crowdedList = Crowded
+
+-- the reading after the walk of a list at packet offset `from`
+abbrev pub walked : List ℕ → ℕ → ℕ → AreaWalk → Reading
+walked payload size from (plain items fill) = record {
+  user = extent udpHeader size;
+  verdict = Read;
+  options = extent from (length payload);
+  count = length items;
+  fill = fill;
+  apc = apcOf (part udpHeader (size - udpHeader) payload) (apcValues items);
+}
+walked payload size from (piece fragment) = quiet size (Piece fragment)
+walked payload size from (fault f) = quiet size (verdictOf f)
+
+-- whether there is no user data: L is that of a header alone
+abbrev pub noData : ℕ → Bool
+noData size = eqb size udpHeader
+
+abbrev pub started : List ℕ → ℕ → Start → Reading
+started payload size Empty = quiet size Bare
+started payload size shortArea = quiet size Short
+started payload size badPad = quiet size Pad
+started payload size noSum = quiet size Unsummed
+started payload size badSum = quiet size BadSum
+started payload size (ListAt at) =
+    walked payload size (size + at) (areaOf (noData size) (size + at) (drop (size + at) payload))
+
+-- whether an offset is odd
+abbrev pub isOdd : ℕ → Bool
+isOdd n = eqb (n % 2) 1
+
+-- the reading of a payload that no refusal meets; the area is what stands behind the UDP length
+unfoldable pub accepted : List ℕ → Reading
+accepted payload =
+    let size = udpLength payload in
+    started payload size (startOf (isOdd size) (eqb (udpChecksum payload) 0) (drop size payload))
+
+-- ---- the answer
+
+-- a refusal's number, or the reading
+pub data Answer : Type 0 where
+  refused : ℕ → Answer
+  reads : Reading → Answer
+
+abbrev pub answered : Option ℕ → Reading → Answer
+answered none reading = reads reading
+answered (some number) reading = refused number
+
+-- demand 2's reading of a payload
+unfoldable pub reading : List ℕ → List ℕ → List ℕ → Answer
+reading payload source destination = answered (firstOf (refusalTests payload source destination)) (accepted payload)
+
+-- the paper's number of each refusal
+abbrev pub refusalNumber : Refusal → ℕ
+refusalNumber PayloadTooShort = 1
+refusalNumber PayloadTooLong = 2
+refusalNumber LengthOutOfRange = 3
+refusalNumber ChecksumWrong = 4
+
+abbrev pub answerOf : Outcome → Answer
+answerOf (Refused refusal) = refused (refusalNumber refusal)
+answerOf (Accepted r) = reads r
+
+-- options are reported only with "read"
+abbrev pub isRead : Verdict → Bool
+isRead Bare = false
+isRead Short = false
+isRead Pad = false
+isRead Unsummed = false
+isRead BadSum = false
+isRead Malformed = false
+isRead Unsafe = false
+isRead FragData = false
+isRead Crowded = false
+isRead Read = true
+isRead (Piece fragment) = false

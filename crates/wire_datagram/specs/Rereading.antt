@@ -1,0 +1,96 @@
+-- Rereading a reassembled original (document 01, end of "Walking the list").
+use mathlib.Core.Bool.{Bool, true, cond}
+use mathlib.Core.List.{List, [], _∷_}
+use mathlib.Core.Option.{Option, none, some}
+use Prim.Native.Nat.{ℕ, _+_}
+use lib.Dec.{ltb}
+use lib.ListN.{length, take, drop}
+use Rattle.number_offsets.specs.Offsets.{udpHeader}
+use Rattle.wire_options.specs.Walk.{Item, Walked, listed, faulty, walkFrom, optionLimit}
+use Rattle.wire_options.specs.declared.walk.Fault.{Fault}
+use Rattle.wire_options.specs.declared.walk.Fault.the-variants.{Malformed as malformedList, Unsafe as unsafeList, FragData as fragData, Crowded as crowdedList}
+use Rattle.wire_datagram.specs.Surplus.{startOf}
+use Rattle.wire_datagram.specs.Reading.{apcValues, apcOf, verdictOf, isOdd, firstOf}
+use Rattle.wire_datagram.specs.declared.surplus.Start.{Start}
+use Rattle.wire_datagram.specs.declared.surplus.Start.the-variants.{
+  Empty,
+  Short as shortArea,
+  Pad as badPad,
+  Unsummed as noSum,
+  BadSum as badSum,
+  List as ListAt,
+}
+use Rattle.wire_datagram.specs.declared.reading.Apc.the-variants.{Absent}
+use Rattle.wire_datagram.specs.declared.reading.Verdict.{Verdict}
+use Rattle.wire_datagram.specs.declared.reading.Verdict.the-variants.{Bare, Short, Pad, Unsummed, BadSum, Malformed, FragData, Crowded, Read}
+use Rattle.wire_datagram.specs.declared.rereading.OriginalExtent.{OriginalExtent}
+use Rattle.wire_datagram.specs.declared.rereading.Rereading.{Rereading}
+use Rattle.wire_datagram.specs.declared.rereading.RereadRefusal.{RereadRefusal}
+use Rattle.wire_datagram.specs.declared.rereading.RereadRefusal.the-variants.{OriginalTooLong, OptionStartPastEnd, UnsafeOption}
+use Rattle.wire_datagram.specs.declared.rereading.RereadOutcome.{RereadOutcome}
+use Rattle.wire_datagram.specs.declared.rereading.RereadOutcome.the-variants.{Refused, Accepted}
+
+-- the largest payload less a UDP header
+unfoldable pub originalLimit : ℕ
+originalLimit = 65507
+
+abbrev pub places : ℕ → ℕ → OriginalExtent
+places from to = record { from = record { 0 = from }; to = record { 0 = to } }
+
+-- a refusal's number, or the rereading
+pub data ReAnswer : Type 0 where
+  refused : ℕ → ReAnswer
+  rereads : Rereading → ReAnswer
+
+-- user data is 0 to r; no option is reported
+abbrev pub quietly : ℕ → Verdict → ReAnswer
+quietly r verdict = rereads (record { user = places 0 r; verdict = verdict; options = places 0 0; count = 0; fill = 0; apc = Absent })
+
+-- 5: verdict unsafe, nothing delivered
+abbrev pub faultily : ℕ → Fault → ReAnswer
+faultily r unsafeList = refused 5
+faultily r malformedList = quietly r Malformed
+faultily r fragData = quietly r FragData
+faultily r crowdedList = quietly r Crowded
+
+-- the list starts at place `from`; FRAG has no place in it
+abbrev pub rewalked : List ℕ → ℕ → ℕ → Walked → ReAnswer
+rewalked original r from (listed items fill) = rereads (record {
+  user = places 0 r;
+  verdict = Read;
+  options = places from (length original);
+  count = length items;
+  fill = fill;
+  apc = apcOf (take r original) (apcValues items);
+})
+rewalked original r from (faulty fault) = faultily r fault
+
+abbrev pub restarted : List ℕ → ℕ → Start → ReAnswer
+restarted original r Empty = quietly r Bare
+restarted original r shortArea = quietly r Short
+restarted original r badPad = quietly r Pad
+restarted original r noSum = quietly r Unsummed
+restarted original r badSum = quietly r BadSum
+restarted original r (ListAt at) = rewalked original r (r + at) (walkFrom optionLimit 0 (drop (r + at) original))
+
+abbrev pub reTests : List ℕ → ℕ → List (Bool × ℕ)
+reTests original r = (ltb originalLimit (length original), 2) ∷ (ltb (length original) r, 6) ∷ []
+
+abbrev pub reAnswered : Option ℕ → ReAnswer → ReAnswer
+reAnswered none answer = answer
+reAnswered (some number) answer = refused number
+
+-- An original of T bytes with option start r: the area is r to T, its parity that of 8 + r, the UDP checksum taken as zero.
+unfoldable pub rereading : List ℕ → ℕ → ReAnswer
+rereading original r =
+    reAnswered (firstOf (reTests original r)) (restarted original r (startOf (isOdd (udpHeader + r)) true (drop r original)))
+
+-- the paper's number of each refusal
+abbrev pub reRefusalNumber : RereadRefusal → ℕ
+reRefusalNumber OriginalTooLong = 2
+reRefusalNumber UnsafeOption = 5
+reRefusalNumber OptionStartPastEnd = 6
+
+abbrev pub reAnswerOf : RereadOutcome → ReAnswer
+reAnswerOf (Refused refusal) = refused (reRefusalNumber refusal)
+reAnswerOf (Accepted r) = rereads r

@@ -1,0 +1,224 @@
+// The reading of a payload: refusals in order, the user data's extent, and a verdict on the surplus area.
+use crate::surplus;
+use crate::surplus::Start;
+use number_offsets::PacketOffset;
+use number_offsets::UDP_HEADER;
+use wire_options::area;
+use wire_options::area::Area;
+use wire_options::area::Fragment;
+use wire_options::walk::Apcs;
+use wire_options::walk::Fault;
+ghost use mathlib.Core.Path.{_≡_};
+ghost use mathlib.Core.Bool.{false};
+ghost use mathlib.Core.List.{_++_};
+ghost use Prim.Native.Nat.{_≤_};
+ghost use lib.ListN.{length, drop};
+ghost use Rattle.number_offsets.specs.Offsets.{udpHeader};
+ghost use Rattle.wire_options.specs.Area.{areaOf};
+ghost use Rattle.number_checksum.specs.Checksum.{folded, wordSum};
+ghost use Rattle.wire_datagram.specs.Surplus.{startOf};
+ghost use Rattle.wire_datagram.specs.Reading.{payloadLimit, pseudoHeader, isOdd, quiet, verdictOf, walked, noData, started, reading, answerOf, isRead};
+ghost use Rattle.wire_datagram.specs.Private.{apcBy};
+
+// An IPv4 packet of 65,535 bytes less its header.
+pub const PAYLOAD_LIMIT: usize = 65515;
+
+// UDP's protocol number.
+const UDP: u16 = 17;
+
+// Bytes of a packet, counted from its UDP header.
+#[repr(C)]
+pub struct Extent {
+    pub from: PacketOffset,
+    pub to: PacketOffset,
+}
+
+// What the APC options say of the user data: none there, all right, or one that differs.
+pub enum Apc {
+    Absent,
+    Right,
+    Wrong,
+}
+
+// The verdict on the surplus area, in document 01's words; `Bare` is its "none".
+pub enum Verdict {
+    Bare,
+    Short,
+    Pad,
+    Unsummed,
+    BadSum,
+    Malformed,
+    Unsafe,
+    FragData,
+    Crowded,
+    Read,
+    Piece(Fragment),
+}
+
+pub struct Reading {
+    // The user data. It is to be delivered with every verdict but `Piece`.
+    pub user: Extent,
+    pub verdict: Verdict,
+    // The option list with its fill. Empty, with no option, no fill and no APC, unless the verdict is `Read`.
+    pub options: Extent,
+    pub count: usize,
+    pub fill: usize,
+    pub apc: Apc,
+}
+
+pub enum Refusal {
+    PayloadTooShort,
+    PayloadTooLong,
+    LengthOutOfRange,
+    ChecksumWrong,
+}
+
+pub enum Outcome {
+    Refused(Refusal),
+    Accepted(Reading),
+}
+
+// Reads one IPv4 payload.
+pub fn read(payload: &[u8], source: [u8; 4], destination: [u8; 4]) -> Outcome
+    ensures { λ r. ⌜ answerOf r ≡ reading (now (payload .entry)) source destination ⌝ }
+{
+    if payload.len() < UDP_HEADER {
+        return Outcome::Refused(Refusal::PayloadTooShort);
+    }
+    if PAYLOAD_LIMIT < payload.len() {
+        return Outcome::Refused(Refusal::PayloadTooLong);
+    }
+    let size = number_octets::get_u16(payload, 4) as usize;
+    if size < UDP_HEADER {
+        return Outcome::Refused(Refusal::LengthOutOfRange);
+    }
+    if payload.len() < size {
+        return Outcome::Refused(Refusal::LengthOutOfRange);
+    }
+    let checksum = number_octets::get_u16(payload, 6);
+    if checksum != 0 {
+        if udp_sum(&payload[..size], source, destination) != 65535 {
+            return Outcome::Refused(Refusal::ChecksumWrong);
+        }
+    }
+    Outcome::Accepted(accept(payload, size, checksum == 0))
+}
+
+// The sum over the pseudo-header and a datagram.
+fn udp_sum(datagram: &[u8], source: [u8; 4], destination: [u8; 4]) -> u16
+    requires { ⌜ length (now datagram) ≤ 65535 ⌝ }
+    ensures { λ r. ⌜ r ≡ folded (wordSum false (pseudoHeader source destination (length (now (datagram .entry))) ++ now (datagram .entry))) ⌝ }
+{
+    let addresses = number_checksum::add(number_checksum::add(0, &source, false), &destination, false);
+    let rest = number_checksum::add_word(number_checksum::add_word(addresses, UDP), datagram.len() as u16);
+    number_checksum::add(rest, datagram, false)
+}
+
+// The reading of a payload that no refusal meets. `unused`: the UDP checksum is zero.
+fn accept(payload: &[u8], size: usize, unused: bool) -> Reading
+    requires { ⌜ (udpHeader ≤ size) × (size ≤ length (now payload)) × (length (now payload) ≤ payloadLimit) ⌝ }
+    ensures { λ r. ⌜ r ≡ started (now (payload .entry)) size (startOf (isOdd size) unused (drop size (now (payload .entry)))) ⌝ }
+{
+    let start = surplus::start_of(&payload[size..], size % 2 == 1, unused);
+    match start {
+        Start::Empty => quiet(size, Verdict::Bare),
+        Start::Short => quiet(size, Verdict::Short),
+        Start::Pad => quiet(size, Verdict::Pad),
+        Start::Unsummed => quiet(size, Verdict::Unsummed),
+        Start::BadSum => quiet(size, Verdict::BadSum),
+        Start::List(at) => listed(payload, size, PacketOffset(size + at)),
+    }
+}
+
+// The reading whose option list starts at `from`.
+fn listed(payload: &[u8], size: usize, from: PacketOffset) -> Reading
+    requires { ⌜ (udpHeader ≤ size) × (size ≤ from .0) × (from .0 ≤ length (now payload)) ⌝ }
+    ensures { λ r. ⌜ r ≡ walked (now (payload .entry)) size (from .0) (areaOf (noData size) (from .0) (drop (from .0) (now (payload .entry)))) ⌝ }
+{
+    let at = from.0;
+    let list = area::walk_area(&payload[at..], from, size == UDP_HEADER);
+    match list {
+        Area::Listed { count, fill, apcs } => Reading {
+            user: Extent {
+                from: PacketOffset(UDP_HEADER),
+                to: PacketOffset(size),
+            },
+            verdict: Verdict::Read,
+            options: Extent {
+                from,
+                to: PacketOffset(payload.len()),
+            },
+            count,
+            fill,
+            apc: apc_of(&payload[UDP_HEADER..size], apcs),
+        },
+        Area::Piece(fragment) => quiet(size, Verdict::Piece(fragment)),
+        Area::Faulty(fault) => quiet(size, verdict_of(fault)),
+    }
+}
+
+// A CRC is computed only where an APC asks for it.
+pub fn apc_of(user: &[u8], apcs: Apcs) -> Apc
+    ensures { λ r. ⌜ r ≡ apcBy (now (user .entry)) apcs ⌝ }
+{
+    match apcs {
+        Apcs::Absent => Apc::Absent,
+        Apcs::Same(value) => {
+            if value == number_crc32c::crc32c(user) {
+                return Apc::Right;
+            }
+            Apc::Wrong
+        }
+        Apcs::Different => Apc::Wrong,
+    }
+}
+
+fn verdict_of(fault: Fault) -> Verdict
+    ensures { λ r. ⌜ r ≡ verdictOf fault ⌝ }
+{
+    match fault {
+        Fault::Malformed => Verdict::Malformed,
+        Fault::Unsafe => Verdict::Unsafe,
+        Fault::FragData => Verdict::FragData,
+        Fault::Crowded => Verdict::Crowded,
+    }
+}
+
+// Only a reading with this verdict reports options.
+pub fn is_read(verdict: Verdict) -> bool
+    ensures { λ r. ⌜ r ≡ isRead verdict ⌝ }
+{
+    match verdict {
+        Verdict::Bare => false,
+        Verdict::Short => false,
+        Verdict::Pad => false,
+        Verdict::Unsummed => false,
+        Verdict::BadSum => false,
+        Verdict::Malformed => false,
+        Verdict::Unsafe => false,
+        Verdict::FragData => false,
+        Verdict::Crowded => false,
+        Verdict::Read => true,
+        Verdict::Piece(_) => false,
+    }
+}
+
+// A reading that reports no option.
+fn quiet(size: usize, verdict: Verdict) -> Reading
+    ensures { λ r. ⌜ r ≡ quiet size verdict ⌝ }
+{
+    Reading {
+        user: Extent {
+            from: PacketOffset(UDP_HEADER),
+            to: PacketOffset(size),
+        },
+        verdict,
+        options: Extent {
+            from: PacketOffset(0),
+            to: PacketOffset(0),
+        },
+        count: 0,
+        fill: 0,
+        apc: Apc::Absent,
+    }
+}

@@ -1,0 +1,127 @@
+// Rereading an original that was reassembled from fragments.
+use crate::reading;
+use crate::reading::Apc;
+use crate::reading::Verdict;
+use crate::surplus;
+use crate::surplus::Start;
+use number_offsets::OriginalOffset;
+use wire_options::walk;
+use wire_options::walk::Fault;
+use wire_options::walk::Walk;
+ghost use mathlib.Core.Path.{_≡_};
+ghost use Prim.Native.Nat.{_≤_};
+ghost use lib.ListN.{length, drop};
+ghost use Rattle.wire_options.specs.Walk.{walkFrom, optionLimit};
+ghost use Rattle.wire_datagram.specs.Rereading.{quietly, faultily, rewalked, rereading, reAnswerOf};
+
+// The largest payload less a UDP header.
+pub const ORIGINAL_LIMIT: usize = 65507;
+
+// Bytes of an original, counted from its first user byte.
+#[repr(C)]
+pub struct OriginalExtent {
+    pub from: OriginalOffset,
+    pub to: OriginalOffset,
+}
+
+pub struct Rereading {
+    pub user: OriginalExtent,
+    pub verdict: Verdict,
+    // The option list with its fill. Empty, with no option, no fill and no APC, unless the verdict is `Read`.
+    pub options: OriginalExtent,
+    pub count: usize,
+    pub fill: usize,
+    pub apc: Apc,
+}
+
+pub enum RereadRefusal {
+    OriginalTooLong,
+    OptionStartPastEnd,
+    // Nothing of such an original is delivered.
+    UnsafeOption,
+}
+
+pub enum RereadOutcome {
+    Refused(RereadRefusal),
+    Accepted(Rereading),
+}
+
+// Reads a reassembled original whose options start at `option_start`, document 01's r.
+pub fn reread(original: &[u8], option_start: OriginalOffset) -> RereadOutcome
+    ensures { λ r. ⌜ reAnswerOf r ≡ rereading (now (original .entry)) («option_start» .0) ⌝ }
+{
+    let r = option_start.0;
+    if ORIGINAL_LIMIT < original.len() {
+        return RereadOutcome::Refused(RereadRefusal::OriginalTooLong);
+    }
+    if original.len() < r {
+        return RereadOutcome::Refused(RereadRefusal::OptionStartPastEnd);
+    }
+    let start = surplus::start_of(&original[r..], r % 2 == 1, true);
+    match start {
+        Start::Empty => quietly(option_start, Verdict::Bare),
+        Start::Short => quietly(option_start, Verdict::Short),
+        Start::Pad => quietly(option_start, Verdict::Pad),
+        Start::Unsummed => quietly(option_start, Verdict::Unsummed),
+        Start::BadSum => quietly(option_start, Verdict::BadSum),
+        Start::List(at) => relisted(original, option_start, OriginalOffset(r + at)),
+    }
+}
+
+// The rereading whose option list starts at `from`.
+fn relisted(original: &[u8], r: OriginalOffset, from: OriginalOffset) -> RereadOutcome
+    requires { ⌜ (r .0 ≤ from .0) × (from .0 ≤ length (now original)) ⌝ }
+    ensures { λ a. ⌜ reAnswerOf a ≡ rewalked (now (original .entry)) (r .0) (from .0) (walkFrom optionLimit 0 (drop (from .0) (now (original .entry)))) ⌝ }
+{
+    let at = from.0;
+    let user_end = r.0;
+    let list = walk::walk_list(&original[at..], walk::OPTION_LIMIT);
+    match list {
+        Walk::Listed { count, fill, apcs } => RereadOutcome::Accepted(Rereading {
+            user: OriginalExtent {
+                from: OriginalOffset(0),
+                to: r,
+            },
+            verdict: Verdict::Read,
+            options: OriginalExtent {
+                from,
+                to: OriginalOffset(original.len()),
+            },
+            count,
+            fill,
+            apc: reading::apc_of(&original[..user_end], apcs),
+        }),
+        Walk::Faulty(fault) => faultily(r, fault),
+    }
+}
+
+fn faultily(r: OriginalOffset, fault: Fault) -> RereadOutcome
+    ensures { λ a. ⌜ reAnswerOf a ≡ faultily (r .0) fault ⌝ }
+{
+    match fault {
+        Fault::Unsafe => RereadOutcome::Refused(RereadRefusal::UnsafeOption),
+        Fault::Malformed => quietly(r, Verdict::Malformed),
+        Fault::FragData => quietly(r, Verdict::FragData),
+        Fault::Crowded => quietly(r, Verdict::Crowded),
+    }
+}
+
+// A rereading that reports no option.
+fn quietly(r: OriginalOffset, verdict: Verdict) -> RereadOutcome
+    ensures { λ a. ⌜ reAnswerOf a ≡ quietly (r .0) verdict ⌝ }
+{
+    RereadOutcome::Accepted(Rereading {
+        user: OriginalExtent {
+            from: OriginalOffset(0),
+            to: r,
+        },
+        verdict,
+        options: OriginalExtent {
+            from: OriginalOffset(0),
+            to: OriginalOffset(0),
+        },
+        count: 0,
+        fill: 0,
+        apc: Apc::Absent,
+    })
+}

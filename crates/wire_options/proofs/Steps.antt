@@ -1,0 +1,134 @@
+-- Laws of one step: what an option that was found has of the list, and what follows for its size.
+-- Assumes nothing.
+use mathlib.Core.Path.{_≡_, refl, sym, ap, _∙_}
+use mathlib.Core.Bool.{Bool, true, false, cond, _||_}
+use mathlib.Core.List.{List, [], _∷_}
+use mathlib.Core.Logic.{_⊎_, inl, inr, ⊎-elim}
+use Prim.Native.Nat.{ℕ, _≤_, _<_}
+use native.Mathlib.Omega.{arith}
+use borrow.Author.Tests.{leb-true, eqb-true}
+use lib.Dec.{eqb, leb}
+use lib.ListN.{length, getD}
+use Rattle.number_octets.specs.Octets.{number, part}
+use Rattle.wire_options.specs.Kinds.{classOf, apc}
+use Rattle.wire_options.specs.Step.{within, extended, headerOf, fixedStep, varyingStep, stepIn, stepOf}
+use Rattle.wire_options.specs.declared.step.Class.{Class}
+use Rattle.wire_options.specs.declared.step.Class.the-variants.{EndOfList, NoOperation, Fixed, Varying, Unsafe}
+use Rattle.wire_options.specs.declared.step.Header.{Header}
+use Rattle.wire_options.specs.declared.step.Header.the-variants.{Sound, Broken}
+use Rattle.wire_options.specs.declared.step.Step.{Step}
+use Rattle.wire_options.specs.declared.step.Step.the-variants.{End, Eol, Nop, Found, Malformed, Outlawed}
+
+-- ---- headers
+
+-- a sound header: where it stands in its option, and its option in the list
+pub record Sized (l : List ℕ) (h s : ℕ) : Type 0 where
+  pub least : 2 ≤ s
+  pub head : h ≤ s
+  pub fits : s ≤ length l
+  pub short : s < 255 → h ≡ 2
+
+not-sound : (h s : ℕ) → Broken ≡ Sound h s → ⊥
+not-sound h s e = let z : _≡_ {A = ℕ} 0 1 = cc in omega arith
+
+within-sound : (l : List ℕ) (x y h s : ℕ) → 2 ≤ y → x ≤ y → (y < 255 → x ≡ 2) → within (length l) x y ≡ Sound h s → Sized l h s
+within-sound l x y h s least head short = go (leb y (length l)) refl
+  where
+    go : (t : Bool) → leb y (length l) ≡ t → cond t (Sound x y) Broken ≡ Sound h s → Sized l h s
+    go false e q = absurd (not-sound h s q)
+    go true e q =
+        let hx : x ≡ h = cc in
+        let sy : y ≡ s = cc in
+        let f : y ≤ length l = leb-true y (length l) e in
+        record { least = omega arith; head = omega arith; fits = omega arith; short = λ (u : s < 255). sym hx ∙ short (omega arith) }
+
+extended-sound : (l : List ℕ) (h s : ℕ) → extended l ≡ Sound h s → Sized l h s
+extended-sound l h s = go (leb 4 (length l)) (leb 255 (number (part 2 2 l))) refl
+  where
+    go : (t u : Bool) → leb 255 (number (part 2 2 l)) ≡ u
+        → cond t (cond u (within (length l) 4 (number (part 2 2 l))) Broken) Broken ≡ Sound h s → Sized l h s
+    go false u e q = absurd (not-sound h s q)
+    go true false e q = absurd (not-sound h s q)
+    go true true e q =
+        let big : 255 ≤ number (part 2 2 l) = leb-true 255 (number (part 2 2 l)) e in
+        within-sound l 4 (number (part 2 2 l)) h s (omega arith) (omega arith) (λ u. absurd (omega arith)) q
+
+pub header-sound : (l : List ℕ) (h s : ℕ) → headerOf l ≡ Sound h s → Sized l h s
+unfolding headerOf
+header-sound l h s = go (leb 2 (length l)) (eqb (getD l 1 0) 255) (leb 2 (getD l 1 0)) refl
+  where
+    go : (t u v : Bool) → leb 2 (getD l 1 0) ≡ v
+        → cond t (cond u (extended l) (cond v (within (length l) 2 (getD l 1 0)) Broken)) Broken ≡ Sound h s → Sized l h s
+    go false u v e q = absurd (not-sound h s q)
+    go true true v e q = extended-sound l h s q
+    go true false false e q = absurd (not-sound h s q)
+    go true false true e q =
+        let two : 2 ≤ getD l 1 0 = leb-true 2 (getD l 1 0) e in
+        within-sound l 2 (getD l 1 0) h s two two (λ u. refl) q
+
+-- ---- options
+
+pub record FoundIn (l : List ℕ) (kind header size : ℕ) : Type 0 where
+  pub front : kind ≡ getD l 0 0
+  pub sized : Sized l header size
+  pub fixed : (a b : ℕ) → classOf kind ≡ Fixed a b → (size ≡ a) ⊎ (size ≡ b)
+
+either : (s t : Bool) (m a b : ℕ) → eqb m a ≡ s → eqb m b ≡ t → (s || t) ≡ true → (m ≡ a) ⊎ (m ≡ b)
+either true t m a b p q e = inl (eqb-true m a p)
+either false true m a b p q e = inr (eqb-true m b q)
+either false false m a b p q e = absurd (let z : _≡_ {A = ℕ} 0 1 = cc in omega arith)
+
+fixed-found : (l : List ℕ) (k a b : ℕ) (header : Header) (kind h s : ℕ) → headerOf l ≡ header → fixedStep k a b header ≡ Found kind h s
+    → (k ≡ kind) × (headerOf l ≡ Sound h s) × ((s ≡ a) ⊎ (s ≡ b))
+fixed-found l k a b Broken kind h s e q = absurd (let z : _≡_ {A = ℕ} 0 1 = cc in omega arith)
+fixed-found l k a b (Sound x y) kind h s e q = go (eqb y a || eqb y b) refl q
+  where
+    go : (t : Bool) → (eqb y a || eqb y b) ≡ t → cond t (Found k x y) Malformed ≡ Found kind h s
+        → (k ≡ kind) × (headerOf l ≡ Sound h s) × ((s ≡ a) ⊎ (s ≡ b))
+    go false p r = absurd (let z : _≡_ {A = ℕ} 0 1 = cc in omega arith)
+    go true p r =
+        let same : y ≡ s = cc in
+        (cc, cc, ⊎-elim (λ u. inl (sym same ∙ u)) (λ u. inr (sym same ∙ u)) (either (eqb y a) (eqb y b) y a b refl refl p))
+
+varying-found : (l : List ℕ) (k : ℕ) (header : Header) (kind h s : ℕ) → headerOf l ≡ header → varyingStep k header ≡ Found kind h s
+    → (k ≡ kind) × (headerOf l ≡ Sound h s)
+varying-found l k Broken kind h s e q = absurd (let z : _≡_ {A = ℕ} 0 1 = cc in omega arith)
+varying-found l k (Sound x y) kind h s e q = (cc, cc)
+
+class-found : (l : List ℕ) (class : Class) (kind h s : ℕ) → classOf (getD l 0 0) ≡ class → stepIn class l ≡ Found kind h s → FoundIn l kind h s
+class-found l EndOfList kind h s c q = absurd (let z : _≡_ {A = ℕ} 0 1 = cc in omega arith)
+class-found l NoOperation kind h s c q = absurd (let z : _≡_ {A = ℕ} 0 1 = cc in omega arith)
+class-found l Unsafe kind h s c q = absurd (let z : _≡_ {A = ℕ} 0 1 = cc in omega arith)
+class-found l (Fixed a b) kind h s c q =
+    let f = fixed-found l (getD l 0 0) a b (headerOf l) kind h s refl q in
+    record {
+      front = sym (f .0);
+      sized = header-sound l h s (f .1);
+      fixed = λ x y e.
+          let at : Fixed a b ≡ Fixed x y = sym c ∙ ap classOf (f .0) ∙ e in
+          let left : a ≡ x = cc in
+          let right : b ≡ y = cc in
+          ⊎-elim (λ u. inl (u ∙ left)) (λ u. inr (u ∙ right)) (f .2);
+    }
+class-found l Varying kind h s c q =
+    let f = varying-found l (getD l 0 0) (headerOf l) kind h s refl q in
+    record {
+      front = sym (f .0);
+      sized = header-sound l h s (f .1);
+      fixed = λ x y e.
+          let at : Varying ≡ Fixed x y = sym c ∙ ap classOf (f .0) ∙ e in
+          absurd (let z : _≡_ {A = ℕ} 0 1 = cc in omega arith);
+    }
+
+pub step-found : (l : List ℕ) (kind h s : ℕ) → stepOf l ≡ Found kind h s → FoundIn l kind h s
+unfolding stepOf
+step-found [] kind h s e = absurd (let z : _≡_ {A = ℕ} 0 1 = cc in omega arith)
+step-found (b ∷ bs) kind h s e = class-found (b ∷ bs) (classOf b) kind h s refl e
+
+-- an APC has its 32 bits right behind a short header
+pub apc-found : (l : List ℕ) (h s : ℕ) → stepOf l ≡ Found apc h s → (h ≡ 2) × (s ≡ 6) × (6 ≤ length l)
+unfolding classOf
+apc-found l h s e =
+    let f = step-found l apc h s e in
+    let six : s ≡ 6 = ⊎-elim (λ u. u) (λ u. u) (f .fixed 6 6 refl) in
+    (f .sized .short (omega arith), six, omega (arith, f .sized .fits))

@@ -1,0 +1,169 @@
+-- `wire_options::walk::turn_at` meets its contract: the arm of the match is the step at the front, at which `turnIn` computes.
+-- Assumes nothing.
+use mathlib.Core.Path.{_≡_, refl, sym, ap, _∙_}
+use mathlib.Core.List.{List}
+use Prim.Native.Nat.{ℕ, zero, suc, _+_, _-_, _≤_}
+use native.Mathlib.Omega.{arith}
+use borrow.Author.Tests.{eq-eqb, ne-eqb}
+use lib.ListN.{length}
+use Rattle.number_octets.specs.Octets.{number, part}
+use Rattle.wire_options.specs.Kinds.{apc}
+use Rattle.wire_options.specs.Step.{stepOf}
+use Rattle.wire_options.specs.Turn.{roomTurn, turnIn, turnOf}
+use Rattle.wire_options.specs.Walk.{itemOf, apcOf}
+use Rattle.wire_options.specs.declared.step.Step.{Step}
+use Rattle.wire_options.specs.declared.step.Step.the-variants.{Found}
+use Rattle.wire_options.specs.declared.walk.Apcs.{Apcs}
+use Rattle.wire_options.specs.declared.walk.Apcs.the-variants.{Absent, Same}
+use Rattle.wire_options.specs.declared.walk.Fault.the-variants.{Crowded}
+use Rattle.wire_options.specs.declared.walk.Turn.the-variants.{On, Failed}
+use Rattle.wire_options.proofs.Steps.{apc-found}
+use borrow.Author.Needs.{needs}
+use Rattle.wire_options.proofs.walk.turn_at.Statement.{statement}
+use Rattle.wire_options.proofs.walk.turn_at.Tie as tie
+
+next-requires : tie.Need-next-requires
+next-requires c κs = search needs
+
+enum-told : tie.Need-enum-told
+enum-told c = search needs
+
+enum-told-2 : tie.Need-enum-told-2
+enum-told-2 c = search needs
+
+enum-told-3 : tie.Need-enum-told-3
+enum-told-3 c = search needs
+
+on-requires : tie.Need-on-requires
+on-requires c κs = search needs
+
+enum-known-step : tie.Need-enum-known-step
+enum-known-step c = search needs
+
+turn-is : (room : ℕ) (l : List ℕ) (step : Step) → stepOf l ≡ step → turnOf room l ≡ turnIn room l step
+unfolding turnOf
+turn-is room l step e = ap (turnIn room l) e
+
+-- the step of the arm for an option
+abbrev kindOf : tie.After-known-told → ℕ
+kindOf c = c .before .step .given .0 .0
+
+abbrev headerOf : tie.After-known-told → ℕ
+headerOf c = c .before .step .given .0 .1 .0
+
+abbrev sizeOf : tie.After-known-told → ℕ
+sizeOf c = c .before .step .given .0 .1 .1 .0
+
+found : (c : tie.After-known-told) → stepOf (c .before .before .before .before .before .args .rest .now) ≡ Found (kindOf c) (headerOf c) (sizeOf c)
+found c = sym (c .before .before .before .next .ensures) ∙ c .before .step .given .1
+
+an-apc : (c : tie.After-known-told) → kindOf c ≡ apc → (headerOf c ≡ 2) × (sizeOf c ≡ 6)
+    × (6 ≤ length (c .before .before .before .before .before .args .rest .now))
+an-apc c e =
+    apc-found (c .before .before .before .before .before .args .rest .now) (headerOf c) (sizeOf c)
+    (found c ∙ ap (λ (k : ℕ). Found k (headerOf c) (sizeOf c)) e)
+
+no-room : (room size : ℕ) (apcs : Apcs) → room ≡ 0 → roomTurn room size apcs ≡ Failed Crowded
+no-room room size apcs e = ap (λ (r : ℕ). roomTurn r size apcs) e
+
+some-room : (room size : ℕ) (apcs : Apcs) → (room ≡ 0 → ⊥) → roomTurn room size apcs ≡ On (room - 1) size apcs
+some-room zero size apcs e = absurd (e refl)
+some-room (suc room) size apcs e = ap (λ (r : ℕ). On r size apcs) (omega arith)
+
+returns : tie.Need-returns
+returns c = let a = c .before .before .before .before .before .before .args in sym
+    (turn-is (a .room) (a .rest .now) _ (found (c .before)) ∙ simp (eq-eqb _ _ (c .if1 .taken)))
+
+returns-2 : tie.Need-returns-2
+returns-2 c = let a = c .before .before .before .before .before .before .before .args in sym
+    (turn-is (a .room) (a .rest .now) _ (found (c .before .before)) ∙ simp (ne-eqb _ _ (c .before .if1 .left)) (no-room _ _ _ (c .if2 .taken)))
+
+get-u32-requires : tie.Need-get-u32-requires
+get-u32-requires c κs = let f = an-apc (c .before .before .before) (c .if3 .taken) in omega arith
+
+sub-on : tie.Need-sub-on
+sub-on c = search needs
+
+on-requires-2 : tie.Need-on-requires-2
+on-requires-2 c κs = search needs
+
+returns-3 : tie.Need-returns-3
+returns-3 c =
+    let a = c .before .before .before .before .before .before .before .before .before .before .args in
+    let place = c .before .before .before .before .before in
+    let f = an-apc place (c .before .before .if3 .taken) in
+    let four : sizeOf place - headerOf place ≡ 4 = omega arith in
+    let value : number (part (headerOf place) (sizeOf place - headerOf place) (a .rest .now)) ≡ c .before .get-u32 .result =
+    ap (λ (n : ℕ). number (part (headerOf place) n (a .rest .now))) four ∙ sym (c .before .get-u32 .ensures) in
+    c .on2 .ensures
+    ∙ sym (turn-is (a .room) (a .rest .now) _ (found place)
+    ∙ simp (ne-eqb _ _ (c .before .before .before .before .if1 .left), eq-eqb _ _ (c .before .before .if3 .taken), value)
+    (some-room (a .room) (sizeOf place) (Same (c .before .get-u32 .result)) (c .before .before .before .if2 .left)))
+
+sub-on-2 : tie.Need-sub-on-2
+sub-on-2 c = search needs
+
+on-requires-3 : tie.Need-on-requires-3
+on-requires-3 c κs = search needs
+
+enum-told-4 : tie.Need-enum-told-4
+enum-told-4 c = search needs
+
+enum-told-5 : tie.Need-enum-told-5
+enum-told-5 c = search needs
+
+returns-4 : tie.Need-returns-4
+returns-4 c = let a = c .before .before .before .before .args in sym
+    (turn-is (a .room) (a .rest .now) _ (sym (c .before .before .next .ensures) ∙ c .enum-told .given .1))
+
+returns-5 : tie.Need-returns-5
+returns-5 c = let a = c .before .before .before .before .args in sym
+    (turn-is (a .room) (a .rest .now) _ (sym (c .before .before .next .ensures) ∙ c .enum-told2 .given .1))
+
+returns-6 : tie.Need-returns-6
+returns-6 c = let a = c .before .before .before .before .before .args in c .on .ensures
+    ∙ sym (turn-is (a .room) (a .rest .now) _ (sym (c .before .before .before .next .ensures) ∙ c .before .enum-told3 .given .1))
+
+returns-7 : tie.Need-returns-7
+returns-7 c =
+    let a = c .before .before .before .before .before .before .before .before .before .args in
+    let place = c .before .before .before .before in
+    c .on3 .ensures
+    ∙ sym (turn-is (a .room) (a .rest .now) _ (found place)
+    ∙ simp (ne-eqb _ _ (c .before .before .before .if1 .left), ne-eqb _ _ (c .before .if3 .left))
+    (some-room (a .room) (sizeOf place) Absent (c .before .before .if2 .left)))
+
+returns-8 : tie.Need-returns-8
+returns-8 c = let a = c .before .before .before .before .args in sym
+    (turn-is (a .room) (a .rest .now) _ (sym (c .before .before .next .ensures) ∙ c .enum-told4 .given .1))
+
+returns-9 : tie.Need-returns-9
+returns-9 c = let a = c .before .before .before .before .args in sym
+    (turn-is (a .room) (a .rest .now) _ (sym (c .before .before .next .ensures) ∙ c .enum-told5 .given .1))
+
+pub turn-at-spec : {M : Type 1} → statement M
+turn-at-spec =
+    tie.close
+    (tie.spec
+    next-requires
+    enum-told
+    enum-told-2
+    enum-told-3
+    on-requires
+    enum-known-step
+    returns
+    returns-2
+    get-u32-requires
+    sub-on
+    on-requires-2
+    returns-3
+    sub-on-2
+    on-requires-3
+    enum-told-4
+    enum-told-5
+    returns-4
+    returns-5
+    returns-6
+    returns-7
+    returns-8
+    returns-9)

@@ -1,0 +1,168 @@
+-- `wire_options::walk::walk_list` meets its contract. The loop's invariant: what the walk tells of the whole list is what it tells of the rest
+-- with the options passed before it (`behind`); each turn carries it on (`turn-goes`).
+-- Assumes nothing.
+use mathlib.Core.Path.{_≡_, refl, sym, ap, ap₂, _∙_}
+use mathlib.Core.List.{List}
+use Prim.Native.Nat.{ℕ, _+_, _-_, _≤_, _<_}
+use native.Mathlib.Nat.{add-zero}
+use native.Mathlib.Omega.{arith}
+use borrow.Author.Needs.{needs}
+use lib.ListN.{length, drop, length-drop, drop-of-length-le}
+use lib.Seq.{take-all}
+use Rattle.wire_options.specs.Turn.{turnOf}
+use Rattle.wire_options.specs.Walk.{told, walkFrom}
+use Rattle.wire_options.specs.declared.walk.Apcs.{Apcs}
+use Rattle.wire_options.specs.declared.walk.Apcs.the-variants.{Absent}
+use Rattle.wire_options.specs.declared.walk.Walk.the-variants.{Listed, Faulty}
+use Rattle.wire_options.proofs.Walks.{Goes, behind, behind-none, turn-on, joined-absent, turn-goes, turn-ended, turn-failed, told-none}
+use Rattle.wire_options.proofs.walk.walk_list.Statement.{statement}
+use Rattle.wire_options.proofs.walk.walk_list.Tie as tie
+
+abbrev Inv-loop : tie.InvT-loop
+Inv-loop list room at₀ left₀ apcs₀ at left apcs =
+    (at ≤ length list) × (left ≤ room)
+    × (told (walkFrom room 0 list) ≡ behind (room - left) apcs (told (walkFrom left 0 (drop at list))))
+
+abbrev μ-loop : tie.MeasureT-loop
+μ-loop list room at₀ left₀ apcs₀ at left apcs = length list - at
+
+-- the turn that was made, over the rest of the list
+module _ (c : tie.After-turn-at Inv-loop μ-loop) where
+  abbrev at-loop : tie.At-loop Inv-loop μ-loop
+  at-loop = c .before .before .before
+
+  abbrev rest : List ℕ
+  rest = drop (at-loop .loop .at) (at-loop .before .before .args .list .now)
+
+  some-rest : 0 < length rest
+  some-rest = simp length-drop (omega (arith, c .before .before .loop-test .taken))
+
+  turned : turnOf (at-loop .loop .left) rest ≡ c .turn-at .result
+  turned =
+      let l = at-loop .before .before .args .list .now in
+      sym (c .turn-at .ensures ∙ ap (turnOf (at-loop .loop .left)) (take-all (length l - at-loop .loop .at) rest (simp length-drop (omega arith))))
+
+-- a turn that goes on
+goes : (c : tie.After-turn Inv-loop μ-loop) → let p = c .before .before in
+    Goes (at-loop p .loop .left) (rest p) (c .turn .given .0 .0) (c .turn .given .0 .1 .0) (c .turn .given .0 .1 .1 .0)
+goes c = let p = c .before .before in turn-goes (at-loop p .loop .left) (rest p) _ _ _ (some-rest p) (turned p ∙ c .turn .given .1)
+
+bound : (c : tie.After-turn Inv-loop μ-loop) → let p = c .before .before in
+    at-loop p .loop .at + c .turn .given .0 .1 .0 ≤ length (at-loop p .before .before .args .list .now)
+bound c =
+    let p = c .before .before in
+    let f = goes c .fits in
+    omega (arith, simp length-drop at f, p .before .before .loop-test .taken)
+
+loop-holds : tie.Need-loop-holds Inv-loop μ-loop
+loop-holds c =
+    let a = c .before .args in
+    let none : a .room - a .room ≡ 0 = omega arith in (
+      search needs,
+      search needs,
+      sym
+          (ap (λ (n : ℕ). behind n Absent (told (walkFrom (a .room) 0 (a .list .now)))) none
+          ∙ behind-none (told (walkFrom (a .room) 0 (a .list .now)))),
+    )
+
+sub-turn-at : tie.Need-sub-turn-at Inv-loop μ-loop
+sub-turn-at c = omega arith
+
+part-turn-at-start : tie.Need-part-turn-at-start Inv-loop μ-loop
+part-turn-at-start c = omega arith
+
+part-turn-at-end : tie.Need-part-turn-at-end Inv-loop μ-loop
+part-turn-at-end c = omega arith
+
+turn-at-requires : tie.Need-turn-at-requires Inv-loop μ-loop
+turn-at-requires c κs = search needs
+
+enum-known-turn : tie.Need-enum-known-turn Inv-loop μ-loop
+enum-known-turn c = search needs
+
+add-at : tie.Need-add-at Inv-loop μ-loop
+add-at c = omega (arith, bound (c .before))
+
+join-requires : tie.Need-join-requires Inv-loop μ-loop
+join-requires c κs = search needs
+
+loop-less : tie.Need-loop-less Inv-loop μ-loop
+loop-less c = let b = bound (c .before .before) in let g = goes (c .before .before) .some in omega arith
+
+loop-again : tie.Need-loop-again Inv-loop μ-loop
+loop-again c =
+    let g = goes (c .before .before) in
+    let p = c .before .before .before .before in
+    let here = at-loop p in
+    let a = here .before .before .args in
+    let v = c .before .before .turn .given .0 in (
+      omega (arith, bound (c .before .before)),
+      omega (arith, g .less, here .loop .inv),
+      turn-on _ (a .list .now) (a .room) (here .loop .left) (v .0) (here .loop .at) (v .1 .0) (here .loop .apcs) (v .1 .1 .0) (c .join .result)
+          (here .loop .inv .1) (here .loop .inv .2) g (c .join .ensures),
+    )
+
+enum-known-turn-2 : tie.Need-enum-known-turn-2 Inv-loop μ-loop
+enum-known-turn-2 c = search needs
+
+sub-t17 : tie.Need-sub-t17 Inv-loop μ-loop
+sub-t17 c = omega arith
+
+returns : tie.Need-returns Inv-loop μ-loop
+returns c =
+    let p = c .before .before .before in
+    let here = at-loop p in
+    let a = here .before .before .args in
+    let n : ℕ = a .room - here .loop .left in
+    sym (here .loop .inv .2
+    ∙ ap (behind n (here .loop .apcs)) (turn-ended (here .loop .left) (rest p) _ (some-rest p) (turned p ∙ c .before .turn2 .given .1))
+    ∙ ap₂ (λ (k : ℕ) (x : Apcs). Listed k (c .before .turn2 .given .0 .0) x) (add-zero n) (joined-absent (here .loop .apcs)))
+
+enum-known-turn-3 : tie.Need-enum-known-turn-3 Inv-loop μ-loop
+enum-known-turn-3 c = search needs
+
+returns-2 : tie.Need-returns-2 Inv-loop μ-loop
+returns-2 c =
+    let p = c .before .before .before in
+    let here = at-loop p in
+    let a = here .before .before .args in
+    sym (here .loop .inv .2
+    ∙ ap (behind (a .room - here .loop .left) (here .loop .apcs))
+    (turn-failed (here .loop .left) (rest p) _ (some-rest p) (turned p ∙ c .before .turn3 .given .1)))
+
+sub-t18 : tie.Need-sub-t18 Inv-loop μ-loop
+sub-t18 c = omega arith
+
+returns-3 : tie.Need-returns-3 Inv-loop μ-loop
+returns-3 c =
+    let here = c .before in
+    let a = here .before .before .args in
+    let n : ℕ = a .room - here .loop .left in
+    sym (here .loop .inv .2
+    ∙ ap (λ (l : List ℕ). behind n (here .loop .apcs) (told (walkFrom (here .loop .left) 0 l))) (drop-of-length-le (a .list .now) (c .loop-test .left))
+    ∙ ap (behind n (here .loop .apcs)) (told-none (here .loop .left) 0)
+    ∙ ap₂ (λ (k : ℕ) (x : Apcs). Listed k 0 x) (add-zero n) (joined-absent (here .loop .apcs)))
+
+pub walk-list-spec : {M : Type 1} → statement M
+walk-list-spec =
+    tie.close
+    (tie.spec
+    Inv-loop
+    μ-loop
+    loop-holds
+    sub-turn-at
+    part-turn-at-start
+    part-turn-at-end
+    turn-at-requires
+    enum-known-turn
+    add-at
+    join-requires
+    loop-less
+    loop-again
+    enum-known-turn-2
+    sub-t17
+    returns
+    enum-known-turn-3
+    returns-2
+    sub-t18
+    returns-3)

@@ -1,0 +1,40 @@
+-- The option kinds of RFC 9868 section 10, as the table in document 01 has them: the class of a kind and the lengths it may have.
+use mathlib.Core.Bool.{cond}
+use Prim.Native.Nat.{ℕ}
+use lib.Dec.{eqb, leb}
+use Rattle.wire_options.specs.declared.step.Class.{Class}
+use Rattle.wire_options.specs.declared.step.Class.the-variants.{EndOfList, NoOperation, Fixed, Varying, Unsafe}
+
+-- the kinds that rules name
+abbrev pub eol : ℕ
+eol = 0
+
+abbrev pub nop : ℕ
+nop = 1
+
+abbrev pub apc : ℕ
+apc = 2
+
+abbrev pub frag : ℕ
+frag = 3
+
+-- the whole lengths of FRAG, and of FRAG in the last piece
+abbrev pub fragSize : ℕ
+fragSize = 10
+
+abbrev pub lastFragSize : ℕ
+lastFragSize = 12
+
+-- a fixed kind has its one length, FRAG its two; kinds up to 191 have what their length byte says; those above are unsafe
+unfoldable pub classOf : ℕ → Class
+classOf kind =
+    cond (eqb kind eol) EndOfList
+    (cond (eqb kind nop) NoOperation
+    (cond (eqb kind apc) (Fixed 6 6)
+    (cond (eqb kind frag) (Fixed fragSize lastFragSize)
+    (cond (eqb kind 4) (Fixed 4 4)
+    (cond (eqb kind 5) (Fixed 5 5)
+    (cond (eqb kind 6) (Fixed 6 6)
+    (cond (eqb kind 7) (Fixed 6 6)
+    (cond (eqb kind 8) (Fixed 10 10)
+    (cond (leb kind 191) Varying Unsafe)))))))))

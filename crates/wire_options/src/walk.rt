@@ -1,0 +1,152 @@
+// The walk over a list of options in which FRAG has no place: what is behind a leading FRAG, or the whole list where there is none.
+use crate::step;
+use crate::step::Step;
+ghost use mathlib.Core.Path.{_≡_};
+ghost use Prim.Native.Nat.{_<_};
+ghost use lib.ListN.{length};
+ghost use Rattle.wire_options.specs.Walk.{joined, told, walkFrom};
+ghost use Rattle.wire_options.specs.Turn.{turnOf};
+
+// How many options besides NOP and EOL a list may have: a house rule.
+pub const OPTION_LIMIT: usize = 32;
+
+const APC: u8 = 2;
+
+const FRAG: u8 = 3;
+
+// What makes a list unreadable.
+pub enum Fault {
+    Malformed,
+    Unsafe,
+    // FRAG in a datagram that has user data.
+    FragData,
+    Crowded,
+}
+
+// The values of a list's APC options: none, one value however often, or values that differ.
+pub enum Apcs {
+    Absent,
+    Same(u32),
+    Different,
+}
+
+pub enum Walk {
+    // `count` options, the fill behind them, and what their APCs say.
+    Listed {
+        count: usize,
+        fill: usize,
+        apcs: Apcs,
+    },
+    Faulty(Fault),
+}
+
+// What one step of the walk comes to.
+enum Turn {
+    // The walk goes on, `size` bytes further.
+    On {
+        room: usize,
+        size: usize,
+        apcs: Apcs,
+    },
+    Ended {
+        fill: usize,
+    },
+    Failed(Fault),
+}
+
+// Walks a list that may have `room` options.
+pub fn walk_list(list: &[u8], room: usize) -> Walk
+    ensures { λ r. ⌜ r ≡ told (walkFrom room 0 (now (list .entry))) ⌝ }
+{
+    let mut at = 0;
+    let mut left = room;
+    let mut apcs = Apcs::Absent;
+    while at < list.len() {
+        let turn = turn_at(&list[at..], left);
+        match turn {
+            Turn::On {
+                room: r,
+                size,
+                apcs: a,
+            } => {
+                at += size;
+                left = r;
+                apcs = join(apcs, a);
+            }
+            Turn::Ended { fill } => {
+                return Walk::Listed {
+                    count: room - left,
+                    fill,
+                    apcs,
+                };
+            }
+            Turn::Failed(fault) => {
+                return Walk::Faulty(fault);
+            }
+        }
+    }
+    Walk::Listed {
+        count: room - left,
+        fill: 0,
+        apcs,
+    }
+}
+
+// One step of the walk.
+fn turn_at(rest: &[u8], room: usize) -> Turn
+    ensures { λ r. ⌜ r ≡ turnOf room (now (rest .entry)) ⌝ }
+{
+    let step = step::next(rest);
+    match step {
+        Step::End => Turn::Ended { fill: 0 },
+        Step::Eol => Turn::Ended { fill: rest.len() },
+        Step::Nop => on(room, 1, Apcs::Absent),
+        Step::Found { kind, header, size } => {
+            if kind == FRAG {
+                return Turn::Failed(Fault::Malformed);
+            }
+            if room == 0 {
+                return Turn::Failed(Fault::Crowded);
+            }
+            if kind == APC {
+                let value = number_octets::get_u32(rest, header);
+                return on(room - 1, size, Apcs::Same(value));
+            }
+            on(room - 1, size, Apcs::Absent)
+        }
+        Step::Malformed => Turn::Failed(Fault::Malformed),
+        Step::Outlawed => Turn::Failed(Fault::Unsafe),
+    }
+}
+
+fn on(room: usize, size: usize, apcs: Apcs) -> Turn
+    ensures { λ r. ⌜ r ≡ Turn.On room size apcs ⌝ }
+{
+    Turn::On { room, size, apcs }
+}
+
+// The APCs of two parts of a list taken together.
+fn join(a: Apcs, b: Apcs) -> Apcs
+    ensures { λ r. ⌜ r ≡ joined a b ⌝ }
+{
+    match a {
+        Apcs::Absent => b,
+        Apcs::Same(v) => join_value(v, b),
+        Apcs::Different => Apcs::Different,
+    }
+}
+
+fn join_value(v: u32, b: Apcs) -> Apcs
+    ensures { λ r. ⌜ r ≡ joined (Apcs.Same v) b ⌝ }
+{
+    match b {
+        Apcs::Absent => Apcs::Same(v),
+        Apcs::Same(w) => {
+            if v == w {
+                return Apcs::Same(v);
+            }
+            Apcs::Different
+        }
+        Apcs::Different => Apcs::Different,
+    }
+}
