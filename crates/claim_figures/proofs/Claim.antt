@@ -12,8 +12,8 @@ use Rattle.number_varint.specs.SevenBit.{isLast, isIdle, isNarrow, inFront, fro
 use Rattle.wire_options.specs.Kinds.{classOf}
 use Rattle.wire_options.specs.Step.{headerOf, stepOf}
 use Rattle.wire_options.specs.Walk.{optionLimit, walkFrom}
-use Rattle.wire_options.specs.Area.{nopsOf, areaOf}
-use Rattle.wire_datagram.specs.Surplus.{startOf}
+use Rattle.wire_area.specs.Area.{nopsOf, areaOf}
+use Rattle.wire_surplus.specs.Surplus.{startOf}
 use Rattle.wire_datagram.specs.Reading.{payloadLimit, firstOf, accepted, reading}
 use Rattle.list_encoding.specs.Shape.{shapeOf}
 use Rattle.list_encoding.specs.Encoding.{readNumber, readFields, readBody, readKind, readOption, readOptions, decodedList}

@@ -1,6 +1,5 @@
 // The fragment call of one client (document 01, "The table": piece, from refusal 22 on): its record by value, and its share of the
 // store.
-use number_offsets::OriginalOffset;
 use client_reassembly::Answer;
 use client_reassembly::Arrival;
 use client_reassembly::Refusal;
@@ -8,6 +7,7 @@ use client_reassembly::Step;
 use client_record::Assembly;
 use client_record::Client;
 use client_record::Fragment;
+use number_offsets::OriginalOffset;
 ghost use mathlib.Core.Path.{_≡_};
 ghost use lib.ListN.{length};
 ghost use Rattle.client_record.specs.Limits.{shareSize};

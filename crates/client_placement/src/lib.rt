@@ -21,7 +21,10 @@ fn matches(a: Assembly, o: Arrival) -> bool
     ensures { λ r. ⌜ r ≡ matches o a ⌝ }
 {
     let flow = o.flow;
-    client_record::both(client_record::live(a), client_record::has_key(a, flow, o.identification))
+    client_record::both(
+        client_record::live(a),
+        client_record::has_key(a, flow, o.identification),
+    )
 }
 
 // The place of the assembly with the offer's key; past the places if there is none.
@@ -100,7 +103,10 @@ fn alike(f: Fragment, g: Fragment) -> bool
     ensures { λ r. ⌜ r ≡ alike f g ⌝ }
 {
     let marks = client_record::same_mark(client_record::is_last(f), client_record::is_last(g));
-    let starts = client_record::either(!client_record::is_last(f), f.option_start == g.option_start);
+    let starts = client_record::either(
+        !client_record::is_last(f),
+        f.option_start == g.option_start,
+    );
     client_record::both(
         f.offset == g.offset,
         client_record::both(f.length == g.length, client_record::both(marks, starts)),

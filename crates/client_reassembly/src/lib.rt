@@ -1,9 +1,9 @@
 // One client's record by value (document 01, "The table"): its clock and its account, and the values that its calls take and answer. Where a
 // fragment belongs is `client_placement`'s, the fragment call itself `client_offer::offer`; refusals 20 and 21 belong to the table.
-use number_offsets::OriginalOffset;
 use client_record::Assembly;
 use client_record::Client;
 use client_record::Flow;
+use number_offsets::OriginalOffset;
 ghost use mathlib.Core.Path.{_≡_};
 ghost use mathlib.Core.Bool.{true};
 ghost use mathlib.Core.List.{map};
@@ -79,7 +79,10 @@ fn old(a: Assembly, time: u64) -> bool
     if time < opened {
         return false;
     }
-    client_record::both(client_record::live(a), client_record::LIFETIME <= time - opened)
+    client_record::both(
+        client_record::live(a),
+        client_record::LIFETIME <= time - opened,
+    )
 }
 
 fn expired(a: Assembly, time: u64) -> Assembly

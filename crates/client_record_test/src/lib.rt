@@ -160,7 +160,10 @@ fn same_live_key(a: Assembly, b: Assembly) -> bool
 {
     let flow = a.flow;
     let keys = client_record::has_key(b, flow, a.identification);
-    client_record::both(client_record::live(a), client_record::both(client_record::live(b), keys))
+    client_record::both(
+        client_record::live(a),
+        client_record::both(client_record::live(b), keys),
+    )
 }
 
 // One of the first `n` assemblies has the key of `a`.
@@ -262,5 +265,8 @@ pub fn sound(c: Client) -> bool
 {
     let held = total_held(c);
     let figures = client_record::both(c.held == held, balanced(c));
-    client_record::both(assemblies_sound(c), client_record::both(keys_differ(c), figures))
+    client_record::both(
+        assemblies_sound(c),
+        client_record::both(keys_differ(c), figures),
+    )
 }

@@ -1,10 +1,5 @@
 // The library for C and Rust: the calls of include/wuraketozo.h under their names there. A slice is a pointer and a length in C. No
 // call asks anything of the values of its arguments.
-use wire_datagram::reading;
-use wire_datagram::reading::Extent;
-use wire_datagram::rereading;
-use wire_datagram::rereading::OriginalExtent;
-use number_offsets::OriginalOffset;
 use client_record::Client;
 use host_values::Address;
 use host_values::Answer;
@@ -14,6 +9,11 @@ use host_values::Reading;
 use host_values::Received;
 use host_values::Rereading;
 use host_values::Written;
+use number_offsets::OriginalOffset;
+use wire_datagram::reading;
+use wire_datagram::reading::Extent;
+use wire_datagram::rereading;
+use wire_datagram::rereading::OriginalExtent;
 ghost use mathlib.Core.Path.{_≡_};
 ghost use mathlib.Core.List.{[]};
 ghost use Rattle.wire_datagram.specs.Reading.{reading};

@@ -2,7 +2,7 @@
 use Prim.Native.Nat.{ℕ}
 use mathlib.Core.Bool.{Bool, true, false}
 use mathlib.Core.Option.{Option, none, some}
-use Rattle.wire_options.specs.declared.area.Fragment.{Fragment}
+use Rattle.wire_area.specs.declared.Fragment.{Fragment}
 use Rattle.wire_datagram.specs.Verdict.{verdictSays, apcSays}
 use Rattle.wire_datagram.specs.Reading as Read
 use Rattle.wire_datagram.specs.Reading.{extent}

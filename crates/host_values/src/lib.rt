@@ -1,6 +1,11 @@
 // The values of include/wuraketozo.h, field for field, and what each answer of the crates below is among them; `host` exports the
 // calls. A refusal is 0, or document 01's number. What a value does not say is 0. Positions keep their types: an `Extent` is bytes of a
 // payload, an `OriginalExtent` or an `OriginalOffset` places in an original.
+use client_reassembly::Arrival;
+use client_record::Flow;
+use list_options::Listed;
+use number_offsets::OriginalOffset;
+use number_offsets::PacketOffset;
 use wire_datagram::reading;
 use wire_datagram::reading::Apc;
 use wire_datagram::reading::Extent;
@@ -11,12 +16,6 @@ use wire_datagram::rereading;
 use wire_datagram::rereading::OriginalExtent;
 use wire_datagram::rereading::RereadOutcome;
 use wire_datagram::rereading::RereadRefusal;
-use number_offsets::OriginalOffset;
-use number_offsets::PacketOffset;
-use wire_options::area;
-use client_reassembly::Arrival;
-use client_record::Flow;
-use list_options::Listed;
 ghost use mathlib.Core.Path.{_≡_};
 ghost use Rattle.wire_datagram.specs.Verdict.{verdictSays, apcSays};
 ghost use Rattle.wire_datagram.specs.Reading.{extent, answerOf, refusalNumber};
@@ -182,10 +181,10 @@ fn reread_number(refusal: RereadRefusal) -> u32
     }
 }
 
-fn no_fragment() -> area::Fragment
+fn no_fragment() -> wire_area::Fragment
     ensures { λ r. ⌜ r ≡ noFragment ⌝ }
 {
-    area::Fragment {
+    wire_area::Fragment {
         identification: 0,
         place: OriginalOffset(0),
         start: PacketOffset(0),
@@ -196,7 +195,7 @@ fn no_fragment() -> area::Fragment
 }
 
 // The fragment of a verdict, all 0 where there is none.
-fn fragment_in(verdict: Verdict) -> area::Fragment
+fn fragment_in(verdict: Verdict) -> wire_area::Fragment
     ensures { λ r. ⌜ r ≡ fragmentIn verdict ⌝ }
 {
     match verdict {
@@ -570,7 +569,10 @@ pub fn received_of(received: table_receiver::Received) -> Received
     ensures { λ r. ⌜ r ≡ hostFate (fateIn received) ⌝ }
 {
     match received {
-        table_receiver::Received::Refused(refusal) => read_alone(0, unread(refusal_number(refusal))),
+        table_receiver::Received::Refused(refusal) => read_alone(
+            0,
+            unread(refusal_number(refusal)),
+        ),
         table_receiver::Received::Datagram(reading) => read_alone(1, reading_from(reading)),
         table_receiver::Received::Fragment(answer) => offered_alone(answer_of(answer)),
     }

@@ -1,9 +1,9 @@
 // Listing the options of a datagram as an encoded option list.
+use number_varint::Encoded;
 use wire_options::step;
 use wire_options::step::Step;
 use wire_options::walk;
 use wire_options::walk::Walk;
-use number_varint::Encoded;
 ghost use mathlib.Core.Path.{_≡_};
 ghost use Prim.Native.Nat.{_+_, _≤_};
 ghost use lib.ListN.{length};
@@ -145,7 +145,8 @@ fn option_size(rest: &[u8], kind: u8, header: usize, size: usize) -> usize
     requires { ⌜ (stepOf (now rest) ≡ Step.Found kind header size) × (kind ≡ frag → ⊥) ⌝ }
     ensures { λ r. ⌜ r ≡ length (encodedOption (unworked (itemOf kind header size (now (rest .entry))))) ⌝ }
 {
-    number_varint::encoded_length(kind as u64) + content_size(rest, content_of(rest, kind, header, size))
+    number_varint::encoded_length(kind as u64)
+        + content_size(rest, content_of(rest, kind, header, size))
 }
 
 // Writes one option, encoded, from `at`.

@@ -1,11 +1,11 @@
 // Listing a reading or a rereading as an encoded option list. Document 01, "Dockets and the writer".
+use list_options::Listed;
 use wire_datagram::reading;
 use wire_datagram::reading::Extent;
 use wire_datagram::reading::Reading;
 use wire_datagram::reading::Verdict;
 use wire_datagram::rereading::OriginalExtent;
 use wire_datagram::rereading::Rereading;
-use list_options::Listed;
 ghost use mathlib.Core.Path.{_≡_};
 ghost use Rattle.list_options.specs.Listing.{ListedInto};
 ghost use Rattle.list_readings.specs.Catalogue.{isListed, walkOfValue};

@@ -18,12 +18,12 @@ use Rattle.number_checksum.proofs.Laws.{sent-pos, sent-le, folded-le, field-law
 use Rattle.wire_options.specs.Kinds.{classOf, nop, frag, eol}
 use Rattle.wire_options.specs.Step.{stepOf}
 use Rattle.wire_options.specs.Walk.{Item, listed, walkFrom, optionLimit}
-use Rattle.wire_options.specs.Area.{nopsOf, AreaWalk, plain, plainly, ledBy, areaOf as areaWalk}
+use Rattle.wire_area.specs.Area.{nopsOf, AreaWalk, plain, plainly, ledBy, areaOf as areaWalk}
 use Rattle.wire_options.specs.declared.step.Class.{Class}
 use Rattle.wire_options.specs.declared.step.Class.the-variants.{NoOperation, Fixed, Varying}
-use Rattle.wire_datagram.specs.Surplus.{padOf, ocsOf, summedOf, startOf}
-use Rattle.wire_datagram.specs.declared.surplus.Start.the-variants.{List as ListAt}
-use Rattle.wire_datagram.proofs.Starts.{start-odd, start-even, summed-right}
+use Rattle.wire_surplus.specs.Surplus.{padOf, ocsOf, summedOf, startOf}
+use Rattle.wire_surplus.specs.declared.Start.the-variants.{List as ListAt}
+use Rattle.wire_surplus.proofs.Starts.{start-odd, start-even, summed-right}
 use Rattle.list_encoding.specs.Wire.{longestShort}
 use Rattle.list_writer.specs.Payload.{wireOf, wires, padding, areaWith, areaOf}
 use Rattle.list_writer.proofs.Wires.{Wired, Each, walk-wires}

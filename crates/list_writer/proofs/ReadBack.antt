@@ -21,8 +21,8 @@ use Rattle.number_crc32c.specs.Crc.{crcOf}
 use Rattle.number_crc32c.proofs.Laws.{crcOf-lt}
 use Rattle.wire_options.specs.Kinds.{apc}
 use Rattle.wire_options.specs.Walk.{Item, listed, walkFrom, optionLimit}
-use Rattle.wire_options.specs.Area.{plain, areaOf as areaWalk}
-use Rattle.wire_datagram.specs.Surplus.{padOf, startOf}
+use Rattle.wire_area.specs.Area.{plain, areaOf as areaWalk}
+use Rattle.wire_surplus.specs.Surplus.{padOf, startOf}
 use Rattle.wire_datagram.specs.Reading.{
   payloadLimit,
   udpLength,
@@ -43,8 +43,8 @@ use Rattle.wire_datagram.specs.declared.reading.Apc.{Apc}
 use Rattle.wire_datagram.specs.declared.reading.Apc.the-variants.{Absent, Right, Wrong}
 use Rattle.wire_datagram.specs.declared.reading.Verdict.the-variants.{Read}
 use Rattle.wire_datagram.specs.declared.reading.Reading.{Reading}
-use Rattle.wire_datagram.specs.declared.surplus.Start.{Start}
-use Rattle.wire_datagram.specs.declared.surplus.Start.the-variants.{List as ListAt}
+use Rattle.wire_surplus.specs.declared.Start.{Start}
+use Rattle.wire_surplus.specs.declared.Start.the-variants.{List as ListAt}
 use Rattle.wire_datagram.proofs.Refusals.{Sized, sumOf, reading-accepted}
 use Rattle.list_writer.specs.Payload.{worked, workedAll, listOf, areaOf, Datagram, sizeOf, frontOf, datagramWith, udpChecksumOf, payloadOf}
 use Rattle.list_writer.proofs.Wires.{Each, walk-wires}

@@ -55,7 +55,14 @@ fn udp_sum(datagram: &[u8], source: [u8; 4], destination: [u8; 4]) -> u16
     requires { ⌜ length (now datagram) ≤ 65535 ⌝ }
     ensures { λ r. ⌜ r ≡ folded (wordSum false (pseudoHeader source destination (length (now (datagram .entry))) ++ now (datagram .entry))) ⌝ }
 {
-    let addresses = number_checksum::add(number_checksum::add(0, &source, false), &destination, false);
-    let rest = number_checksum::add_word(number_checksum::add_word(addresses, UDP), datagram.len() as u16);
+    let addresses = number_checksum::add(
+        number_checksum::add(0, &source, false),
+        &destination,
+        false,
+    );
+    let rest = number_checksum::add_word(
+        number_checksum::add_word(addresses, UDP),
+        datagram.len() as u16,
+    );
     number_checksum::add(rest, datagram, false)
 }

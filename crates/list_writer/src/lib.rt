@@ -1,8 +1,8 @@
 // The writer of an unfragmented datagram with options. Document 01, "Dockets and the writer".
-use wire_datagram::reading::PAYLOAD_LIMIT;
 use list_encoding::check;
 use list_encoding::check::Checked;
 use number_offsets::UDP_HEADER;
+use wire_datagram::reading::PAYLOAD_LIMIT;
 ghost use mathlib.Core.Path.{_≡_};
 ghost use mathlib.Core.List.{_++_};
 ghost use Prim.Native.Nat.{_+_, _%_, _≤_};

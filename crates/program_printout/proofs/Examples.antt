@@ -9,8 +9,8 @@ use Rattle.number_checksum.specs.Checksum.{wordSum, folded}
 use Rattle.wire_options.specs.Kinds.{classOf}
 use Rattle.wire_options.specs.Step.{headerOf, stepOf}
 use Rattle.wire_options.specs.Walk.{walkFrom, optionLimit}
-use Rattle.wire_options.specs.Area.{nopsOf, areaOf}
-use Rattle.wire_datagram.specs.Surplus.{startOf}
+use Rattle.wire_area.specs.Area.{nopsOf, areaOf}
+use Rattle.wire_surplus.specs.Surplus.{startOf}
 use Rattle.wire_datagram.specs.Reading.{payloadLimit, pseudoHeader, firstOf, accepted, reading}
 use Rattle.program_report.specs.Digits.{digitsIn, decimalOf}
 use Rattle.program_report.specs.Report.{widthsOf, numbersOf, itemLine, itemLines, numberLine, verdictLine, listingOf, readingText, reportOf}

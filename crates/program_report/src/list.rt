@@ -82,7 +82,11 @@ fn put_fields(
         }
         8 => {
             let first = put_number(number_octets::get_u32(rest, header) as usize, text, at);
-            put_number(number_octets::get_u32(rest, header + 4) as usize, text, first)
+            put_number(
+                number_octets::get_u32(rest, header + 4) as usize,
+                text,
+                first,
+            )
         }
         2 | 6 | 7 => put_number(number_octets::get_u32(rest, header) as usize, text, at),
         _ => put_body(&rest[header..size], text, at),

@@ -1,10 +1,10 @@
 // Writes a datagram with options, shows its bytes, reads it back, shows what the reader says, and lists the options back.
+use libc::STDOUT_FILENO;
+use list_options::Listed;
 use list_writer::Written;
 use wire_datagram::reading;
 use wire_datagram::reading::Outcome;
 use wire_datagram::reading::Reading;
-use libc::STDOUT_FILENO;
-use list_options::Listed;
 
 const ROOM: usize = 128;
 

@@ -80,7 +80,8 @@ pub fn encoding(bytes: &[u8]) {
 fn wide(bytes: &[u8], at: usize) -> u64
     requires { ⌜ at + 8 ≤ length (now bytes) ⌝ }
 {
-    number_octets::get_u32(bytes, at) as u64 * 4294967296 + number_octets::get_u32(bytes, at + 4) as u64
+    number_octets::get_u32(bytes, at) as u64 * 4294967296
+        + number_octets::get_u32(bytes, at + 4) as u64
 }
 
 fn encoded(value: u64, buffer: &mut [u8], at: usize) {

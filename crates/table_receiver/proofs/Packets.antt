@@ -14,7 +14,7 @@ use Rattle.number_octets.specs.Octets.{part}
 use Rattle.client_record.specs.Lists.{if}
 use Rattle.client_reassembly.specs.Answer.{Reply, refused, delivered}
 use Rattle.client_reassembly.specs.Advance.{figures}
-use Rattle.wire_options.specs.declared.area.Fragment.{Fragment}
+use Rattle.wire_area.specs.declared.Fragment.{Fragment}
 use Rattle.wire_datagram.specs.Reading as Reading
 use Rattle.wire_datagram.specs.Reading.{Answer}
 use Rattle.client_ledger.specs.Book as Book

@@ -11,7 +11,7 @@ use Rattle.number_octets.specs.Octets.{part}
 use Rattle.client_record.specs.Lists.{if}
 use Rattle.client_reassembly.specs.Answer.{Reply, refused, delivered}
 use Rattle.client_reassembly.specs.Advance.{figures}
-use Rattle.wire_options.specs.declared.area.Fragment.{Fragment}
+use Rattle.wire_area.specs.declared.Fragment.{Fragment}
 use Rattle.client_ledger.specs.Book as Book
 use Rattle.client_ledger.specs.Book.{Book, Content, size, Offer}
 use Rattle.client_ledger.specs.Stands as Stands

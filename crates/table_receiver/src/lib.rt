@@ -1,14 +1,13 @@
 // One call per datagram: it reads a payload and, if that is a fragment, offers the fragment to the table for the client.
+use client_reassembly::Answer;
+use client_reassembly::Arrival;
+use client_record::Client;
+use client_record::Flow;
 use wire_datagram::reading;
 use wire_datagram::reading::Outcome;
 use wire_datagram::reading::Reading;
 use wire_datagram::reading::Refusal;
 use wire_datagram::reading::Verdict;
-use wire_options::area;
-use client_reassembly::Answer;
-use client_reassembly::Arrival;
-use client_record::Client;
-use client_record::Flow;
 ghost use mathlib.Core.Path.{_≡_};
 ghost use Prim.Native.Nat.{_≤_};
 ghost use lib.ListN.{length};
@@ -29,7 +28,7 @@ pub enum Received {
 // What an outcome of the reader is to the table.
 pub enum Found {
     Other,
-    Fragment(area::Fragment),
+    Fragment(wire_area::Fragment),
 }
 
 fn look(outcome: Outcome) -> Found
@@ -78,7 +77,7 @@ fn arrival_of(
     source: [u8; 4],
     destination: [u8; 4],
     time: u64,
-    fragment: area::Fragment,
+    fragment: wire_area::Fragment,
 ) -> Arrival
     requires { ⌜ 4 ≤ length (now payload) ⌝ }
     ensures { λ r. ⌜ r ≡ arrivalOf (now (payload .entry)) source destination time fragment ⌝ }

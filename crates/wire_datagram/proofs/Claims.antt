@@ -14,8 +14,8 @@ use lib.ListN.{length, take, drop}
 use Rattle.number_octets.specs.Octets.{number, part}
 use Rattle.number_octets.proofs.Laws.{part-take}
 use Rattle.number_offsets.specs.Offsets.{udpHeader}
-use Rattle.wire_options.specs.Area.{AreaWalk, plain, piece, fault, areaOf}
-use Rattle.wire_datagram.specs.Surplus.{startOf}
+use Rattle.wire_area.specs.Area.{AreaWalk, plain, piece, fault, areaOf}
+use Rattle.wire_surplus.specs.Surplus.{startOf}
 use Rattle.wire_datagram.specs.Reading.{
   noData,
   payloadLimit,
@@ -36,8 +36,8 @@ use Rattle.wire_datagram.specs.Reading.{
   answered,
   reading,
 }
-use Rattle.wire_datagram.specs.declared.surplus.Start.{Start}
-use Rattle.wire_datagram.specs.declared.surplus.Start.the-variants.{Empty, Short, Pad, Unsummed, BadSum, List as ListAt}
+use Rattle.wire_surplus.specs.declared.Start.{Start}
+use Rattle.wire_surplus.specs.declared.Start.the-variants.{Empty, Short, Pad, Unsummed, BadSum, List as ListAt}
 use Rattle.wire_datagram.specs.declared.reading.Apc.the-variants.{Absent}
 use Rattle.wire_datagram.specs.declared.reading.Verdict.the-variants.{Read}
 use Rattle.wire_datagram.specs.declared.reading.Reading.{Reading}

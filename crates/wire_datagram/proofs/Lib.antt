@@ -5,6 +5,5 @@ pub mod Pieces
 pub mod Readings
 pub mod Refusals
 pub mod Rereads
-pub mod Starts
 pub mod Sums
 pub mod Survival

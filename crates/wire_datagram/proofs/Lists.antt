@@ -14,7 +14,7 @@ use lib.Seq.{take-all}
 use Rattle.number_octets.specs.Octets.{part}
 use Rattle.number_offsets.specs.Offsets.{udpHeader}
 use Rattle.wire_options.specs.Walk.{Item, Walked, listed, faulty, walkFrom, optionLimit}
-use Rattle.wire_options.specs.Area.{AreaWalk, plain, piece, fault, areaOf}
+use Rattle.wire_area.specs.Area.{AreaWalk, plain, piece, fault, areaOf}
 use Rattle.wire_options.specs.declared.walk.Fault.{Fault}
 use Rattle.wire_options.specs.declared.walk.Fault.the-variants.{
   Malformed as malformedList,
@@ -22,8 +22,8 @@ use Rattle.wire_options.specs.declared.walk.Fault.the-variants.{
   FragData as fragData,
   Crowded as crowdedList,
 }
-use Rattle.wire_options.proofs.Areas.{area-plain}
-use Rattle.wire_datagram.specs.Surplus.{startOf}
+use Rattle.wire_area.proofs.Areas.{area-plain}
+use Rattle.wire_surplus.specs.Surplus.{startOf}
 use Rattle.wire_datagram.specs.Reading.{
   noData,
   udpLength,
@@ -39,8 +39,8 @@ use Rattle.wire_datagram.specs.Reading.{
   isRead,
 }
 use Rattle.wire_datagram.specs.Rereading.{ReAnswer, refused, rereads, quietly, rewalked, restarted, reTests, reAnswered, rereading}
-use Rattle.wire_datagram.specs.declared.surplus.Start.{Start}
-use Rattle.wire_datagram.specs.declared.surplus.Start.the-variants.{
+use Rattle.wire_surplus.specs.declared.Start.{Start}
+use Rattle.wire_surplus.specs.declared.Start.the-variants.{
   Empty,
   Short as shortArea,
   Pad as badPad,
@@ -65,7 +65,7 @@ use Rattle.wire_datagram.specs.declared.reading.Verdict.the-variants.{
 use Rattle.wire_datagram.specs.declared.reading.Reading.{Reading}
 use Rattle.wire_datagram.specs.declared.rereading.Rereading.{Rereading}
 use Rattle.wire_datagram.proofs.Claims.{met-none, first-none, in-range}
-use Rattle.wire_datagram.proofs.Starts.{start-list}
+use Rattle.wire_surplus.proofs.Starts.{start-list}
 
 -- what the bytes from `from` to `to` list
 pub record Lists (bytes : List ℕ) (from to count fill : ℕ) : Type 0 where

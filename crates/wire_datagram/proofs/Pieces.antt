@@ -8,8 +8,8 @@ use native.Mathlib.Omega.{arith}
 use lib.Dec.{eqb}
 use lib.ListN.{length, drop, length-drop}
 use Rattle.number_offsets.specs.Offsets.{udpHeader}
-use Rattle.wire_options.specs.Area.{AreaWalk, plain, piece, fault, areaOf}
-use Rattle.wire_options.specs.declared.area.Fragment.{Fragment}
+use Rattle.wire_area.specs.Area.{AreaWalk, plain, piece, fault, areaOf}
+use Rattle.wire_area.specs.declared.Fragment.{Fragment}
 use Rattle.wire_options.specs.declared.walk.Fault.{Fault}
 use Rattle.wire_options.specs.declared.walk.Fault.the-variants.{
   Malformed as malformedList,
@@ -17,11 +17,11 @@ use Rattle.wire_options.specs.declared.walk.Fault.the-variants.{
   FragData as fragData,
   Crowded as crowdedList,
 }
-use Rattle.wire_options.proofs.Areas.{area-piece}
-use Rattle.wire_datagram.specs.Surplus.{startOf}
+use Rattle.wire_area.proofs.Areas.{area-piece}
+use Rattle.wire_surplus.specs.Surplus.{startOf}
 use Rattle.wire_datagram.specs.Reading.{noData, udpLength, udpChecksum, verdictOf, walked, started, isOdd, accepted, reads, reading}
-use Rattle.wire_datagram.specs.declared.surplus.Start.{Start}
-use Rattle.wire_datagram.specs.declared.surplus.Start.the-variants.{
+use Rattle.wire_surplus.specs.declared.Start.{Start}
+use Rattle.wire_surplus.specs.declared.Start.the-variants.{
   Empty,
   Short as shortArea,
   Pad as badPad,
@@ -45,7 +45,7 @@ use Rattle.wire_datagram.specs.declared.reading.Verdict.the-variants.{
 }
 use Rattle.wire_datagram.specs.declared.reading.Reading.{Reading}
 use Rattle.wire_datagram.proofs.Claims.{met-none, in-range}
-use Rattle.wire_datagram.proofs.Starts.{start-list}
+use Rattle.wire_surplus.proofs.Starts.{start-list}
 
 pub record Within (p : List ℕ) (f : Fragment) : Type 0 where
   pub starts : f .start .0 ≤ length p

@@ -7,7 +7,7 @@ use lib.ListN.{length, take}
 use Rattle.number_octets.specs.Octets.{part}
 use Rattle.number_offsets.specs.Offsets.{udpHeader}
 use Rattle.wire_options.specs.Walk.{Walked, listed, faulty, told}
-use Rattle.wire_options.specs.Area.{AreaWalk, plain, piece, fault, toldArea}
+use Rattle.wire_area.specs.Area.{AreaWalk, plain, piece, fault, toldArea}
 use Rattle.wire_datagram.specs.Reading.{extent, walked}
 use Rattle.wire_datagram.specs.Rereading.{places, rereads, rewalked}
 use Rattle.wire_datagram.specs.Private.{readingBy, rewalkedBy}

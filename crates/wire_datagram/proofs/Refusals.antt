@@ -13,7 +13,7 @@ use Rattle.number_offsets.specs.Offsets.{udpHeader}
 use Rattle.number_checksum.specs.Checksum.{wordSum, folded, allOnes}
 use Rattle.wire_datagram.specs.Reading.{payloadLimit, udpLength, udpChecksum, pseudoHeader, firstOf, accepted, isOdd, Answer, refused, reads, reading}
 use Rattle.wire_datagram.specs.Rereading.{originalLimit, restarted, rereading, refused as refusedAgain}
-use Rattle.wire_datagram.specs.Surplus.{startOf}
+use Rattle.wire_surplus.specs.Surplus.{startOf}
 
 -- what refusals 1 to 3 leave of a payload
 pub record Sized (payload : List ℕ) : Type 0 where

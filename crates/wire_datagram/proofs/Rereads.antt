@@ -16,11 +16,11 @@ use Rattle.wire_options.specs.declared.walk.Fault.the-variants.{
   FragData as fragData,
   Crowded as crowdedList,
 }
-use Rattle.wire_datagram.specs.Surplus.{startOf}
+use Rattle.wire_surplus.specs.Surplus.{startOf}
 use Rattle.wire_datagram.specs.Reading.{firstOf, isOdd}
 use Rattle.wire_datagram.specs.Rereading.{places, ReAnswer, refused, rereads, quietly, rewalked, restarted, reTests, reAnswered, rereading}
-use Rattle.wire_datagram.specs.declared.surplus.Start.{Start}
-use Rattle.wire_datagram.specs.declared.surplus.Start.the-variants.{
+use Rattle.wire_surplus.specs.declared.Start.{Start}
+use Rattle.wire_surplus.specs.declared.Start.the-variants.{
   Empty,
   Short as shortArea,
   Pad as badPad,

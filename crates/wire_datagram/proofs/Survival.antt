@@ -12,13 +12,13 @@ use lib.Dec.{eqb}
 use lib.ListN.{drop}
 use Rattle.number_offsets.specs.Offsets.{udpHeader}
 use Rattle.number_checksum.specs.Checksum.{allOnes}
-use Rattle.wire_options.specs.Area.{AreaWalk, plain, piece, fault, areaOf}
-use Rattle.wire_options.specs.declared.area.Fragment.{Fragment}
-use Rattle.wire_options.proofs.Areas.{data-not-piece}
-use Rattle.wire_datagram.specs.Surplus.{startOf}
+use Rattle.wire_area.specs.Area.{AreaWalk, plain, piece, fault, areaOf}
+use Rattle.wire_area.specs.declared.Fragment.{Fragment}
+use Rattle.wire_area.proofs.Areas.{data-not-piece}
+use Rattle.wire_surplus.specs.Surplus.{startOf}
 use Rattle.wire_datagram.specs.Reading.{noData, udpLength, udpChecksum, extent, walked, started, isOdd, accepted, reads, reading}
-use Rattle.wire_datagram.specs.declared.surplus.Start.{Start}
-use Rattle.wire_datagram.specs.declared.surplus.Start.the-variants.{Empty, Short, Pad, Unsummed, BadSum, List as ListAt}
+use Rattle.wire_surplus.specs.declared.Start.{Start}
+use Rattle.wire_surplus.specs.declared.Start.the-variants.{Empty, Short, Pad, Unsummed, BadSum, List as ListAt}
 use Rattle.wire_datagram.specs.declared.reading.Verdict.the-variants.{Piece}
 use Rattle.wire_datagram.specs.declared.reading.Reading.{Reading}
 use Rattle.wire_datagram.proofs.Claims.{met-none, accepted-user}

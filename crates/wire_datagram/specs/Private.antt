@@ -9,8 +9,8 @@ use Rattle.number_offsets.specs.Offsets.{udpHeader}
 use Rattle.number_crc32c.specs.Crc.{crcOf}
 use Rattle.wire_options.specs.declared.walk.Apcs.{Apcs}
 use Rattle.wire_options.specs.declared.walk.Apcs.the-variants.{Absent as absent, Same, Different}
-use Rattle.wire_options.specs.declared.area.Area.{Area}
-use Rattle.wire_options.specs.declared.area.Area.the-variants.{Listed, Piece as pieceArea, Faulty}
+use Rattle.wire_area.specs.declared.Area.{Area}
+use Rattle.wire_area.specs.declared.Area.the-variants.{Listed, Piece as pieceArea, Faulty}
 use Rattle.wire_options.specs.declared.walk.Walk.{Walk}
 use Rattle.wire_options.specs.declared.walk.Walk.the-variants.{Listed as WalkListed, Faulty as WalkFaulty}
 use Rattle.wire_datagram.specs.Rereading.{places, faultily, rereads, ReAnswer}

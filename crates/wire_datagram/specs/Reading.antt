@@ -11,12 +11,12 @@ use Rattle.number_checksum.specs.Checksum.{wordSum, folded, allOnes}
 use Rattle.number_crc32c.specs.Crc.{crcOf}
 use Rattle.wire_options.specs.Kinds.{apc}
 use Rattle.wire_options.specs.Walk.{Item, walkFrom, optionLimit}
-use Rattle.wire_options.specs.Area.{AreaWalk, plain, piece, fault, plainly, areaOf}
+use Rattle.wire_area.specs.Area.{AreaWalk, plain, piece, fault, plainly, areaOf}
 use Rattle.wire_options.specs.declared.walk.Fault.{Fault}
 use Rattle.wire_options.specs.declared.walk.Fault.the-variants.{Malformed as malformedList, Unsafe as unsafeList, FragData as fragData, Crowded as crowdedList}
-use Rattle.wire_datagram.specs.Surplus.{startOf}
-use Rattle.wire_datagram.specs.declared.surplus.Start.{Start}
-use Rattle.wire_datagram.specs.declared.surplus.Start.the-variants.{
+use Rattle.wire_surplus.specs.Surplus.{startOf}
+use Rattle.wire_surplus.specs.declared.Start.{Start}
+use Rattle.wire_surplus.specs.declared.Start.the-variants.{
   Empty,
   Short as shortArea,
   Pad as badPad,

@@ -9,10 +9,10 @@ use Rattle.number_offsets.specs.Offsets.{udpHeader}
 use Rattle.wire_options.specs.Walk.{Item, Walked, listed, faulty, walkFrom, optionLimit}
 use Rattle.wire_options.specs.declared.walk.Fault.{Fault}
 use Rattle.wire_options.specs.declared.walk.Fault.the-variants.{Malformed as malformedList, Unsafe as unsafeList, FragData as fragData, Crowded as crowdedList}
-use Rattle.wire_datagram.specs.Surplus.{startOf}
+use Rattle.wire_surplus.specs.Surplus.{startOf}
 use Rattle.wire_datagram.specs.Reading.{apcValues, apcOf, verdictOf, isOdd, firstOf}
-use Rattle.wire_datagram.specs.declared.surplus.Start.{Start}
-use Rattle.wire_datagram.specs.declared.surplus.Start.the-variants.{
+use Rattle.wire_surplus.specs.declared.Start.{Start}
+use Rattle.wire_surplus.specs.declared.Start.the-variants.{
   Empty,
   Short as shortArea,
   Pad as badPad,

@@ -2,7 +2,7 @@
 use mathlib.Core.List.{List, [], _∷_}
 use mathlib.Core.Option.{Option, none, some}
 use Prim.Native.Nat.{ℕ}
-use Rattle.wire_options.specs.declared.area.Fragment.{Fragment}
+use Rattle.wire_area.specs.declared.Fragment.{Fragment}
 use Rattle.wire_datagram.specs.declared.reading.Apc.{Apc}
 use Rattle.wire_datagram.specs.declared.reading.Apc.the-variants.{Absent, Right, Wrong}
 use Rattle.wire_datagram.specs.declared.reading.Verdict.{Verdict}

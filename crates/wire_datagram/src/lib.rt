@@ -1,4 +1,3 @@
 // Reading one IPv4 UDP payload with the options of RFC 9868.
 pub mod reading;
 pub mod rereading;
-pub mod surplus;

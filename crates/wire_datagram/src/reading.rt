@@ -1,22 +1,20 @@
 // The reading of a payload: refusals in order, the user data's extent, and a verdict on the surplus area.
-use crate::surplus;
-use crate::surplus::Start;
 use number_offsets::PacketOffset;
 use number_offsets::UDP_HEADER;
-use wire_options::area;
-use wire_options::area::Area;
-use wire_options::area::Fragment;
+use wire_area::Area;
+use wire_area::Fragment;
 use wire_options::walk::Apcs;
 use wire_options::walk::Fault;
+use wire_surplus::Start;
 ghost use mathlib.Core.Path.{_≡_};
 ghost use mathlib.Core.Bool.{false};
 ghost use mathlib.Core.List.{_++_};
 ghost use Prim.Native.Nat.{_≤_};
 ghost use lib.ListN.{length, drop};
 ghost use Rattle.number_offsets.specs.Offsets.{udpHeader};
-ghost use Rattle.wire_options.specs.Area.{areaOf};
+ghost use Rattle.wire_area.specs.Area.{areaOf};
 ghost use Rattle.number_checksum.specs.Checksum.{folded, wordSum};
-ghost use Rattle.wire_datagram.specs.Surplus.{startOf};
+ghost use Rattle.wire_surplus.specs.Surplus.{startOf};
 ghost use Rattle.wire_datagram.specs.Reading.{payloadLimit, pseudoHeader, isOdd, quiet, verdictOf, walked, noData, started, reading, answerOf, isRead};
 ghost use Rattle.wire_datagram.specs.Private.{apcBy};
 
@@ -109,8 +107,15 @@ fn udp_sum(datagram: &[u8], source: [u8; 4], destination: [u8; 4]) -> u16
     requires { ⌜ length (now datagram) ≤ 65535 ⌝ }
     ensures { λ r. ⌜ r ≡ folded (wordSum false (pseudoHeader source destination (length (now (datagram .entry))) ++ now (datagram .entry))) ⌝ }
 {
-    let addresses = number_checksum::add(number_checksum::add(0, &source, false), &destination, false);
-    let rest = number_checksum::add_word(number_checksum::add_word(addresses, UDP), datagram.len() as u16);
+    let addresses = number_checksum::add(
+        number_checksum::add(0, &source, false),
+        &destination,
+        false,
+    );
+    let rest = number_checksum::add_word(
+        number_checksum::add_word(addresses, UDP),
+        datagram.len() as u16,
+    );
     number_checksum::add(rest, datagram, false)
 }
 
@@ -119,7 +124,7 @@ fn accept(payload: &[u8], size: usize, unused: bool) -> Reading
     requires { ⌜ (udpHeader ≤ size) × (size ≤ length (now payload)) × (length (now payload) ≤ payloadLimit) ⌝ }
     ensures { λ r. ⌜ r ≡ started (now (payload .entry)) size (startOf (isOdd size) unused (drop size (now (payload .entry)))) ⌝ }
 {
-    let start = surplus::start_of(&payload[size..], size % 2 == 1, unused);
+    let start = wire_surplus::start_of(&payload[size..], size % 2 == 1, unused);
     match start {
         Start::Empty => quiet(size, Verdict::Bare),
         Start::Short => quiet(size, Verdict::Short),
@@ -136,7 +141,7 @@ fn listed(payload: &[u8], size: usize, from: PacketOffset) -> Reading
     ensures { λ r. ⌜ r ≡ walked (now (payload .entry)) size (from .0) (areaOf (noData size) (from .0) (drop (from .0) (now (payload .entry)))) ⌝ }
 {
     let at = from.0;
-    let list = area::walk_area(&payload[at..], from, size == UDP_HEADER);
+    let list = wire_area::walk_area(&payload[at..], from, size == UDP_HEADER);
     match list {
         Area::Listed { count, fill, apcs } => Reading {
             user: Extent {

@@ -2,12 +2,11 @@
 use crate::reading;
 use crate::reading::Apc;
 use crate::reading::Verdict;
-use crate::surplus;
-use crate::surplus::Start;
 use number_offsets::OriginalOffset;
 use wire_options::walk;
 use wire_options::walk::Fault;
 use wire_options::walk::Walk;
+use wire_surplus::Start;
 ghost use mathlib.Core.Path.{_≡_};
 ghost use Prim.Native.Nat.{_≤_};
 ghost use lib.ListN.{length, drop};
@@ -57,7 +56,7 @@ pub fn reread(original: &[u8], option_start: OriginalOffset) -> RereadOutcome
     if original.len() < r {
         return RereadOutcome::Refused(RereadRefusal::OptionStartPastEnd);
     }
-    let start = surplus::start_of(&original[r..], r % 2 == 1, true);
+    let start = wire_surplus::start_of(&original[r..], r % 2 == 1, true);
     match start {
         Start::Empty => quietly(option_start, Verdict::Bare),
         Start::Short => quietly(option_start, Verdict::Short),

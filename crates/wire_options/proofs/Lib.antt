@@ -1,6 +1,4 @@
-pub mod Areas
 pub mod Classes
-pub mod Locality
 pub mod Sizes
 pub mod Steps
 pub mod Walks

@@ -2,4 +2,3 @@ pub mod Kinds
 pub mod Step
 pub mod Walk
 pub mod Turn
-pub mod Area

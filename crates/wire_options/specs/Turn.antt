@@ -14,9 +14,6 @@ use Rattle.wire_options.specs.declared.walk.Apcs.{Apcs}
 use Rattle.wire_options.specs.declared.walk.Apcs.the-variants.{Absent}
 use Rattle.wire_options.specs.declared.walk.Walk.{Walk}
 use Rattle.wire_options.specs.declared.walk.Walk.the-variants.{Listed, Faulty}
-use Rattle.wire_options.specs.declared.area.Fragment.{Fragment}
-use Rattle.wire_options.specs.declared.area.Area.{Area}
-use Rattle.wire_options.specs.declared.area.Area.the-variants.{Listed as AreaListed, Piece, Faulty as AreaFaulty}
 use Rattle.wire_options.specs.declared.walk.Turn.{Turn}
 use Rattle.wire_options.specs.declared.walk.Turn.the-variants.{On, Ended, Failed}
 
@@ -35,13 +32,3 @@ turnIn room l Outlawed = Failed Unsafe
 
 unfoldable pub turnOf : ℕ → List ℕ → Turn
 turnOf room l = turnIn room l (stepOf l)
-
--- ---- what the answer of a plain walk becomes in the answer of an area's walk
-
-abbrev pub asPiece : Fragment → Walk → Area
-asPiece f (Listed count fill apcs) = Piece f
-asPiece f (Faulty x) = AreaFaulty x
-
-abbrev pub asArea : Walk → Area
-asArea (Listed count fill apcs) = AreaListed count fill apcs
-asArea (Faulty x) = AreaFaulty x

@@ -4,8 +4,8 @@ use Rattle.wire_datagram.proofs.reading.Outcome
 use Rattle.wire_datagram.proofs.reading.Outcome.Laws
 use Rattle.number_offsets.proofs.PacketOffset
 use Rattle.number_offsets.proofs.PacketOffset.Laws as Laws'
-use Rattle.wire_options.proofs.area.Fragment
-use Rattle.wire_options.proofs.area.Fragment.Laws as Laws''
+use Rattle.wire_area.proofs.Fragment
+use Rattle.wire_area.proofs.Fragment.Laws as Laws''
 use Rattle.client_reassembly.proofs.Answer
 use Rattle.client_reassembly.proofs.Answer.Laws as Laws'3
 use Rattle.client_reassembly.proofs.Arrival

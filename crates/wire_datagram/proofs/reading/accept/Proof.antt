@@ -7,9 +7,9 @@ use native.Mathlib.Omega.{arith}
 use lib.ListN.{length, drop, length-take, length-drop}
 use lib.Seq.{take-all}
 use Rattle.number_offsets.specs.Offsets.{udpHeader}
-use Rattle.wire_datagram.specs.Surplus.{startOf}
+use Rattle.wire_surplus.specs.Surplus.{startOf}
 use Rattle.wire_datagram.specs.Reading.{payloadLimit, isOdd, started}
-use Rattle.wire_datagram.proofs.Starts.{start-list}
+use Rattle.wire_surplus.proofs.Starts.{start-list}
 use borrow.Author.Needs.{needs}
 use Rattle.wire_datagram.proofs.reading.accept.Statement.{statement}
 use Rattle.wire_datagram.proofs.reading.accept.Tie as tie

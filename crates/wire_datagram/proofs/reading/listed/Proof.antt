@@ -8,8 +8,8 @@ use native.Mathlib.Omega.{arith}
 use lib.ListN.{length, drop, length-drop}
 use lib.Seq.{take-all}
 use Rattle.number_offsets.specs.Offsets.{udpHeader}
-use Rattle.wire_options.specs.Area.{areaOf, toldArea}
-use Rattle.wire_options.specs.declared.area.Area.the-variants.{Listed}
+use Rattle.wire_area.specs.Area.{areaOf, toldArea}
+use Rattle.wire_area.specs.declared.Area.the-variants.{Listed}
 use Rattle.wire_datagram.specs.Private.{readingBy}
 use Rattle.wire_datagram.specs.declared.reading.Verdict.the-variants.{Read}
 use Rattle.wire_datagram.proofs.Readings.{reading-told}

@@ -7,7 +7,7 @@ use lib.Dec.{eqb}
 use lib.ListN.{drop}
 use lib.Seq.{length-take-le}
 use Rattle.number_checksum.specs.Checksum.{wordSum, folded}
-use Rattle.wire_datagram.specs.Surplus.{startOf}
+use Rattle.wire_surplus.specs.Surplus.{startOf}
 use Rattle.wire_datagram.specs.Reading.{pseudoHeader, isOdd, started}
 use mathlib.Core.Path.{_≡_, sym, ap, _∙_}
 use mathlib.Core.Logic.{_⊎_, inl, inr, ⊎-elim}

@@ -9,11 +9,11 @@ use lib.Dec.{eqb}
 use lib.ListN.{length, drop, length-take, length-drop}
 use lib.Seq.{take-all}
 use Rattle.number_offsets.specs.Offsets.{udpHeader}
-use Rattle.wire_datagram.specs.Surplus.{startOf}
+use Rattle.wire_surplus.specs.Surplus.{startOf}
 use Rattle.wire_datagram.specs.Reading.{isOdd}
 use Rattle.wire_datagram.specs.Rereading.{originalLimit, restarted, rereading}
 use Rattle.wire_datagram.proofs.Refusals.{re-long, re-past, re-accepted}
-use Rattle.wire_datagram.proofs.Starts.{start-list}
+use Rattle.wire_surplus.proofs.Starts.{start-list}
 use borrow.Author.Needs.{needs}
 use Rattle.wire_datagram.proofs.rereading.reread.Statement.{statement}
 use Rattle.wire_datagram.proofs.rereading.reread.Tie as tie

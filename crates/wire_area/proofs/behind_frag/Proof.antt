@@ -1,0 +1,106 @@
+-- `wire_area::behind_frag` meets its contract: the arm knows what FRAG's tests came to, at which `behindFrag` computes.
+-- Assumes nothing.
+use mathlib.Core.Path.{_≡_, refl, sym, ap, ap₂, _∙_}
+use mathlib.Core.Bool.{Bool, true, false}
+use mathlib.Core.List.{List}
+use Prim.Native.Nat.{ℕ, _+_, _-_, _≤_}
+use native.Mathlib.Omega.{arith}
+use lib.ListN.{length}
+use Rattle.number_octets.specs.Octets.{part}
+use Rattle.wire_area.specs.Area.{behindFrag, fragmentOf, toldArea, pieceWith}
+use Rattle.wire_options.specs.Walk.{Walked, walkFrom, told, optionLimit, listed, faulty}
+use Rattle.wire_area.specs.Area.{asPiece}
+use Rattle.wire_area.specs.declared.Fragment.{Fragment}
+use Rattle.wire_area.specs.declared.Placed.{Placed}
+use Rattle.wire_area.proofs.Areas.{fragment-within}
+use borrow.Author.Needs.{needs}
+use borrow.Author.Tests.{not-true, not-false}
+use Rattle.wire_area.proofs.behind_frag.Statement.{statement}
+use Rattle.wire_area.proofs.behind_frag.Tie as tie
+
+-- what a walk behind FRAG tells is dropped, but for faults
+piece-told : (f : Fragment) (w : Walked) → asPiece f (told w) ≡ toldArea (pieceWith f w)
+piece-told f (listed items fill) = refl
+piece-told f (faulty x) = refl
+
+bounds : (c : tie.After-found) → let a = c .before .before .before .before .args in
+    (a .base .0 + a .behind ≤ c .found .given .0 .0 .start .0) × (c .found .given .0 .0 .start .0 ≤ a .base .0 + length (a .list .now))
+bounds c =
+    let a = c .before .before .before .before .args in
+    fragment-within (a .fields) (a .base .0) (a .behind) (length (a .list .now)) (c .found .given .0 .0)
+    (sym (c .before .before .fragment-of .ensures) ∙ c .found .given .1)
+
+fragment-of-requires : tie.Need-fragment-of-requires
+fragment-of-requires c κs = search needs
+
+enum-told : tie.Need-enum-told
+enum-told c = search needs
+
+enum-known-found : tie.Need-enum-known-found
+enum-known-found c = search needs
+
+returns : tie.Need-returns
+returns c =
+    let a = c .before .before .before .before .before .before .args in
+    ap₂ (λ (e : Bool) (p : Placed). toldArea (behindFrag e (a .list .now) (a .base .0) (a .behind) p)) (sym (not-true _ (c .if1 .taken)))
+    (sym (sym (c .before .before .before .before .fragment-of .ensures) ∙ c .before .before .found .given .1))
+
+sub-end : tie.Need-sub-end
+sub-end c = omega (arith, bounds (c .before .before .before .before))
+
+sub-walk-list : tie.Need-sub-walk-list
+sub-walk-list c = omega (arith, bounds (c .before .before .before .before))
+
+part-walk-list-start : tie.Need-part-walk-list-start
+part-walk-list-start c = omega (arith, bounds (c .before .before .before .before))
+
+part-walk-list-end : tie.Need-part-walk-list-end
+part-walk-list-end c = omega (arith, bounds (c .before .before .before .before))
+
+sub-walk-list-2 : tie.Need-sub-walk-list-2
+sub-walk-list-2 c = search needs
+
+walk-list-requires : tie.Need-walk-list-requires
+walk-list-requires c κs = search needs
+
+as-piece-requires : tie.Need-as-piece-requires
+as-piece-requires c κs = search needs
+
+returns-2 : tie.Need-returns-2
+returns-2 c =
+    let a = c .before .before .before .before .args in
+    ap (λ (p : Placed). toldArea (behindFrag (a .empty) (a .list .now) (a .base .0) (a .behind) p))
+    (sym (sym (c .before .before .fragment-of .ensures) ∙ c .enum-told .given .1))
+
+returns-3 : tie.Need-returns-3
+unfolding optionLimit
+returns-3 c =
+    let a = c .before .before .before .before .before .before .before .before .before .before .before .args in
+    let place = c .before .before .before .before .before .before .before in
+    let f : Fragment = place .found .given .0 .0 in
+    let l : List ℕ = a .list .now in
+    let middle : f .start .0 - a .base .0 - a .behind ≡ f .start .0 - (a .base .0 + a .behind) = omega arith in
+    c .as-piece .ensures ∙ ap (asPiece f) (c .before .walk-list .ensures)
+    ∙ piece-told f (walkFrom (optionLimit - 1) 0 (part (a .behind) (f .start .0 - a .base .0 - a .behind) l))
+    ∙ ap (λ (n : ℕ). toldArea (pieceWith f (walkFrom (optionLimit - 1) 0 (part (a .behind) n l)))) middle
+    ∙ ap₂ (λ (e : Bool) (p : Placed). toldArea (behindFrag e l (a .base .0) (a .behind) p))
+    (sym (not-false _ (c .before .before .before .before .before .if1 .left)))
+    (sym (sym (place .before .before .fragment-of .ensures) ∙ place .found .given .1))
+
+pub behind-frag-spec : {M : Type 1} → statement M
+behind-frag-spec =
+    tie.close
+    (tie.spec
+    fragment-of-requires
+    enum-told
+    enum-known-found
+    returns
+    sub-end
+    sub-walk-list
+    part-walk-list-start
+    part-walk-list-end
+    sub-walk-list-2
+    walk-list-requires
+    as-piece-requires
+    returns-2
+    returns-3)

@@ -1,0 +1,61 @@
+-- `wire_area::leading_nops` meets its contract. The loop's invariant: the NOPs of the list are those passed and those of the rest.
+-- Assumes nothing.
+use mathlib.Core.Path.{_≡_, sym, ap, _∙_}
+use Prim.Native.Nat.{ℕ, _+_, _-_, _≤_}
+use native.Mathlib.Omega.{arith}
+use borrow.Author.Needs.{needs}
+use lib.ListN.{length, drop}
+use Rattle.wire_area.specs.Area.{nopsOf}
+use Rattle.wire_area.proofs.Areas.{nops-one, nops-other, nops-none}
+use Rattle.wire_area.proofs.leading_nops.Statement.{statement}
+use Rattle.wire_area.proofs.leading_nops.Tie as tie
+
+abbrev Inv-loop : tie.InvT-loop
+Inv-loop list n₀ n = (n ≤ length list) × (nopsOf list ≡ n + nopsOf (drop n list))
+
+abbrev μ-loop : tie.MeasureT-loop
+μ-loop list n₀ n = length list - n
+
+loop-holds : tie.Need-loop-holds Inv-loop μ-loop
+loop-holds c = (search needs, omega arith)
+
+shared-slice-read-if1 : tie.Need-shared-slice-read-if1 Inv-loop μ-loop
+shared-slice-read-if1 c = omega arith
+
+returns : tie.Need-returns Inv-loop μ-loop
+returns c =
+    let l = c .before .before .before in
+    let none = nops-other (l .before .args .list .now) (l .loop .n) (c .before .before .loop-test .taken) (c .if1 .taken) in
+    (omega arith, omega arith)
+
+add-n : tie.Need-add-n Inv-loop μ-loop
+add-n c = omega arith
+
+loop-less : tie.Need-loop-less Inv-loop μ-loop
+loop-less c = omega arith
+
+loop-again : tie.Need-loop-again Inv-loop μ-loop
+loop-again c =
+    let l = c .before .before .before in
+    let one = nops-one (l .before .args .list .now) (l .loop .n) (c .before .before .loop-test .taken) (c .if1 .left) in
+    (omega arith, omega arith)
+
+returns-2 : tie.Need-returns-2 Inv-loop μ-loop
+returns-2 c =
+    let l = c .before in
+    let none = nops-none (l .before .args .list .now) (l .loop .n) (c .loop-test .left) in
+    (omega arith, omega arith)
+
+pub leading-nops-spec : {M : Type 1} → statement M
+leading-nops-spec =
+    tie.close
+    (tie.spec
+    Inv-loop
+    μ-loop
+    loop-holds
+    shared-slice-read-if1
+    returns
+    add-n
+    loop-less
+    loop-again
+    returns-2)

@@ -1,0 +1,122 @@
+-- The walk over the option list of a surplus area, where FRAG may lead (document 01, "Walking the list"; RFC 9868 section 11.4).
+use mathlib.Core.Bool.{Bool, true, false, cond, _&&_}
+use mathlib.Core.List.{List, [], _∷_}
+use Prim.Native.Nat.{ℕ, _+_, _-_}
+use lib.Dec.{eqb, leb}
+use lib.ListN.{length, getD, take, drop}
+use Rattle.number_octets.specs.Octets.{number, part}
+use Rattle.number_offsets.specs.Offsets.{udpHeader, placeOf}
+use Rattle.number_offsets.specs.declared.Origin.{Origin}
+use Rattle.number_offsets.specs.declared.Origin.the-variants.{At, BeforeData}
+use Rattle.wire_options.specs.Kinds.{eol, nop, frag, lastFragSize}
+use Rattle.wire_options.specs.Step.{stepOf}
+use Rattle.wire_options.specs.Walk.{Item, Walked, listed, faulty, walkFrom, optionLimit, apcsOf}
+use Rattle.wire_options.specs.declared.step.Step.{Step}
+use Rattle.wire_options.specs.declared.step.Step.the-variants.{End, Eol, Nop, Found, Malformed as Unsound, Outlawed}
+use Rattle.wire_options.specs.declared.walk.Fault.{Fault}
+use Rattle.wire_options.specs.declared.walk.Fault.the-variants.{Malformed, Unsafe, FragData, Crowded}
+use Rattle.wire_options.specs.declared.walk.Walk.{Walk}
+use Rattle.wire_options.specs.declared.walk.Walk.the-variants.{Listed as WalkListed, Faulty as WalkFaulty}
+use Rattle.wire_area.specs.declared.Fields.{Fields}
+use Rattle.wire_area.specs.declared.Fragment.{Fragment}
+use Rattle.wire_area.specs.declared.Placed.{Placed}
+use Rattle.wire_area.specs.declared.Placed.the-variants.{Sound, Refused}
+use Rattle.wire_area.specs.declared.Area.{Area}
+use Rattle.wire_area.specs.declared.Area.the-variants.{Listed, Piece, Faulty}
+
+-- a list without the NOPs at its front, and how many those are
+unfoldable pub nopsOf : List ℕ → ℕ
+nopsOf [] = 0
+nopsOf (b ∷ bs) = cond (eqb b nop) (1 + nopsOf bs) 0
+
+-- The fields of a FRAG of `size` bytes at the front of a list: Frag. Start, Identification, Frag. Offset and, in the last piece, the
+-- reassembled option start. Where the piece is not the last, that start stands at the origin.
+unfoldable pub fieldsOf : ℕ → List ℕ → Fields
+fieldsOf size l = record {
+  start = record { 0 = number (part 2 2 l) };
+  identification = number (part 4 4 l);
+  offset = number (part 8 2 l);
+  last = eqb size lastFragSize;
+  «option_start» = cond (eqb size lastFragSize) (number (part 10 2 l)) udpHeader;
+}
+
+-- a value before the origin of user data is malformed
+abbrev pub placedAt : Fields → ℕ → Origin → Origin → Placed
+placedAt fields end BeforeData r = Refused
+placedAt fields end (At place) BeforeData = Refused
+placedAt fields end (At place) (At r) = Sound (record {
+  identification = fields .identification;
+  place = place;
+  start = fields .start;
+  end = record { 0 = end };
+  last = fields .last;
+  «option_start» = r;
+})
+
+-- Frag. Start counts from the UDP header, `base` bytes before the list. It may not lie before FRAG's end, `behind` bytes into the list,
+-- nor past the payload, which ends with the list.
+unfoldable pub fragmentOf : Fields → ℕ → ℕ → ℕ → Placed
+fragmentOf fields base behind size =
+    cond (leb (base + behind) (fields .start .0) && leb (fields .start .0) (base + size))
+    (placedAt fields (base + size) (placeOf (fields .offset)) (placeOf (fields .«option_start»)))
+    Refused
+
+-- what the walk of an area's list comes to: options and fill, a fragment, or the fault met first
+pub data AreaWalk : Type 0 where
+  plain : List Item → ℕ → AreaWalk
+  piece : Fragment → AreaWalk
+  fault : Fault → AreaWalk
+
+abbrev pub plainly : Walked → AreaWalk
+plainly (listed items fill) = plain items fill
+plainly (faulty f) = fault f
+
+-- other options on a piece are walked for faults and then dropped
+abbrev pub pieceWith : Fragment → Walked → AreaWalk
+pieceWith f (listed items fill) = piece f
+pieceWith f (faulty x) = fault x
+
+-- what is walked behind FRAG, which ends `behind` bytes into the list: "for such a datagram the list ends at Frag. Start"
+abbrev pub upToStart : Fragment → ℕ → ℕ → List ℕ → List ℕ
+upToStart f base behind l = part behind (f .start .0 - (base + behind)) l
+
+-- With user data a FRAG that passes its tests is "fragdata" at once. Else the list is walked up to Frag. Start; FRAG counts as one option.
+abbrev pub behindFrag : Bool → List ℕ → ℕ → ℕ → Placed → AreaWalk
+behindFrag empty l base behind Refused = fault Malformed
+behindFrag false l base behind (Sound f) = fault FragData
+behindFrag true l base behind (Sound f) =
+    pieceWith f (walkFrom (optionLimit - 1) 0 (upToStart f base behind l))
+
+-- a list whose first option, behind `nops` NOPs, has the kind of FRAG
+abbrev pub ledBy : Bool → List ℕ → ℕ → ℕ → Step → AreaWalk
+ledBy empty l base nops (Found kind header size) =
+    behindFrag empty l base (nops + size) (fragmentOf (fieldsOf size (drop nops l)) base (nops + size) (length l))
+ledBy empty l base nops End = fault Malformed
+ledBy empty l base nops Eol = fault Malformed
+ledBy empty l base nops Nop = fault Malformed
+ledBy empty l base nops Unsound = fault Malformed
+ledBy empty l base nops Outlawed = fault Malformed
+
+-- The walk of the list that starts at packet offset `base`; `empty` says that there is no user data. FRAG must be the first option that
+-- is no NOP: anywhere else the walk meets it as malformed.
+unfoldable pub areaOf : Bool → ℕ → List ℕ → AreaWalk
+areaOf empty base l =
+    cond (eqb (getD l (nopsOf l) eol) frag)
+    (ledBy empty l base (nopsOf l) (stepOf (drop (nopsOf l) l)))
+    (plainly (walkFrom optionLimit 0 l))
+
+-- what of it the answer tells
+abbrev pub toldArea : AreaWalk → Area
+toldArea (plain items fill) = Listed (length items) fill (apcsOf items)
+toldArea (piece f) = Piece f
+toldArea (fault f) = Faulty f
+
+-- ---- what the answer of a plain walk becomes in the answer of an area's walk
+
+abbrev pub asPiece : Fragment → Walk → Area
+asPiece f (WalkListed count fill apcs) = Piece f
+asPiece f (WalkFaulty x) = Faulty x
+
+abbrev pub asArea : Walk → Area
+asArea (WalkListed count fill apcs) = Listed count fill apcs
+asArea (WalkFaulty x) = Faulty x
