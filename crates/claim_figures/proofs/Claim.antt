@@ -17,8 +17,8 @@ use Rattle.wire_surplus.specs.Surplus.{startOf}
 use Rattle.wire_datagram.specs.Reading.{payloadLimit, firstOf, accepted, reading}
 use Rattle.list_encoding.specs.Shape.{shapeOf}
 use Rattle.list_encoding.specs.Encoding.{readNumber, readFields, readBody, readKind, readOption, readOptions, decodedList}
-use Rattle.list_writer.specs.Payload as Payload
-use Rattle.list_writer.specs.Payload.{wireOf, worked, workedAll, wires, listOf, payloadOf}
+use Rattle.list_payload.specs.Payload as Payload
+use Rattle.list_payload.specs.Payload.{wireOf, worked, workedAll, wires, listOf, payloadOf}
 use Rattle.list_writer.specs.Answer.{fits, putWhole, written}
 use Rattle.client_record.specs.Limits.{datagramLimit, fragmentLimit, assemblyLimit, lifetime, offeredLimit, shareSize, clientLimit}
 use Rattle.client_record.specs.Lists.{sameBytes, any, sum}

@@ -13,9 +13,9 @@ use Rattle.wire_datagram.specs.declared.reading.Reading.{Reading}
 use Rattle.list_options.specs.Listing.{ListedInto}
 use Rattle.list_options.specs.declared.Listed.{Listed}
 use Rattle.list_writer.specs.Answer.{written, datagramFor, Wrote}
-use Rattle.list_writer.specs.Payload.{Datagram, payloadOf}
+use Rattle.list_payload.specs.Payload.{Datagram, payloadOf}
 use Rattle.list_writer.specs.declared.Written.the-variants.{Payload}
-use Rattle.list_writer.proofs.ReadBack.{backOf}
+use Rattle.list_payload.proofs.ReadBack.{backOf}
 use Rattle.list_writer.proofs.Claims.{write-reads-back}
 use Rattle.list_readings.specs.Back.{GivesList}
 use Rattle.list_readings.proofs.Claims.{walkOf, written-lists-back, listed-back}

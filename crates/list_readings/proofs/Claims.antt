@@ -21,9 +21,10 @@ use Rattle.list_encoding.specs.Encoding.{given, refused}
 use Rattle.list_options.specs.Listing.{tooSmall, itemsOf, fillOf, listing, roomFor, listedAnswer, ListedInto}
 use Rattle.list_options.specs.declared.Listed.{Listed}
 use Rattle.list_writer.specs.Answer.{written, datagramFor}
-use Rattle.list_writer.specs.Payload.{Datagram, payloadOf}
-use Rattle.list_writer.proofs.ReadBack.{backOf}
-use Rattle.list_writer.proofs.Claims.{ReadBack, WroteBack, write-reads-back}
+use Rattle.list_payload.specs.Payload.{Datagram, payloadOf}
+use Rattle.list_payload.proofs.ReadBack.{backOf}
+use Rattle.list_payload.proofs.Claims.{ReadBack}
+use Rattle.list_writer.proofs.Claims.{WroteBack, write-reads-back}
 use Rattle.list_readings.specs.Back.{GivesList}
 use Rattle.list_readings.specs.Catalogue.{isListed, walkOfValue}
 use Rattle.list_readings.proofs.Values.{by-verdict, value-listed, value-none, none-listed}

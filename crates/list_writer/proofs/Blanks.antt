@@ -12,10 +12,10 @@ use Rattle.number_octets.proofs.Laws.{length-octets, part-overlay}
 use Rattle.number_offsets.specs.Offsets.{udpHeader}
 use Rattle.number_checksum.specs.Checksum.{wordSum, folded, sent}
 use Rattle.wire_datagram.specs.Reading.{pseudoHeader, isOdd}
-use Rattle.list_writer.specs.Payload.{padding, areaWith, areaOf, Datagram, sizeOf, frontOf, datagramWith, udpChecksumOf}
-use Rattle.list_writer.specs.Private.{Laid, summed}
-use Rattle.list_writer.proofs.Areas.{ocsFor, area-is, area-length}
-use Rattle.list_writer.proofs.Laying.{laid-append, laid-length, laid-as, laid-by, laid-replace}
+use Rattle.list_payload.specs.Payload.{padding, areaWith, areaOf, Datagram, sizeOf, frontOf, datagramWith, udpChecksumOf}
+use Rattle.list_wire.specs.Parts.{Laid, summed}
+use Rattle.list_payload.proofs.Areas.{ocsFor, area-is, area-length}
+use Rattle.list_wire.proofs.Laying.{laid-append, laid-length, laid-as, laid-by, laid-replace}
 
 -- ---- the area
 

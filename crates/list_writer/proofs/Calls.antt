@@ -14,11 +14,12 @@ use Rattle.wire_datagram.proofs.Lists.{lists-part, reading-lists}
 use Rattle.list_encoding.specs.Encoding.{given, decodedList}
 use Rattle.list_options.specs.Listing.{listing}
 use Rattle.list_writer.specs.Answer.{written, datagramFor, Wrote}
-use Rattle.list_writer.specs.Back.{walkBack, ReadsBack, LeavesBack}
-use Rattle.list_writer.specs.Payload.{Datagram, payloadOf}
+use Rattle.list_payload.specs.Back.{walkBack, ReadsBack, LeavesBack}
+use Rattle.list_payload.specs.Payload.{Datagram, payloadOf}
 use Rattle.list_writer.specs.declared.Written.the-variants.{Payload}
-use Rattle.list_writer.proofs.ReadBack.{backOf, user-there}
-use Rattle.list_writer.proofs.Claims.{ReadBack, WroteBack, write-reads-back}
+use Rattle.list_payload.proofs.ReadBack.{backOf, user-there}
+use Rattle.list_payload.proofs.Claims.{ReadBack}
+use Rattle.list_writer.proofs.Claims.{WroteBack, write-reads-back}
 
 -- ---- the payload
 

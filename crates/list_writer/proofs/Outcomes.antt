@@ -17,10 +17,10 @@ use Rattle.wire_options.specs.Walk.{Item}
 use Rattle.wire_datagram.specs.Reading.{payloadLimit, isOdd}
 use Rattle.list_encoding.specs.Encoding.{Answer, given, refused, decodedList}
 use Rattle.list_encoding.specs.Wire.{Totals, totalsOf, measured, wireSize}
-use Rattle.list_writer.specs.Payload.{listOf, areaOf, Datagram, sizeOf, udpChecksumOf, payloadOf}
+use Rattle.list_payload.specs.Payload.{listOf, areaOf, Datagram, sizeOf, udpChecksumOf, payloadOf}
 use Rattle.list_writer.specs.Answer.{tooLarge, Outcome, fits, put, untouched, putWhole, outcomeBy, written, datagramFor}
-use Rattle.list_writer.specs.Private.{Laid, wiresListed, listedBytes, plainly, summed, payloadFrom}
-use Rattle.list_writer.proofs.Listed.{wires-listed, wires-size}
+use Rattle.list_wire.specs.Parts.{Laid, wiresListed, listedBytes, plainly, summed, payloadFrom}
+use Rattle.list_wire.proofs.Listed.{wires-listed, wires-size}
 use Rattle.list_writer.proofs.Blanks.{datagram-size, area-size}
 
 -- ---- the test of the size

@@ -9,7 +9,7 @@ use lib.ListN.{length, drop}
 use Rattle.wire_options.specs.Walk.{Item}
 use Rattle.wire_datagram.specs.Reading.{payloadLimit}
 use Rattle.list_encoding.specs.Encoding.{Answer, given, refused, unreadable, forbidden, decodedList}
-use Rattle.list_writer.specs.Payload.{Datagram, payloadOf}
+use Rattle.list_payload.specs.Payload.{Datagram, payloadOf}
 use Rattle.list_writer.specs.declared.Written.{Written}
 use Rattle.list_writer.specs.declared.Written.the-variants.{Payload, Unreadable, Forbidden, TooLarge}
 

@@ -1,16 +1,16 @@
 // The surplus area, laid over a buffer whose first byte is that of the UDP header.
-use crate::apc::COUNTS;
-use crate::wire;
 use list_encoding::entry;
 use list_encoding::entry::Entry;
 use list_encoding::entry::Field;
+use list_wire::apc::COUNTS;
+use list_wire::wire;
 ghost use mathlib.Core.List.{_++_};
 ghost use Prim.Native.Nat.{_+_, _%_, _≤_};
 ghost use lib.ListN.{length, drop, replicate};
 ghost use Rattle.wire_datagram.specs.Reading.{isOdd};
 ghost use Rattle.list_encoding.specs.Encoding.{readOption};
-ghost use Rattle.list_writer.specs.Payload.{areaOf};
-ghost use Rattle.list_writer.specs.Private.{Laid, Passes, wireRead, wiresRead, wiresListed, listedBytes};
+ghost use Rattle.list_payload.specs.Payload.{areaOf};
+ghost use Rattle.list_wire.specs.Parts.{Laid, Passes, wireRead, wiresRead, wiresListed, listedBytes};
 
 // Where the next option stands in the list, and where the one before it ends in the buffer.
 struct Passed {

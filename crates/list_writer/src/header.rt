@@ -8,8 +8,8 @@ ghost use lib.ListN.{length};
 ghost use Rattle.number_octets.specs.Octets.{octets};
 ghost use Rattle.number_checksum.specs.Checksum.{folded, wordSum};
 ghost use Rattle.wire_datagram.specs.Reading.{pseudoHeader};
-ghost use Rattle.list_writer.specs.Payload.{datagramWith};
-ghost use Rattle.list_writer.specs.Private.{Laid, plainly, summed};
+ghost use Rattle.list_payload.specs.Payload.{datagramWith};
+ghost use Rattle.list_wire.specs.Parts.{Laid, plainly, summed};
 
 // UDP's protocol number.
 const UDP: u16 = 17;

@@ -8,12 +8,10 @@ ghost use mathlib.Core.List.{_++_};
 ghost use Prim.Native.Nat.{_+_, _%_, _≤_};
 ghost use lib.ListN.{length};
 ghost use Rattle.list_writer.specs.Answer.{Wrote, fits, written, datagramFor};
-ghost use Rattle.list_writer.specs.Private.{Laid, plainly, payloadFrom};
+ghost use Rattle.list_wire.specs.Parts.{Laid, plainly, payloadFrom};
 
-mod apc;
 mod area;
 mod header;
-mod wire;
 
 pub enum Written {
     // The payload's length.
@@ -102,5 +100,11 @@ fn put_payload(
         data,
         buffer,
     );
-    area::put_area(list, apc::crc_for(list, data), fill, buffer, size)
+    area::put_area(
+        list,
+        list_wire::apc::crc_for(list, data),
+        fill,
+        buffer,
+        size,
+    )
 }

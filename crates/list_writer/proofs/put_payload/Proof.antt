@@ -10,9 +10,9 @@ use Rattle.number_octets.proofs.Laws.{length-octets}
 use Rattle.number_offsets.specs.Offsets.{udpHeader}
 use Rattle.number_crc32c.specs.Crc.{crcOf}
 use Rattle.wire_datagram.specs.Reading.{isOdd}
-use Rattle.list_writer.specs.Payload.{Datagram, sizeOf, areaOf, udpChecksumOf}
-use Rattle.list_writer.specs.Private.{Laid, plainly, summed, wiresListed, listedBytes, payloadFrom}
-use Rattle.list_writer.proofs.Laying.{laid-append, laid-as, behind-room}
+use Rattle.list_payload.specs.Payload.{Datagram, sizeOf, areaOf, udpChecksumOf}
+use Rattle.list_wire.specs.Parts.{Laid, plainly, summed, wiresListed, listedBytes, payloadFrom}
+use Rattle.list_wire.proofs.Laying.{laid-append, laid-as, behind-room}
 use Rattle.list_writer.proofs.Blanks.{datagram-size}
 use Rattle.list_writer.proofs.Outcomes.{payload-size}
 use borrow.Author.Needs.{needs}

@@ -3,8 +3,8 @@
 use mathlib.Core.List.{List}
 use Prim.Native.Nat.{ℕ, _%_}
 use native.Mathlib.Omega.{arith}
-use Rattle.list_writer.specs.Private.{listedBytes}
-use Rattle.list_writer.proofs.Laying.{laid-length}
+use Rattle.list_wire.specs.Parts.{listedBytes}
+use Rattle.list_wire.proofs.Laying.{laid-length}
 use Rattle.list_writer.proofs.Blanks.{area-size, blank-size, area-summed}
 use borrow.Author.Needs.{needs}
 use Rattle.list_writer.proofs.area.put_area.Statement.{statement}

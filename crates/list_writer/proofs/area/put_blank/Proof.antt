@@ -4,8 +4,8 @@ use mathlib.Core.List.{List, _++_}
 use Prim.Native.Nat.{ℕ, _+_, _%_}
 use native.Mathlib.Omega.{arith}
 use lib.ListN.{replicate, length-append, length-replicate}
-use Rattle.list_writer.specs.Private.{wiresListed}
-use Rattle.list_writer.proofs.Laying.{laid-append, behind-room}
+use Rattle.list_wire.specs.Parts.{wiresListed}
+use Rattle.list_wire.proofs.Laying.{laid-append, behind-room}
 use borrow.Author.Needs.{needs}
 use Rattle.list_writer.proofs.area.put_blank.Statement.{statement}
 use Rattle.list_writer.proofs.area.put_blank.Tie as tie

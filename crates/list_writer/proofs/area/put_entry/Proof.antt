@@ -9,9 +9,9 @@ use Rattle.number_octets.specs.Octets.{Octets, part}
 use Rattle.list_encoding.specs.Answer.{entryAnswer}
 use Rattle.list_encoding.specs.Wire.{wholeLength}
 use Rattle.list_encoding.proofs.Entered.{FieldsAt, BodyAt, entry-fields, entry-body, entry-refused}
-use Rattle.list_writer.specs.Private.{fieldBody, wireRead, leftBehind}
-use Rattle.list_writer.proofs.Laying.{laid-as, laid-none, wire-length}
-use Rattle.list_writer.proofs.Listed.{Found, field-length, fields-wire, body-wire, body-worked}
+use Rattle.list_wire.specs.Parts.{fieldBody, wireRead, leftBehind}
+use Rattle.list_wire.proofs.Laying.{laid-as, laid-none, wire-length}
+use Rattle.list_wire.proofs.Listed.{Found, field-length, fields-wire, body-wire, body-worked}
 use borrow.Author.Needs.{needs}
 use Rattle.list_writer.proofs.area.put_entry.Statement.{statement}
 use Rattle.list_writer.proofs.area.put_entry.Tie as tie

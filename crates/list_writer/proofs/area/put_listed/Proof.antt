@@ -4,8 +4,8 @@ use mathlib.Core.Path.{sym, ap, _∙_}
 use native.Mathlib.Omega.{arith}
 use lib.ListN.{length}
 use Rattle.list_encoding.proofs.Places.{ValueAt, value-there, none-there}
-use Rattle.list_writer.proofs.Laying.{laid-as, laid-none}
-use Rattle.list_writer.proofs.Listed.{listed-counted, listed-uncounted}
+use Rattle.list_wire.proofs.Laying.{laid-as, laid-none}
+use Rattle.list_wire.proofs.Listed.{listed-counted, listed-uncounted}
 use Rattle.list_encoding.specs.Answer.{fieldAnswer}
 use borrow.Author.Needs.{needs}
 use Rattle.list_writer.proofs.area.put_listed.Statement.{statement}

@@ -6,9 +6,9 @@ use Prim.Native.Nat.{ℕ, _-_}
 use native.Mathlib.Omega.{arith}
 use lib.ListN.{length, drop, length-append}
 use Rattle.list_encoding.specs.Encoding.{readOption}
-use Rattle.list_writer.specs.Private.{Laid, wireRead, wiresRead}
-use Rattle.list_writer.proofs.Laying.{laid-as, laid-none, laid-length}
-use Rattle.list_writer.proofs.Listed.{turn-room, turn-laid, turn-rest, turn-none}
+use Rattle.list_wire.specs.Parts.{Laid, wireRead, wiresRead}
+use Rattle.list_wire.proofs.Laying.{laid-as, laid-none, laid-length}
+use Rattle.list_wire.proofs.Listed.{turn-room, turn-laid, turn-rest, turn-none}
 use Rattle.list_writer.proofs.area.put_options.Statement.{statement}
 use Rattle.list_writer.proofs.area.put_options.Tie as tie
 

@@ -5,7 +5,7 @@ use Prim.Native.Nat.{ℕ, _+_, _-_, _≤_}
 use native.Mathlib.Omega.{arith}
 use lib.ListN.{length, replicate, length-set, length-replicate}
 use Rattle.number_octets.specs.Octets.{overlay}
-use Rattle.list_writer.proofs.Laying.{laid-none, zeros-more}
+use Rattle.list_wire.proofs.Laying.{laid-none, zeros-more}
 use borrow.Author.Needs.{needs}
 use Rattle.list_writer.proofs.area.put_zeros.Statement.{statement}
 use Rattle.list_writer.proofs.area.put_zeros.Tie as tie

@@ -1,7 +1,7 @@
 -- `list_writer::header::put_blank` meets its contract: the fields and the data are laid one behind the other.
 -- Assumes nothing.
 use mathlib.Core.List.{[]}
-use Rattle.list_writer.specs.Private.{plainly}
+use Rattle.list_wire.specs.Parts.{plainly}
 use Rattle.list_writer.proofs.Blanks.{datagram-laid}
 use borrow.Author.Needs.{needs}
 use Rattle.list_writer.proofs.header.put_blank.Statement.{statement}

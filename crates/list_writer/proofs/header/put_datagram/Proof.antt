@@ -5,9 +5,9 @@ use mathlib.Core.List.{List, [], _∷_}
 use Prim.Native.Nat.{ℕ, _+_}
 use native.Mathlib.Omega.{arith}
 use lib.ListN.{length, length-take}
-use Rattle.list_writer.specs.Payload.{Datagram, datagramWith}
-use Rattle.list_writer.specs.Private.{plainly}
-use Rattle.list_writer.proofs.Laying.{laid-length}
+use Rattle.list_payload.specs.Payload.{Datagram, datagramWith}
+use Rattle.list_wire.specs.Parts.{plainly}
+use Rattle.list_wire.proofs.Laying.{laid-length}
 use Rattle.list_writer.proofs.Blanks.{datagram-size, datagram-summed}
 use borrow.Author.Needs.{needs}
 use Rattle.list_writer.proofs.header.put_datagram.Statement.{statement}

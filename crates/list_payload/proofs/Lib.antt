@@ -1,0 +1,4 @@
+pub mod Wires
+pub mod Areas
+pub mod ReadBack
+pub mod Claims
