@@ -3,7 +3,7 @@
 use Prim.Native.Nat.{ℕ}
 use mathlib.Core.Path.{_≡_, refl, ap, ap₂, _∙_}
 use mathlib.Core.List.{List, [], _∷_, map}
-use lib.ListN.{getD, length-replicate}
+use lib.ListN.{length, getD, length-replicate}
 use Rattle.octets.specs.Octets.{number, octets}
 use Rattle.offsets.specs.Offsets.{udpHeader}
 use Rattle.checksum.specs.Checksum.{wordSum, folded, sent}
@@ -37,6 +37,11 @@ use Rattle.table.specs.Demand3.{Terms, opening}
 use Rattle.table.proofs.Demand3.{demand-3}
 use Rattle.figures.specs.Figures.{Line, refusal, calls, both, table, told, called, inOrder, lastFirst, overlapping, expiring, fiveKeys}
 use Rattle.figures.specs.Figures.{computed, stated}
+
+-- document 01 has twelve starred lines
+pub twelve-lines : length stated ≡ 12
+unfolding stated
+twelve-lines = refl
 
 -- the line with this number
 abbrev line : ℕ → List Line → Line
