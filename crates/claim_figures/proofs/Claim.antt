@@ -3,7 +3,7 @@
 use Prim.Native.Nat.{ℕ}
 use mathlib.Core.Path.{_≡_, refl, ap, ap₂, _∙_}
 use mathlib.Core.List.{List, [], _∷_, map}
-use lib.ListN.{getD, length-replicate}
+use lib.ListN.{length, getD, length-replicate}
 use Rattle.number_octets.specs.Octets.{number, octets}
 use Rattle.number_offsets.specs.Offsets.{udpHeader}
 use Rattle.number_checksum.specs.Checksum.{wordSum, folded, sent}
@@ -37,6 +37,11 @@ use Rattle.table_calls.specs.Demand3.{Terms, opening}
 use Rattle.table_calls.proofs.Demand3.{demand-3}
 use Rattle.claim_figures.specs.Figures.{Line, refusal, calls, both, table, told, called, inOrder, lastFirst, overlapping, expiring, fiveKeys}
 use Rattle.claim_figures.specs.Figures.{computed, stated}
+
+-- document 01 has twelve starred lines
+pub twelve-lines : length stated ≡ 12
+unfolding stated
+twelve-lines = refl
 
 -- the line with this number
 abbrev line : ℕ → List Line → Line

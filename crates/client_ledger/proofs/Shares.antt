@@ -58,11 +58,11 @@ unfolding startOf base shareSize
 place-fits p f bytes share h e size =
     omega (arith, size, suc-mul p datagramLimit, mul-le-mul-right datagramLimit h)
 
-abbrev Whole : Outcome → Type 0
-Whole o = length (o .share) ≡ shareSize
+abbrev FullShare : Outcome → Type 0
+FullShare o = length (o .share) ≡ shareSize
 
 placed-share : (c : Client) (share out : List ℕ) (p : ℕ) (a : Assembly) (f : Fragment) (bytes : List ℕ) → p < assemblyLimit
-    → f .offset + length bytes ≤ datagramLimit → length share ≡ shareSize → Whole (placed c share out p a f bytes)
+    → f .offset + length bytes ≤ datagramLimit → length share ≡ shareSize → FullShare (placed c share out p a f bytes)
 unfolding placed joined handedOut
 placed-share c share out p a f bytes h e size =
     go (repeats a f (part (startOf p f) (f .length) share) bytes) (isConflict a f) (isFull a) (whole (heldFragments (added a f)))
@@ -71,7 +71,7 @@ placed-share c share out p a f bytes h e size =
     laid = length-overlay share (startOf p f) bytes (place-fits p f bytes share h e size) ∙ size
 
     go : (x y z w : Bool)
-        → Whole (if x (leaving (repeating (f .length) c) share out repeated)
+        → FullShare (if x (leaving (repeating (f .length) c) share out repeated)
         (if y (leaving (conflicting p a (f .length) c) share out conflict)
         (if z (leaving (rejecting (f .length) c) share out (refused 30))
         (if w (handedOut c (overlay share (startOf p f) bytes) out p a f)
@@ -87,7 +87,7 @@ unfolding fragmentOf
 fragment-offset o n = refl
 
 taken-share : (c : Client) (share out : List ℕ) (o : Arrival) (bytes : List ℕ) → length (c .assemblies) ≡ assemblyLimit
-    → o .offset .0 + length bytes ≤ datagramLimit → length share ≡ shareSize → Whole (taken c share out o bytes)
+    → o .offset .0 + length bytes ≤ datagramLimit → length share ≡ shareSize → FullShare (taken c share out o bytes)
 taken-share c share out o bytes places e size = go (noRoom o (c .assemblies)) refl
   where
     p : ℕ
@@ -98,10 +98,10 @@ taken-share c share out o bytes places e size = go (noRoom o (c .assemblies)) re
         let ne = eqb-false p (length (c .assemblies)) (sym (room-place o (c .assemblies)) ∙ t) in
         omega (arith, ne, place-le o (c .assemblies), places)
 
-    go : (t : Bool) → noRoom o (c .assemblies) ≡ t → Whole (taken c share out o bytes)
-    go true t = subst Whole (sym (taken-rejected c share out o bytes t)) size
+    go : (t : Bool) → noRoom o (c .assemblies) ≡ t → FullShare (taken c share out o bytes)
+    go true t = subst FullShare (sym (taken-rejected c share out o bytes t)) size
     go false t =
-        subst Whole (sym (taken-placed c share out o bytes t))
+        subst FullShare (sym (taken-placed c share out o bytes t))
         (placed-share c share out p (assemblyFor o p (c .assemblies)) (fragmentOf o (length bytes)) bytes (within t)
         (omega (arith, e, fragment-offset o (length bytes))) size)
 
@@ -116,7 +116,7 @@ unfolding fragmentOn
 fragment-call-share c share out o bytes shape = go (firstOf (offerTests c (length out) o (length bytes))) refl
   where
     go : (r : Option ℕ) → firstOf (offerTests c (length out) o (length bytes)) ≡ r
-        → Whole (refuseOr c share out r (taken (elapse (o .time) c) share out o bytes))
+        → FullShare (refuseOr c share out r (taken (elapse (o .time) c) share out o bytes))
     go none e =
         taken-share (elapse (o .time) c) share out o bytes (elapse-places (o .time) c (shape .places))
         (passes c (length out) o (length bytes) e .sized .ends) (shape .size)
