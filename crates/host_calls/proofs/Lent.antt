@@ -1,8 +1,8 @@
-pub mod table_receiver·receive
 pub mod table_calls·account
 pub mod table_calls·advance
 pub mod table_calls·offer
 pub mod table_calls·reset
+pub mod table_receiver·receive
 pub mod wuraketozo_account
 pub mod wuraketozo_advance
 pub mod wuraketozo_offer

@@ -1,11 +1,11 @@
 -- Made by tools/lent/transplant.py for `host_calls::wuraketozo_receive`. Assumes nothing.
 use Prim.Native.Nat
-use Rattle.table_receiver.proofs.Received
-use Rattle.table_receiver.proofs.Received.Laws
 use Rattle.host_values.proofs.Address
-use Rattle.host_values.proofs.Address.Laws as Laws'
-use Rattle.host_values.proofs.Received as Received'
-use Rattle.host_values.proofs.Received.Laws as Laws''
+use Rattle.host_values.proofs.Address.Laws
+use Rattle.host_values.proofs.Received
+use Rattle.host_values.proofs.Received.Laws as Laws'
+use Rattle.table_receiver.proofs.Received as Received'
+use Rattle.table_receiver.proofs.Received.Laws as Laws''
 use borrow.Author.Called
 use borrow.Fn.Any
 use borrow.Fn.Call
@@ -68,13 +68,13 @@ use Rattle.client_record.proofs.Client as Client·T
 use Rattle.client_record.proofs.Client.Laws as Client·L
 
 abbrev pub ps : List.List (Kinds.PK 4)
-ps = List._∷_ (MutSlice.pMutS Client·T.the-row 0 tt) (List._∷_ (MutSlice.pMutS (Referent.rtF (Referent.fInt Syntax.w8)) 1 tt) (List._∷_ (Num.pNum Syntax.w64) (List._∷_ (Num.pNum Syntax.w64) (List._∷_ (Value.pVal record { ty = Declared'.row Address.the-type; one = Path'.refl; val = Laws'4.val Address.the-type Laws'.the-laws; tells = Laws'4.tells Address.the-type Laws'.the-laws; still = Laws'4.still Address.the-type Laws'.the-copy Exit.yes; row = Rows'.whole (Declared'.row Address.the-type); rd = λ x. x; mk = λ x. x } λ M 𝓤 H A W. record { copies = Laws'4.copy Address.the-type Laws'.the-copy 𝓤 H A W; lawful = Laws'4.lawful Address.the-type Laws'.the-laws 𝓤 H A W; makes = Laws'4.makes Address.the-type Laws'.the-plain 𝓤 H A; in-mem = Local.mem-whole 𝓤 H A W (Declared'.row Address.the-type); of-mem = Local.whole-mem 𝓤 H A W (Declared'.row Address.the-type) }) (List._∷_ (Value.pVal record { ty = Declared'.row Address.the-type; one = Path'.refl; val = Laws'4.val Address.the-type Laws'.the-laws; tells = Laws'4.tells Address.the-type Laws'.the-laws; still = Laws'4.still Address.the-type Laws'.the-copy Exit.yes; row = Rows'.whole (Declared'.row Address.the-type); rd = λ x. x; mk = λ x. x } λ M 𝓤 H A W. record { copies = Laws'4.copy Address.the-type Laws'.the-copy 𝓤 H A W; lawful = Laws'4.lawful Address.the-type Laws'.the-laws 𝓤 H A W; makes = Laws'4.makes Address.the-type Laws'.the-plain 𝓤 H A; in-mem = Local.mem-whole 𝓤 H A W (Declared'.row Address.the-type); of-mem = Local.whole-mem 𝓤 H A W (Declared'.row Address.the-type) }) (List._∷_ (ShrSlice.pShrS (Referent.rtF (Referent.fInt Syntax.w8)) 2 tt) (List._∷_ (MutSlice.pMutS (Referent.rtF (Referent.fInt Syntax.w8)) 3 tt) List.[])))))))
+ps = List._∷_ (MutSlice.pMutS Client·T.the-row 0 tt) (List._∷_ (MutSlice.pMutS (Referent.rtF (Referent.fInt Syntax.w8)) 1 tt) (List._∷_ (Num.pNum Syntax.w64) (List._∷_ (Num.pNum Syntax.w64) (List._∷_ (Value.pVal record { ty = Declared'.row Address.the-type; one = Path'.refl; val = Laws'4.val Address.the-type Laws.the-laws; tells = Laws'4.tells Address.the-type Laws.the-laws; still = Laws'4.still Address.the-type Laws.the-copy Exit.yes; row = Rows'.whole (Declared'.row Address.the-type); rd = λ x. x; mk = λ x. x } λ M 𝓤 H A W. record { copies = Laws'4.copy Address.the-type Laws.the-copy 𝓤 H A W; lawful = Laws'4.lawful Address.the-type Laws.the-laws 𝓤 H A W; makes = Laws'4.makes Address.the-type Laws.the-plain 𝓤 H A; in-mem = Local.mem-whole 𝓤 H A W (Declared'.row Address.the-type); of-mem = Local.whole-mem 𝓤 H A W (Declared'.row Address.the-type) }) (List._∷_ (Value.pVal record { ty = Declared'.row Address.the-type; one = Path'.refl; val = Laws'4.val Address.the-type Laws.the-laws; tells = Laws'4.tells Address.the-type Laws.the-laws; still = Laws'4.still Address.the-type Laws.the-copy Exit.yes; row = Rows'.whole (Declared'.row Address.the-type); rd = λ x. x; mk = λ x. x } λ M 𝓤 H A W. record { copies = Laws'4.copy Address.the-type Laws.the-copy 𝓤 H A W; lawful = Laws'4.lawful Address.the-type Laws.the-laws 𝓤 H A W; makes = Laws'4.makes Address.the-type Laws.the-plain 𝓤 H A; in-mem = Local.mem-whole 𝓤 H A W (Declared'.row Address.the-type); of-mem = Local.whole-mem 𝓤 H A W (Declared'.row Address.the-type) }) (List._∷_ (ShrSlice.pShrS (Referent.rtF (Referent.fInt Syntax.w8)) 2 tt) (List._∷_ (MutSlice.pMutS (Referent.rtF (Referent.fInt Syntax.w8)) 3 tt) List.[])))))))
 
 abbrev pub r : Kinds.RK 4
-r = Value.rVal record { ty = Declared'.row Received'.the-type; one = Path'.refl; val = Laws'4.val Received'.the-type Laws''.the-laws; tells = Laws'4.tells Received'.the-type Laws''.the-laws; still = Laws'4.still Received'.the-type Laws''.the-copy Exit.yes; row = Rows'.whole (Declared'.row Received'.the-type); rd = λ x. x; mk = λ x. x } λ M 𝓤 H A W. record { copies = Laws'4.copy Received'.the-type Laws''.the-copy 𝓤 H A W; lawful = Laws'4.lawful Received'.the-type Laws''.the-laws 𝓤 H A W; makes = Laws'4.makes Received'.the-type Laws''.the-plain 𝓤 H A; in-mem = Local.mem-whole 𝓤 H A W (Declared'.row Received'.the-type); of-mem = Local.whole-mem 𝓤 H A W (Declared'.row Received'.the-type) }
+r = Value.rVal record { ty = Declared'.row Received.the-type; one = Path'.refl; val = Laws'4.val Received.the-type Laws'.the-laws; tells = Laws'4.tells Received.the-type Laws'.the-laws; still = Laws'4.still Received.the-type Laws'.the-copy Exit.yes; row = Rows'.whole (Declared'.row Received.the-type); rd = λ x. x; mk = λ x. x } λ M 𝓤 H A W. record { copies = Laws'4.copy Received.the-type Laws'.the-copy 𝓤 H A W; lawful = Laws'4.lawful Received.the-type Laws'.the-laws 𝓤 H A W; makes = Laws'4.makes Received.the-type Laws'.the-plain 𝓤 H A; in-mem = Local.mem-whole 𝓤 H A W (Declared'.row Received.the-type); of-mem = Local.whole-mem 𝓤 H A W (Declared'.row Received.the-type) }
 
 abbrev pub xs : List.List Syntax.Ty
-xs = List._∷_ (Syntax.tyArray (Syntax.tyInt Syntax.w8) 4) (List._∷_ (Syntax.tyArray (Syntax.tyInt Syntax.w8) 4) (List._∷_ Laws.mir (List._∷_ (Syntax.tyRef Syntax.erased Syntax.mut (Memory·T.pointee (Client·T.the-row .written))) (List._∷_ (Syntax.tyStruct (List._∷_ 38 (List._∷_ 91 (List._∷_ 93 List.[]))) (Syntax.tcons (Syntax.tyRef Syntax.erased Syntax.mut (Memory·T.pointee (Client·T.the-row .written))) (Syntax.tcons (Syntax.tyInt Syntax.w64) Syntax.tnil))) (List._∷_ (Syntax.tyRef Syntax.erased Syntax.mut (Syntax.tyInt Syntax.w8)) (List._∷_ (Syntax.tyStruct (List._∷_ 38 (List._∷_ 91 (List._∷_ 93 List.[]))) (Syntax.tcons (Syntax.tyRef Syntax.erased Syntax.mut (Syntax.tyInt Syntax.w8)) (Syntax.tcons (Syntax.tyInt Syntax.w64) Syntax.tnil))) (List._∷_ (Syntax.tyRef Syntax.erased Syntax.mut (Syntax.tyInt Syntax.w8)) (List._∷_ (Syntax.tyStruct (List._∷_ 38 (List._∷_ 91 (List._∷_ 93 List.[]))) (Syntax.tcons (Syntax.tyRef Syntax.erased Syntax.mut (Syntax.tyInt Syntax.w8)) (Syntax.tcons (Syntax.tyInt Syntax.w64) Syntax.tnil))) List.[]))))))))
+xs = List._∷_ (Syntax.tyArray (Syntax.tyInt Syntax.w8) 4) (List._∷_ (Syntax.tyArray (Syntax.tyInt Syntax.w8) 4) (List._∷_ Laws''.mir (List._∷_ (Syntax.tyRef Syntax.erased Syntax.mut (Memory·T.pointee (Client·T.the-row .written))) (List._∷_ (Syntax.tyStruct (List._∷_ 38 (List._∷_ 91 (List._∷_ 93 List.[]))) (Syntax.tcons (Syntax.tyRef Syntax.erased Syntax.mut (Memory·T.pointee (Client·T.the-row .written))) (Syntax.tcons (Syntax.tyInt Syntax.w64) Syntax.tnil))) (List._∷_ (Syntax.tyRef Syntax.erased Syntax.mut (Syntax.tyInt Syntax.w8)) (List._∷_ (Syntax.tyStruct (List._∷_ 38 (List._∷_ 91 (List._∷_ 93 List.[]))) (Syntax.tcons (Syntax.tyRef Syntax.erased Syntax.mut (Syntax.tyInt Syntax.w8)) (Syntax.tcons (Syntax.tyInt Syntax.w64) Syntax.tnil))) (List._∷_ (Syntax.tyRef Syntax.erased Syntax.mut (Syntax.tyInt Syntax.w8)) (List._∷_ (Syntax.tyStruct (List._∷_ 38 (List._∷_ 91 (List._∷_ 93 List.[]))) (Syntax.tcons (Syntax.tyRef Syntax.erased Syntax.mut (Syntax.tyInt Syntax.w8)) (Syntax.tcons (Syntax.tyInt Syntax.w64) Syntax.tnil))) List.[]))))))))
 
 abbrev pub m : Nat.ℕ
 m = 3
@@ -83,13 +83,13 @@ abbrev pub ps·0 : List.List (Kinds.PK 4)
 ps·0 = List._∷_ (MutSlice.pMutS Client·T.the-row 0 tt) (List._∷_ (MutSlice.pMutS (Referent.rtF (Referent.fInt Syntax.w8)) 1 tt) (List._∷_ (Num.pNum Syntax.w64) (List._∷_ (Num.pNum Syntax.w64) (List._∷_ (Array.pArr (Array.eInt Syntax.w8) (Array.eInt-laws Syntax.w8) 4) (List._∷_ (Array.pArr (Array.eInt Syntax.w8) (Array.eInt-laws Syntax.w8) 4) (List._∷_ (ShrSlice.pShrS (Referent.rtF (Referent.fInt Syntax.w8)) 2 tt) (List._∷_ (MutSlice.pMutS (Referent.rtF (Referent.fInt Syntax.w8)) 3 tt) List.[])))))))
 
 abbrev pub r·0 : Kinds.RK 4
-r·0 = Value.rVal record { ty = Declared.row Received.the-type; one = Path'.refl; val = Laws'3.val Received.the-type Laws.the-laws; tells = Laws'3.tells Received.the-type Laws.the-laws; still = Laws'3.still Received.the-type Laws.the-copy Exit.yes; row = Rows'.whole (Declared.row Received.the-type); rd = λ x. x; mk = λ x. x } λ M 𝓤 H A W. record { copies = Laws'3.copy Received.the-type Laws.the-copy 𝓤 H A W; lawful = Laws'3.lawful Received.the-type Laws.the-laws 𝓤 H A W tt; makes = Laws'3.makes Received.the-type Laws.the-plain 𝓤 H A; in-mem = Local.mem-whole 𝓤 H A W (Declared.row Received.the-type); of-mem = Local.whole-mem 𝓤 H A W (Declared.row Received.the-type) }
+r·0 = Value.rVal record { ty = Declared.row Received'.the-type; one = Path'.refl; val = Laws'3.val Received'.the-type Laws''.the-laws; tells = Laws'3.tells Received'.the-type Laws''.the-laws; still = Laws'3.still Received'.the-type Laws''.the-copy Exit.yes; row = Rows'.whole (Declared.row Received'.the-type); rd = λ x. x; mk = λ x. x } λ M 𝓤 H A W. record { copies = Laws'3.copy Received'.the-type Laws''.the-copy 𝓤 H A W; lawful = Laws'3.lawful Received'.the-type Laws''.the-laws 𝓤 H A W tt; makes = Laws'3.makes Received'.the-type Laws''.the-plain 𝓤 H A; in-mem = Local.mem-whole 𝓤 H A W (Declared.row Received'.the-type); of-mem = Local.whole-mem 𝓤 H A W (Declared.row Received'.the-type) }
 
 abbrev pub ps·1 : List.List (Kinds.PK 0)
-ps·1 = List._∷_ (Value.pVal record { ty = Declared.row Received.the-type; one = Path'.refl; val = Laws'3.val Received.the-type Laws.the-laws; tells = Laws'3.tells Received.the-type Laws.the-laws; still = Laws'3.still Received.the-type Laws.the-copy Exit.yes; row = Rows'.whole (Declared.row Received.the-type); rd = λ x. x; mk = λ x. x } λ M 𝓤 H A W. record { copies = Laws'3.copy Received.the-type Laws.the-copy 𝓤 H A W; lawful = Laws'3.lawful Received.the-type Laws.the-laws 𝓤 H A W tt; makes = Laws'3.makes Received.the-type Laws.the-plain 𝓤 H A; in-mem = Local.mem-whole 𝓤 H A W (Declared.row Received.the-type); of-mem = Local.whole-mem 𝓤 H A W (Declared.row Received.the-type) }) List.[]
+ps·1 = List._∷_ (Value.pVal record { ty = Declared.row Received'.the-type; one = Path'.refl; val = Laws'3.val Received'.the-type Laws''.the-laws; tells = Laws'3.tells Received'.the-type Laws''.the-laws; still = Laws'3.still Received'.the-type Laws''.the-copy Exit.yes; row = Rows'.whole (Declared.row Received'.the-type); rd = λ x. x; mk = λ x. x } λ M 𝓤 H A W. record { copies = Laws'3.copy Received'.the-type Laws''.the-copy 𝓤 H A W; lawful = Laws'3.lawful Received'.the-type Laws''.the-laws 𝓤 H A W tt; makes = Laws'3.makes Received'.the-type Laws''.the-plain 𝓤 H A; in-mem = Local.mem-whole 𝓤 H A W (Declared.row Received'.the-type); of-mem = Local.whole-mem 𝓤 H A W (Declared.row Received'.the-type) }) List.[]
 
 abbrev pub r·1 : Kinds.RK 0
-r·1 = Value.rVal record { ty = Declared'.row Received'.the-type; one = Path'.refl; val = Laws'4.val Received'.the-type Laws''.the-laws; tells = Laws'4.tells Received'.the-type Laws''.the-laws; still = Laws'4.still Received'.the-type Laws''.the-copy Exit.yes; row = Rows'.whole (Declared'.row Received'.the-type); rd = λ x. x; mk = λ x. x } λ M 𝓤 H A W. record { copies = Laws'4.copy Received'.the-type Laws''.the-copy 𝓤 H A W; lawful = Laws'4.lawful Received'.the-type Laws''.the-laws 𝓤 H A W; makes = Laws'4.makes Received'.the-type Laws''.the-plain 𝓤 H A; in-mem = Local.mem-whole 𝓤 H A W (Declared'.row Received'.the-type); of-mem = Local.whole-mem 𝓤 H A W (Declared'.row Received'.the-type) }
+r·1 = Value.rVal record { ty = Declared'.row Received.the-type; one = Path'.refl; val = Laws'4.val Received.the-type Laws'.the-laws; tells = Laws'4.tells Received.the-type Laws'.the-laws; still = Laws'4.still Received.the-type Laws'.the-copy Exit.yes; row = Rows'.whole (Declared'.row Received.the-type); rd = λ x. x; mk = λ x. x } λ M 𝓤 H A W. record { copies = Laws'4.copy Received.the-type Laws'.the-copy 𝓤 H A W; lawful = Laws'4.lawful Received.the-type Laws'.the-laws 𝓤 H A W; makes = Laws'4.makes Received.the-type Laws'.the-plain 𝓤 H A; in-mem = Local.mem-whole 𝓤 H A W (Declared'.row Received.the-type); of-mem = Local.whole-mem 𝓤 H A W (Declared'.row Received.the-type) }
 
 abbrev pub hs : List.List Syntax.Home
 hs = List._∷_ Syntax.valueLocal (List._∷_ Syntax.valueLocal (List._∷_ Syntax.valueLocal (List._∷_ Syntax.valueLocal (List._∷_ Syntax.valueLocal (List._∷_ Syntax.valueLocal (List._∷_ Syntax.valueLocal (List._∷_ Syntax.valueLocal (List._∷_ Syntax.valueLocal (List._∷_ Syntax.valueLocal (List._∷_ Syntax.valueLocal (List._∷_ Syntax.valueLocal (List._∷_ Syntax.valueLocal (List._∷_ Syntax.valueLocal (List._∷_ Syntax.valueLocal (List._∷_ Syntax.valueLocal (List._∷_ Syntax.valueLocal (List._∷_ Syntax.valueLocal List.[])))))))))))))))))
@@ -164,40 +164,40 @@ abbrev pub Claims : Type 1
 Claims = Kinds.In 4 ps·0 × Kinds.Out 4 ps·0 r·0 × Kinds.In 0 ps·1 × Kinds.Out 0 ps·1 r·1
 
 abbrev pub t0 : List.List Row.Entry
-t0 = List._∷_ (0, Rows'.any-gone Laws''.mir) (List._∷_ (1, Mut.mslice Client·T.the-row (Syntax.tyRef (Syntax.named 0) Syntax.mut (Memory·T.pointee (Client·T.the-row .written))) 0) (List._∷_ (2, Mut.mslice (Referent.rtF (Referent.fInt Syntax.w8)) (Syntax.tyRef (Syntax.named 1) Syntax.mut (Syntax.tyInt Syntax.w8)) 1) (List._∷_ (3, Rows'.sc-here (Row.sInt Syntax.w64)) (List._∷_ (4, Rows'.sc-here (Row.sInt Syntax.w64)) (List._∷_ (5, Rows'.whole (Declared'.row Address.the-type)) (List._∷_ (6, Rows'.whole (Declared'.row Address.the-type)) (List._∷_ (7, Rows'.sslice (Referent.rtF (Referent.fInt Syntax.w8)) (Syntax.tyRef (Syntax.named 2) Syntax.imm (Syntax.tyInt Syntax.w8)) 2) (List._∷_ (8, Mut.mslice (Referent.rtF (Referent.fInt Syntax.w8)) (Syntax.tyRef (Syntax.named 3) Syntax.mut (Syntax.tyInt Syntax.w8)) 3) (List._∷_ (9, Rows'.any-gone (Syntax.tyArray (Syntax.tyInt Syntax.w8) 4)) (List._∷_ (10, Rows'.any-gone (Syntax.tyArray (Syntax.tyInt Syntax.w8) 4)) (List._∷_ (11, Rows'.any-gone Laws.mir) (List._∷_ (12, Rows'.any-gone (Syntax.tyRef Syntax.erased Syntax.mut (Memory·T.pointee (Client·T.the-row .written)))) (List._∷_ (13, Rows'.any-gone (Syntax.tyStruct (List._∷_ 38 (List._∷_ 91 (List._∷_ 93 List.[]))) (Syntax.tcons (Syntax.tyRef Syntax.erased Syntax.mut (Memory·T.pointee (Client·T.the-row .written))) (Syntax.tcons (Syntax.tyInt Syntax.w64) Syntax.tnil)))) (List._∷_ (14, Rows'.any-gone (Syntax.tyRef Syntax.erased Syntax.mut (Syntax.tyInt Syntax.w8))) (List._∷_ (15, Rows'.any-gone (Syntax.tyStruct (List._∷_ 38 (List._∷_ 91 (List._∷_ 93 List.[]))) (Syntax.tcons (Syntax.tyRef Syntax.erased Syntax.mut (Syntax.tyInt Syntax.w8)) (Syntax.tcons (Syntax.tyInt Syntax.w64) Syntax.tnil)))) List.[])))))))))))))))
+t0 = List._∷_ (0, Rows'.any-gone Laws'.mir) (List._∷_ (1, Mut.mslice Client·T.the-row (Syntax.tyRef (Syntax.named 0) Syntax.mut (Memory·T.pointee (Client·T.the-row .written))) 0) (List._∷_ (2, Mut.mslice (Referent.rtF (Referent.fInt Syntax.w8)) (Syntax.tyRef (Syntax.named 1) Syntax.mut (Syntax.tyInt Syntax.w8)) 1) (List._∷_ (3, Rows'.sc-here (Row.sInt Syntax.w64)) (List._∷_ (4, Rows'.sc-here (Row.sInt Syntax.w64)) (List._∷_ (5, Rows'.whole (Declared'.row Address.the-type)) (List._∷_ (6, Rows'.whole (Declared'.row Address.the-type)) (List._∷_ (7, Rows'.sslice (Referent.rtF (Referent.fInt Syntax.w8)) (Syntax.tyRef (Syntax.named 2) Syntax.imm (Syntax.tyInt Syntax.w8)) 2) (List._∷_ (8, Mut.mslice (Referent.rtF (Referent.fInt Syntax.w8)) (Syntax.tyRef (Syntax.named 3) Syntax.mut (Syntax.tyInt Syntax.w8)) 3) (List._∷_ (9, Rows'.any-gone (Syntax.tyArray (Syntax.tyInt Syntax.w8) 4)) (List._∷_ (10, Rows'.any-gone (Syntax.tyArray (Syntax.tyInt Syntax.w8) 4)) (List._∷_ (11, Rows'.any-gone Laws''.mir) (List._∷_ (12, Rows'.any-gone (Syntax.tyRef Syntax.erased Syntax.mut (Memory·T.pointee (Client·T.the-row .written)))) (List._∷_ (13, Rows'.any-gone (Syntax.tyStruct (List._∷_ 38 (List._∷_ 91 (List._∷_ 93 List.[]))) (Syntax.tcons (Syntax.tyRef Syntax.erased Syntax.mut (Memory·T.pointee (Client·T.the-row .written))) (Syntax.tcons (Syntax.tyInt Syntax.w64) Syntax.tnil)))) (List._∷_ (14, Rows'.any-gone (Syntax.tyRef Syntax.erased Syntax.mut (Syntax.tyInt Syntax.w8))) (List._∷_ (15, Rows'.any-gone (Syntax.tyStruct (List._∷_ 38 (List._∷_ 91 (List._∷_ 93 List.[]))) (Syntax.tcons (Syntax.tyRef Syntax.erased Syntax.mut (Syntax.tyInt Syntax.w8)) (Syntax.tcons (Syntax.tyInt Syntax.w64) Syntax.tnil)))) List.[])))))))))))))))
 
 abbrev pub t1 : List.List Row.Entry
 t1 = List._∷_ (16, Rows'.any-gone (Syntax.tyRef Syntax.erased Syntax.mut (Syntax.tyInt Syntax.w8))) (List._∷_ (17, Rows'.any-gone (Syntax.tyStruct (List._∷_ 38 (List._∷_ 91 (List._∷_ 93 List.[]))) (Syntax.tcons (Syntax.tyRef Syntax.erased Syntax.mut (Syntax.tyInt Syntax.w8)) (Syntax.tcons (Syntax.tyInt Syntax.w64) Syntax.tnil)))) List.[])
 
 abbrev pub t2 : List.List Row.Entry
-t2 = List._∷_ (0, Rows'.whole (Declared'.row Received'.the-type)) (List._∷_ (1, Mut.mslice Client·T.the-row (Syntax.tyRef (Syntax.named 0) Syntax.mut (Memory·T.pointee (Client·T.the-row .written))) 0) (List._∷_ (2, Mut.mslice (Referent.rtF (Referent.fInt Syntax.w8)) (Syntax.tyRef (Syntax.named 1) Syntax.mut (Syntax.tyInt Syntax.w8)) 1) (List._∷_ (3, Rows'.any-gone (Syntax.tyInt Syntax.w64)) (List._∷_ (4, Rows'.any-gone (Syntax.tyInt Syntax.w64)) (List._∷_ (5, Rows'.any-gone Laws'.mir) (List._∷_ (6, Rows'.any-gone Laws'.mir) (List._∷_ (7, Rows'.sslice (Referent.rtF (Referent.fInt Syntax.w8)) (Syntax.tyRef (Syntax.named 2) Syntax.imm (Syntax.tyInt Syntax.w8)) 2) (List._∷_ (8, Mut.mslice (Referent.rtF (Referent.fInt Syntax.w8)) (Syntax.tyRef (Syntax.named 3) Syntax.mut (Syntax.tyInt Syntax.w8)) 3) (List._∷_ (9, Rows'.any-gone (Syntax.tyArray (Syntax.tyInt Syntax.w8) 4)) (List._∷_ (10, Rows'.any-gone (Syntax.tyArray (Syntax.tyInt Syntax.w8) 4)) (List._∷_ (11, Rows'.any-gone Laws.mir) (List._∷_ (12, Rows'.any-gone (Syntax.tyRef Syntax.erased Syntax.mut (Memory·T.pointee (Client·T.the-row .written)))) (List._∷_ (13, Rows'.any-gone (Syntax.tyStruct (List._∷_ 38 (List._∷_ 91 (List._∷_ 93 List.[]))) (Syntax.tcons (Syntax.tyRef Syntax.erased Syntax.mut (Memory·T.pointee (Client·T.the-row .written))) (Syntax.tcons (Syntax.tyInt Syntax.w64) Syntax.tnil)))) (List._∷_ (14, Rows'.any-gone (Syntax.tyRef Syntax.erased Syntax.mut (Syntax.tyInt Syntax.w8))) (List._∷_ (15, Rows'.any-gone (Syntax.tyStruct (List._∷_ 38 (List._∷_ 91 (List._∷_ 93 List.[]))) (Syntax.tcons (Syntax.tyRef Syntax.erased Syntax.mut (Syntax.tyInt Syntax.w8)) (Syntax.tcons (Syntax.tyInt Syntax.w64) Syntax.tnil)))) List.[])))))))))))))))
+t2 = List._∷_ (0, Rows'.whole (Declared'.row Received.the-type)) (List._∷_ (1, Mut.mslice Client·T.the-row (Syntax.tyRef (Syntax.named 0) Syntax.mut (Memory·T.pointee (Client·T.the-row .written))) 0) (List._∷_ (2, Mut.mslice (Referent.rtF (Referent.fInt Syntax.w8)) (Syntax.tyRef (Syntax.named 1) Syntax.mut (Syntax.tyInt Syntax.w8)) 1) (List._∷_ (3, Rows'.any-gone (Syntax.tyInt Syntax.w64)) (List._∷_ (4, Rows'.any-gone (Syntax.tyInt Syntax.w64)) (List._∷_ (5, Rows'.any-gone Laws.mir) (List._∷_ (6, Rows'.any-gone Laws.mir) (List._∷_ (7, Rows'.sslice (Referent.rtF (Referent.fInt Syntax.w8)) (Syntax.tyRef (Syntax.named 2) Syntax.imm (Syntax.tyInt Syntax.w8)) 2) (List._∷_ (8, Mut.mslice (Referent.rtF (Referent.fInt Syntax.w8)) (Syntax.tyRef (Syntax.named 3) Syntax.mut (Syntax.tyInt Syntax.w8)) 3) (List._∷_ (9, Rows'.any-gone (Syntax.tyArray (Syntax.tyInt Syntax.w8) 4)) (List._∷_ (10, Rows'.any-gone (Syntax.tyArray (Syntax.tyInt Syntax.w8) 4)) (List._∷_ (11, Rows'.any-gone Laws''.mir) (List._∷_ (12, Rows'.any-gone (Syntax.tyRef Syntax.erased Syntax.mut (Memory·T.pointee (Client·T.the-row .written)))) (List._∷_ (13, Rows'.any-gone (Syntax.tyStruct (List._∷_ 38 (List._∷_ 91 (List._∷_ 93 List.[]))) (Syntax.tcons (Syntax.tyRef Syntax.erased Syntax.mut (Memory·T.pointee (Client·T.the-row .written))) (Syntax.tcons (Syntax.tyInt Syntax.w64) Syntax.tnil)))) (List._∷_ (14, Rows'.any-gone (Syntax.tyRef Syntax.erased Syntax.mut (Syntax.tyInt Syntax.w8))) (List._∷_ (15, Rows'.any-gone (Syntax.tyStruct (List._∷_ 38 (List._∷_ 91 (List._∷_ 93 List.[]))) (Syntax.tcons (Syntax.tyRef Syntax.erased Syntax.mut (Syntax.tyInt Syntax.w8)) (Syntax.tcons (Syntax.tyInt Syntax.w64) Syntax.tnil)))) List.[])))))))))))))))
 
 abbrev pub t3 : List.List Row.Entry
-t3 = List._∷_ (0, Rows'.any-gone Laws''.mir) (List._∷_ (1, Mut.mslice Client·T.the-row (Syntax.tyRef (Syntax.named 0) Syntax.mut (Memory·T.pointee (Client·T.the-row .written))) 0) (List._∷_ (2, Mut.mslice (Referent.rtF (Referent.fInt Syntax.w8)) (Syntax.tyRef (Syntax.named 1) Syntax.mut (Syntax.tyInt Syntax.w8)) 1) (List._∷_ (3, Rows'.sc-here (Row.sInt Syntax.w64)) (List._∷_ (4, Rows'.sc-here (Row.sInt Syntax.w64)) (List._∷_ (5, Rows'.whole (Declared'.row Address.the-type)) (List._∷_ (6, Rows'.whole (Declared'.row Address.the-type)) (List._∷_ (7, Rows'.sslice (Referent.rtF (Referent.fInt Syntax.w8)) (Syntax.tyRef (Syntax.named 2) Syntax.imm (Syntax.tyInt Syntax.w8)) 2) (List._∷_ (8, Mut.mslice (Referent.rtF (Referent.fInt Syntax.w8)) (Syntax.tyRef (Syntax.named 3) Syntax.mut (Syntax.tyInt Syntax.w8)) 3) (List._∷_ (9, Rows.arrF (Referent.rtF (Referent.fInt Syntax.w8)) 4 0) (List._∷_ (10, Rows'.any-gone (Syntax.tyArray (Syntax.tyInt Syntax.w8) 4)) (List._∷_ (11, Rows'.any-gone Laws.mir) (List._∷_ (12, Rows'.any-gone (Syntax.tyRef Syntax.erased Syntax.mut (Memory·T.pointee (Client·T.the-row .written)))) (List._∷_ (13, Rows'.any-gone (Syntax.tyStruct (List._∷_ 38 (List._∷_ 91 (List._∷_ 93 List.[]))) (Syntax.tcons (Syntax.tyRef Syntax.erased Syntax.mut (Memory·T.pointee (Client·T.the-row .written))) (Syntax.tcons (Syntax.tyInt Syntax.w64) Syntax.tnil)))) (List._∷_ (14, Rows'.any-gone (Syntax.tyRef Syntax.erased Syntax.mut (Syntax.tyInt Syntax.w8))) (List._∷_ (15, Rows'.any-gone (Syntax.tyStruct (List._∷_ 38 (List._∷_ 91 (List._∷_ 93 List.[]))) (Syntax.tcons (Syntax.tyRef Syntax.erased Syntax.mut (Syntax.tyInt Syntax.w8)) (Syntax.tcons (Syntax.tyInt Syntax.w64) Syntax.tnil)))) List.[])))))))))))))))
+t3 = List._∷_ (0, Rows'.any-gone Laws'.mir) (List._∷_ (1, Mut.mslice Client·T.the-row (Syntax.tyRef (Syntax.named 0) Syntax.mut (Memory·T.pointee (Client·T.the-row .written))) 0) (List._∷_ (2, Mut.mslice (Referent.rtF (Referent.fInt Syntax.w8)) (Syntax.tyRef (Syntax.named 1) Syntax.mut (Syntax.tyInt Syntax.w8)) 1) (List._∷_ (3, Rows'.sc-here (Row.sInt Syntax.w64)) (List._∷_ (4, Rows'.sc-here (Row.sInt Syntax.w64)) (List._∷_ (5, Rows'.whole (Declared'.row Address.the-type)) (List._∷_ (6, Rows'.whole (Declared'.row Address.the-type)) (List._∷_ (7, Rows'.sslice (Referent.rtF (Referent.fInt Syntax.w8)) (Syntax.tyRef (Syntax.named 2) Syntax.imm (Syntax.tyInt Syntax.w8)) 2) (List._∷_ (8, Mut.mslice (Referent.rtF (Referent.fInt Syntax.w8)) (Syntax.tyRef (Syntax.named 3) Syntax.mut (Syntax.tyInt Syntax.w8)) 3) (List._∷_ (9, Rows.arrF (Referent.rtF (Referent.fInt Syntax.w8)) 4 0) (List._∷_ (10, Rows'.any-gone (Syntax.tyArray (Syntax.tyInt Syntax.w8) 4)) (List._∷_ (11, Rows'.any-gone Laws''.mir) (List._∷_ (12, Rows'.any-gone (Syntax.tyRef Syntax.erased Syntax.mut (Memory·T.pointee (Client·T.the-row .written)))) (List._∷_ (13, Rows'.any-gone (Syntax.tyStruct (List._∷_ 38 (List._∷_ 91 (List._∷_ 93 List.[]))) (Syntax.tcons (Syntax.tyRef Syntax.erased Syntax.mut (Memory·T.pointee (Client·T.the-row .written))) (Syntax.tcons (Syntax.tyInt Syntax.w64) Syntax.tnil)))) (List._∷_ (14, Rows'.any-gone (Syntax.tyRef Syntax.erased Syntax.mut (Syntax.tyInt Syntax.w8))) (List._∷_ (15, Rows'.any-gone (Syntax.tyStruct (List._∷_ 38 (List._∷_ 91 (List._∷_ 93 List.[]))) (Syntax.tcons (Syntax.tyRef Syntax.erased Syntax.mut (Syntax.tyInt Syntax.w8)) (Syntax.tcons (Syntax.tyInt Syntax.w64) Syntax.tnil)))) List.[])))))))))))))))
 
 abbrev pub t4 : List.List Row.Entry
-t4 = List._∷_ (0, Rows'.any-gone Laws''.mir) (List._∷_ (1, Mut.mslice Client·T.the-row (Syntax.tyRef (Syntax.named 0) Syntax.mut (Memory·T.pointee (Client·T.the-row .written))) 0) (List._∷_ (2, Mut.mslice (Referent.rtF (Referent.fInt Syntax.w8)) (Syntax.tyRef (Syntax.named 1) Syntax.mut (Syntax.tyInt Syntax.w8)) 1) (List._∷_ (3, Rows'.sc-here (Row.sInt Syntax.w64)) (List._∷_ (4, Rows'.sc-here (Row.sInt Syntax.w64)) (List._∷_ (5, Rows'.any-gone Laws'.mir) (List._∷_ (6, Rows'.whole (Declared'.row Address.the-type)) (List._∷_ (7, Rows'.sslice (Referent.rtF (Referent.fInt Syntax.w8)) (Syntax.tyRef (Syntax.named 2) Syntax.imm (Syntax.tyInt Syntax.w8)) 2) (List._∷_ (8, Mut.mslice (Referent.rtF (Referent.fInt Syntax.w8)) (Syntax.tyRef (Syntax.named 3) Syntax.mut (Syntax.tyInt Syntax.w8)) 3) (List._∷_ (9, Rows.arrF (Referent.rtF (Referent.fInt Syntax.w8)) 4 0) (List._∷_ (10, Rows'.any-gone (Syntax.tyArray (Syntax.tyInt Syntax.w8) 4)) (List._∷_ (11, Rows'.any-gone Laws.mir) (List._∷_ (12, Rows'.any-gone (Syntax.tyRef Syntax.erased Syntax.mut (Memory·T.pointee (Client·T.the-row .written)))) (List._∷_ (13, Rows'.any-gone (Syntax.tyStruct (List._∷_ 38 (List._∷_ 91 (List._∷_ 93 List.[]))) (Syntax.tcons (Syntax.tyRef Syntax.erased Syntax.mut (Memory·T.pointee (Client·T.the-row .written))) (Syntax.tcons (Syntax.tyInt Syntax.w64) Syntax.tnil)))) (List._∷_ (14, Rows'.any-gone (Syntax.tyRef Syntax.erased Syntax.mut (Syntax.tyInt Syntax.w8))) (List._∷_ (15, Rows'.any-gone (Syntax.tyStruct (List._∷_ 38 (List._∷_ 91 (List._∷_ 93 List.[]))) (Syntax.tcons (Syntax.tyRef Syntax.erased Syntax.mut (Syntax.tyInt Syntax.w8)) (Syntax.tcons (Syntax.tyInt Syntax.w64) Syntax.tnil)))) List.[])))))))))))))))
+t4 = List._∷_ (0, Rows'.any-gone Laws'.mir) (List._∷_ (1, Mut.mslice Client·T.the-row (Syntax.tyRef (Syntax.named 0) Syntax.mut (Memory·T.pointee (Client·T.the-row .written))) 0) (List._∷_ (2, Mut.mslice (Referent.rtF (Referent.fInt Syntax.w8)) (Syntax.tyRef (Syntax.named 1) Syntax.mut (Syntax.tyInt Syntax.w8)) 1) (List._∷_ (3, Rows'.sc-here (Row.sInt Syntax.w64)) (List._∷_ (4, Rows'.sc-here (Row.sInt Syntax.w64)) (List._∷_ (5, Rows'.any-gone Laws.mir) (List._∷_ (6, Rows'.whole (Declared'.row Address.the-type)) (List._∷_ (7, Rows'.sslice (Referent.rtF (Referent.fInt Syntax.w8)) (Syntax.tyRef (Syntax.named 2) Syntax.imm (Syntax.tyInt Syntax.w8)) 2) (List._∷_ (8, Mut.mslice (Referent.rtF (Referent.fInt Syntax.w8)) (Syntax.tyRef (Syntax.named 3) Syntax.mut (Syntax.tyInt Syntax.w8)) 3) (List._∷_ (9, Rows.arrF (Referent.rtF (Referent.fInt Syntax.w8)) 4 0) (List._∷_ (10, Rows'.any-gone (Syntax.tyArray (Syntax.tyInt Syntax.w8) 4)) (List._∷_ (11, Rows'.any-gone Laws''.mir) (List._∷_ (12, Rows'.any-gone (Syntax.tyRef Syntax.erased Syntax.mut (Memory·T.pointee (Client·T.the-row .written)))) (List._∷_ (13, Rows'.any-gone (Syntax.tyStruct (List._∷_ 38 (List._∷_ 91 (List._∷_ 93 List.[]))) (Syntax.tcons (Syntax.tyRef Syntax.erased Syntax.mut (Memory·T.pointee (Client·T.the-row .written))) (Syntax.tcons (Syntax.tyInt Syntax.w64) Syntax.tnil)))) (List._∷_ (14, Rows'.any-gone (Syntax.tyRef Syntax.erased Syntax.mut (Syntax.tyInt Syntax.w8))) (List._∷_ (15, Rows'.any-gone (Syntax.tyStruct (List._∷_ 38 (List._∷_ 91 (List._∷_ 93 List.[]))) (Syntax.tcons (Syntax.tyRef Syntax.erased Syntax.mut (Syntax.tyInt Syntax.w8)) (Syntax.tcons (Syntax.tyInt Syntax.w64) Syntax.tnil)))) List.[])))))))))))))))
 
 abbrev pub t5 : List.List Row.Entry
-t5 = List._∷_ (0, Rows'.any-gone Laws''.mir) (List._∷_ (1, Mut.mslice Client·T.the-row (Syntax.tyRef (Syntax.named 0) Syntax.mut (Memory·T.pointee (Client·T.the-row .written))) 0) (List._∷_ (2, Mut.mslice (Referent.rtF (Referent.fInt Syntax.w8)) (Syntax.tyRef (Syntax.named 1) Syntax.mut (Syntax.tyInt Syntax.w8)) 1) (List._∷_ (3, Rows'.sc-here (Row.sInt Syntax.w64)) (List._∷_ (4, Rows'.sc-here (Row.sInt Syntax.w64)) (List._∷_ (5, Rows'.any-gone Laws'.mir) (List._∷_ (6, Rows'.whole (Declared'.row Address.the-type)) (List._∷_ (7, Rows'.sslice (Referent.rtF (Referent.fInt Syntax.w8)) (Syntax.tyRef (Syntax.named 2) Syntax.imm (Syntax.tyInt Syntax.w8)) 2) (List._∷_ (8, Mut.mslice (Referent.rtF (Referent.fInt Syntax.w8)) (Syntax.tyRef (Syntax.named 3) Syntax.mut (Syntax.tyInt Syntax.w8)) 3) (List._∷_ (9, Rows.arrF (Referent.rtF (Referent.fInt Syntax.w8)) 4 0) (List._∷_ (10, Rows.arrF (Referent.rtF (Referent.fInt Syntax.w8)) 4 0) (List._∷_ (11, Rows'.any-gone Laws.mir) (List._∷_ (12, Rows'.any-gone (Syntax.tyRef Syntax.erased Syntax.mut (Memory·T.pointee (Client·T.the-row .written)))) (List._∷_ (13, Rows'.any-gone (Syntax.tyStruct (List._∷_ 38 (List._∷_ 91 (List._∷_ 93 List.[]))) (Syntax.tcons (Syntax.tyRef Syntax.erased Syntax.mut (Memory·T.pointee (Client·T.the-row .written))) (Syntax.tcons (Syntax.tyInt Syntax.w64) Syntax.tnil)))) (List._∷_ (14, Rows'.any-gone (Syntax.tyRef Syntax.erased Syntax.mut (Syntax.tyInt Syntax.w8))) (List._∷_ (15, Rows'.any-gone (Syntax.tyStruct (List._∷_ 38 (List._∷_ 91 (List._∷_ 93 List.[]))) (Syntax.tcons (Syntax.tyRef Syntax.erased Syntax.mut (Syntax.tyInt Syntax.w8)) (Syntax.tcons (Syntax.tyInt Syntax.w64) Syntax.tnil)))) List.[])))))))))))))))
+t5 = List._∷_ (0, Rows'.any-gone Laws'.mir) (List._∷_ (1, Mut.mslice Client·T.the-row (Syntax.tyRef (Syntax.named 0) Syntax.mut (Memory·T.pointee (Client·T.the-row .written))) 0) (List._∷_ (2, Mut.mslice (Referent.rtF (Referent.fInt Syntax.w8)) (Syntax.tyRef (Syntax.named 1) Syntax.mut (Syntax.tyInt Syntax.w8)) 1) (List._∷_ (3, Rows'.sc-here (Row.sInt Syntax.w64)) (List._∷_ (4, Rows'.sc-here (Row.sInt Syntax.w64)) (List._∷_ (5, Rows'.any-gone Laws.mir) (List._∷_ (6, Rows'.whole (Declared'.row Address.the-type)) (List._∷_ (7, Rows'.sslice (Referent.rtF (Referent.fInt Syntax.w8)) (Syntax.tyRef (Syntax.named 2) Syntax.imm (Syntax.tyInt Syntax.w8)) 2) (List._∷_ (8, Mut.mslice (Referent.rtF (Referent.fInt Syntax.w8)) (Syntax.tyRef (Syntax.named 3) Syntax.mut (Syntax.tyInt Syntax.w8)) 3) (List._∷_ (9, Rows.arrF (Referent.rtF (Referent.fInt Syntax.w8)) 4 0) (List._∷_ (10, Rows.arrF (Referent.rtF (Referent.fInt Syntax.w8)) 4 0) (List._∷_ (11, Rows'.any-gone Laws''.mir) (List._∷_ (12, Rows'.any-gone (Syntax.tyRef Syntax.erased Syntax.mut (Memory·T.pointee (Client·T.the-row .written)))) (List._∷_ (13, Rows'.any-gone (Syntax.tyStruct (List._∷_ 38 (List._∷_ 91 (List._∷_ 93 List.[]))) (Syntax.tcons (Syntax.tyRef Syntax.erased Syntax.mut (Memory·T.pointee (Client·T.the-row .written))) (Syntax.tcons (Syntax.tyInt Syntax.w64) Syntax.tnil)))) (List._∷_ (14, Rows'.any-gone (Syntax.tyRef Syntax.erased Syntax.mut (Syntax.tyInt Syntax.w8))) (List._∷_ (15, Rows'.any-gone (Syntax.tyStruct (List._∷_ 38 (List._∷_ 91 (List._∷_ 93 List.[]))) (Syntax.tcons (Syntax.tyRef Syntax.erased Syntax.mut (Syntax.tyInt Syntax.w8)) (Syntax.tcons (Syntax.tyInt Syntax.w64) Syntax.tnil)))) List.[])))))))))))))))
 
 abbrev pub t6 : List.List Row.Entry
-t6 = List._∷_ (0, Rows'.any-gone Laws''.mir) (List._∷_ (1, Mut.mslice Client·T.the-row (Syntax.tyRef (Syntax.named 0) Syntax.mut (Memory·T.pointee (Client·T.the-row .written))) 0) (List._∷_ (2, Mut.mslice (Referent.rtF (Referent.fInt Syntax.w8)) (Syntax.tyRef (Syntax.named 1) Syntax.mut (Syntax.tyInt Syntax.w8)) 1) (List._∷_ (3, Rows'.sc-here (Row.sInt Syntax.w64)) (List._∷_ (4, Rows'.sc-here (Row.sInt Syntax.w64)) (List._∷_ (5, Rows'.any-gone Laws'.mir) (List._∷_ (6, Rows'.any-gone Laws'.mir) (List._∷_ (7, Rows'.sslice (Referent.rtF (Referent.fInt Syntax.w8)) (Syntax.tyRef (Syntax.named 2) Syntax.imm (Syntax.tyInt Syntax.w8)) 2) (List._∷_ (8, Mut.mslice (Referent.rtF (Referent.fInt Syntax.w8)) (Syntax.tyRef (Syntax.named 3) Syntax.mut (Syntax.tyInt Syntax.w8)) 3) (List._∷_ (9, Rows.arrF (Referent.rtF (Referent.fInt Syntax.w8)) 4 0) (List._∷_ (10, Rows.arrF (Referent.rtF (Referent.fInt Syntax.w8)) 4 0) (List._∷_ (11, Rows'.any-gone Laws.mir) (List._∷_ (12, Rows'.any-gone (Syntax.tyRef Syntax.erased Syntax.mut (Memory·T.pointee (Client·T.the-row .written)))) (List._∷_ (13, Rows'.any-gone (Syntax.tyStruct (List._∷_ 38 (List._∷_ 91 (List._∷_ 93 List.[]))) (Syntax.tcons (Syntax.tyRef Syntax.erased Syntax.mut (Memory·T.pointee (Client·T.the-row .written))) (Syntax.tcons (Syntax.tyInt Syntax.w64) Syntax.tnil)))) (List._∷_ (14, Rows'.any-gone (Syntax.tyRef Syntax.erased Syntax.mut (Syntax.tyInt Syntax.w8))) (List._∷_ (15, Rows'.any-gone (Syntax.tyStruct (List._∷_ 38 (List._∷_ 91 (List._∷_ 93 List.[]))) (Syntax.tcons (Syntax.tyRef Syntax.erased Syntax.mut (Syntax.tyInt Syntax.w8)) (Syntax.tcons (Syntax.tyInt Syntax.w64) Syntax.tnil)))) List.[])))))))))))))))
+t6 = List._∷_ (0, Rows'.any-gone Laws'.mir) (List._∷_ (1, Mut.mslice Client·T.the-row (Syntax.tyRef (Syntax.named 0) Syntax.mut (Memory·T.pointee (Client·T.the-row .written))) 0) (List._∷_ (2, Mut.mslice (Referent.rtF (Referent.fInt Syntax.w8)) (Syntax.tyRef (Syntax.named 1) Syntax.mut (Syntax.tyInt Syntax.w8)) 1) (List._∷_ (3, Rows'.sc-here (Row.sInt Syntax.w64)) (List._∷_ (4, Rows'.sc-here (Row.sInt Syntax.w64)) (List._∷_ (5, Rows'.any-gone Laws.mir) (List._∷_ (6, Rows'.any-gone Laws.mir) (List._∷_ (7, Rows'.sslice (Referent.rtF (Referent.fInt Syntax.w8)) (Syntax.tyRef (Syntax.named 2) Syntax.imm (Syntax.tyInt Syntax.w8)) 2) (List._∷_ (8, Mut.mslice (Referent.rtF (Referent.fInt Syntax.w8)) (Syntax.tyRef (Syntax.named 3) Syntax.mut (Syntax.tyInt Syntax.w8)) 3) (List._∷_ (9, Rows.arrF (Referent.rtF (Referent.fInt Syntax.w8)) 4 0) (List._∷_ (10, Rows.arrF (Referent.rtF (Referent.fInt Syntax.w8)) 4 0) (List._∷_ (11, Rows'.any-gone Laws''.mir) (List._∷_ (12, Rows'.any-gone (Syntax.tyRef Syntax.erased Syntax.mut (Memory·T.pointee (Client·T.the-row .written)))) (List._∷_ (13, Rows'.any-gone (Syntax.tyStruct (List._∷_ 38 (List._∷_ 91 (List._∷_ 93 List.[]))) (Syntax.tcons (Syntax.tyRef Syntax.erased Syntax.mut (Memory·T.pointee (Client·T.the-row .written))) (Syntax.tcons (Syntax.tyInt Syntax.w64) Syntax.tnil)))) (List._∷_ (14, Rows'.any-gone (Syntax.tyRef Syntax.erased Syntax.mut (Syntax.tyInt Syntax.w8))) (List._∷_ (15, Rows'.any-gone (Syntax.tyStruct (List._∷_ 38 (List._∷_ 91 (List._∷_ 93 List.[]))) (Syntax.tcons (Syntax.tyRef Syntax.erased Syntax.mut (Syntax.tyInt Syntax.w8)) (Syntax.tcons (Syntax.tyInt Syntax.w64) Syntax.tnil)))) List.[])))))))))))))))
 
 abbrev pub t7 : List.List Row.Entry
-t7 = List._∷_ (0, Rows'.any-gone Laws''.mir) (List._∷_ (1, Relend.mslice-owed Client·T.the-row (Syntax.tyRef (Syntax.named 0) Syntax.mut (Memory·T.pointee (Client·T.the-row .written))) 0 4 Row.off) (List._∷_ (2, Mut.mslice (Referent.rtF (Referent.fInt Syntax.w8)) (Syntax.tyRef (Syntax.named 1) Syntax.mut (Syntax.tyInt Syntax.w8)) 1) (List._∷_ (3, Rows'.sc-here (Row.sInt Syntax.w64)) (List._∷_ (4, Rows'.sc-here (Row.sInt Syntax.w64)) (List._∷_ (5, Rows'.any-gone Laws'.mir) (List._∷_ (6, Rows'.any-gone Laws'.mir) (List._∷_ (7, Rows'.sslice (Referent.rtF (Referent.fInt Syntax.w8)) (Syntax.tyRef (Syntax.named 2) Syntax.imm (Syntax.tyInt Syntax.w8)) 2) (List._∷_ (8, Mut.mslice (Referent.rtF (Referent.fInt Syntax.w8)) (Syntax.tyRef (Syntax.named 3) Syntax.mut (Syntax.tyInt Syntax.w8)) 3) (List._∷_ (9, Rows.arrF (Referent.rtF (Referent.fInt Syntax.w8)) 4 0) (List._∷_ (10, Rows.arrF (Referent.rtF (Referent.fInt Syntax.w8)) 4 0) (List._∷_ (11, Rows'.any-gone Laws.mir) (List._∷_ (12, Relend.msptr Client·T.the-row (Syntax.tyRef Syntax.erased Syntax.mut (Memory·T.pointee (Client·T.the-row .written))) 4) (List._∷_ (13, Rows'.any-gone (Syntax.tyStruct (List._∷_ 38 (List._∷_ 91 (List._∷_ 93 List.[]))) (Syntax.tcons (Syntax.tyRef Syntax.erased Syntax.mut (Memory·T.pointee (Client·T.the-row .written))) (Syntax.tcons (Syntax.tyInt Syntax.w64) Syntax.tnil)))) (List._∷_ (14, Rows'.any-gone (Syntax.tyRef Syntax.erased Syntax.mut (Syntax.tyInt Syntax.w8))) (List._∷_ (15, Rows'.any-gone (Syntax.tyStruct (List._∷_ 38 (List._∷_ 91 (List._∷_ 93 List.[]))) (Syntax.tcons (Syntax.tyRef Syntax.erased Syntax.mut (Syntax.tyInt Syntax.w8)) (Syntax.tcons (Syntax.tyInt Syntax.w64) Syntax.tnil)))) List.[])))))))))))))))
+t7 = List._∷_ (0, Rows'.any-gone Laws'.mir) (List._∷_ (1, Relend.mslice-owed Client·T.the-row (Syntax.tyRef (Syntax.named 0) Syntax.mut (Memory·T.pointee (Client·T.the-row .written))) 0 4 Row.off) (List._∷_ (2, Mut.mslice (Referent.rtF (Referent.fInt Syntax.w8)) (Syntax.tyRef (Syntax.named 1) Syntax.mut (Syntax.tyInt Syntax.w8)) 1) (List._∷_ (3, Rows'.sc-here (Row.sInt Syntax.w64)) (List._∷_ (4, Rows'.sc-here (Row.sInt Syntax.w64)) (List._∷_ (5, Rows'.any-gone Laws.mir) (List._∷_ (6, Rows'.any-gone Laws.mir) (List._∷_ (7, Rows'.sslice (Referent.rtF (Referent.fInt Syntax.w8)) (Syntax.tyRef (Syntax.named 2) Syntax.imm (Syntax.tyInt Syntax.w8)) 2) (List._∷_ (8, Mut.mslice (Referent.rtF (Referent.fInt Syntax.w8)) (Syntax.tyRef (Syntax.named 3) Syntax.mut (Syntax.tyInt Syntax.w8)) 3) (List._∷_ (9, Rows.arrF (Referent.rtF (Referent.fInt Syntax.w8)) 4 0) (List._∷_ (10, Rows.arrF (Referent.rtF (Referent.fInt Syntax.w8)) 4 0) (List._∷_ (11, Rows'.any-gone Laws''.mir) (List._∷_ (12, Relend.msptr Client·T.the-row (Syntax.tyRef Syntax.erased Syntax.mut (Memory·T.pointee (Client·T.the-row .written))) 4) (List._∷_ (13, Rows'.any-gone (Syntax.tyStruct (List._∷_ 38 (List._∷_ 91 (List._∷_ 93 List.[]))) (Syntax.tcons (Syntax.tyRef Syntax.erased Syntax.mut (Memory·T.pointee (Client·T.the-row .written))) (Syntax.tcons (Syntax.tyInt Syntax.w64) Syntax.tnil)))) (List._∷_ (14, Rows'.any-gone (Syntax.tyRef Syntax.erased Syntax.mut (Syntax.tyInt Syntax.w8))) (List._∷_ (15, Rows'.any-gone (Syntax.tyStruct (List._∷_ 38 (List._∷_ 91 (List._∷_ 93 List.[]))) (Syntax.tcons (Syntax.tyRef Syntax.erased Syntax.mut (Syntax.tyInt Syntax.w8)) (Syntax.tcons (Syntax.tyInt Syntax.w64) Syntax.tnil)))) List.[])))))))))))))))
 
 abbrev pub t8 : List.List Row.Entry
-t8 = List._∷_ (0, Rows'.any-gone Laws''.mir) (List._∷_ (1, Relend.mslice-owed Client·T.the-row (Syntax.tyRef (Syntax.named 0) Syntax.mut (Memory·T.pointee (Client·T.the-row .written))) 0 4 Row.off) (List._∷_ (2, Mut.mslice (Referent.rtF (Referent.fInt Syntax.w8)) (Syntax.tyRef (Syntax.named 1) Syntax.mut (Syntax.tyInt Syntax.w8)) 1) (List._∷_ (3, Rows'.sc-here (Row.sInt Syntax.w64)) (List._∷_ (4, Rows'.sc-here (Row.sInt Syntax.w64)) (List._∷_ (5, Rows'.any-gone Laws'.mir) (List._∷_ (6, Rows'.any-gone Laws'.mir) (List._∷_ (7, Rows'.sslice (Referent.rtF (Referent.fInt Syntax.w8)) (Syntax.tyRef (Syntax.named 2) Syntax.imm (Syntax.tyInt Syntax.w8)) 2) (List._∷_ (8, Mut.mslice (Referent.rtF (Referent.fInt Syntax.w8)) (Syntax.tyRef (Syntax.named 3) Syntax.mut (Syntax.tyInt Syntax.w8)) 3) (List._∷_ (9, Rows.arrF (Referent.rtF (Referent.fInt Syntax.w8)) 4 0) (List._∷_ (10, Rows.arrF (Referent.rtF (Referent.fInt Syntax.w8)) 4 0) (List._∷_ (11, Rows'.any-gone Laws.mir) (List._∷_ (12, Rows'.any-gone (Syntax.tyRef Syntax.erased Syntax.mut (Memory·T.pointee (Client·T.the-row .written)))) (List._∷_ (13, Mut.mslice Client·T.the-row (Syntax.tyRef Syntax.erased Syntax.mut (Memory·T.pointee (Client·T.the-row .written))) 4) (List._∷_ (14, Rows'.any-gone (Syntax.tyRef Syntax.erased Syntax.mut (Syntax.tyInt Syntax.w8))) (List._∷_ (15, Rows'.any-gone (Syntax.tyStruct (List._∷_ 38 (List._∷_ 91 (List._∷_ 93 List.[]))) (Syntax.tcons (Syntax.tyRef Syntax.erased Syntax.mut (Syntax.tyInt Syntax.w8)) (Syntax.tcons (Syntax.tyInt Syntax.w64) Syntax.tnil)))) List.[])))))))))))))))
+t8 = List._∷_ (0, Rows'.any-gone Laws'.mir) (List._∷_ (1, Relend.mslice-owed Client·T.the-row (Syntax.tyRef (Syntax.named 0) Syntax.mut (Memory·T.pointee (Client·T.the-row .written))) 0 4 Row.off) (List._∷_ (2, Mut.mslice (Referent.rtF (Referent.fInt Syntax.w8)) (Syntax.tyRef (Syntax.named 1) Syntax.mut (Syntax.tyInt Syntax.w8)) 1) (List._∷_ (3, Rows'.sc-here (Row.sInt Syntax.w64)) (List._∷_ (4, Rows'.sc-here (Row.sInt Syntax.w64)) (List._∷_ (5, Rows'.any-gone Laws.mir) (List._∷_ (6, Rows'.any-gone Laws.mir) (List._∷_ (7, Rows'.sslice (Referent.rtF (Referent.fInt Syntax.w8)) (Syntax.tyRef (Syntax.named 2) Syntax.imm (Syntax.tyInt Syntax.w8)) 2) (List._∷_ (8, Mut.mslice (Referent.rtF (Referent.fInt Syntax.w8)) (Syntax.tyRef (Syntax.named 3) Syntax.mut (Syntax.tyInt Syntax.w8)) 3) (List._∷_ (9, Rows.arrF (Referent.rtF (Referent.fInt Syntax.w8)) 4 0) (List._∷_ (10, Rows.arrF (Referent.rtF (Referent.fInt Syntax.w8)) 4 0) (List._∷_ (11, Rows'.any-gone Laws''.mir) (List._∷_ (12, Rows'.any-gone (Syntax.tyRef Syntax.erased Syntax.mut (Memory·T.pointee (Client·T.the-row .written)))) (List._∷_ (13, Mut.mslice Client·T.the-row (Syntax.tyRef Syntax.erased Syntax.mut (Memory·T.pointee (Client·T.the-row .written))) 4) (List._∷_ (14, Rows'.any-gone (Syntax.tyRef Syntax.erased Syntax.mut (Syntax.tyInt Syntax.w8))) (List._∷_ (15, Rows'.any-gone (Syntax.tyStruct (List._∷_ 38 (List._∷_ 91 (List._∷_ 93 List.[]))) (Syntax.tcons (Syntax.tyRef Syntax.erased Syntax.mut (Syntax.tyInt Syntax.w8)) (Syntax.tcons (Syntax.tyInt Syntax.w64) Syntax.tnil)))) List.[])))))))))))))))
 
 abbrev pub t9 : List.List Row.Entry
-t9 = List._∷_ (0, Rows'.any-gone Laws''.mir) (List._∷_ (1, Relend.mslice-owed Client·T.the-row (Syntax.tyRef (Syntax.named 0) Syntax.mut (Memory·T.pointee (Client·T.the-row .written))) 0 4 Row.off) (List._∷_ (2, Relend.mslice-owed (Referent.rtF (Referent.fInt Syntax.w8)) (Syntax.tyRef (Syntax.named 1) Syntax.mut (Syntax.tyInt Syntax.w8)) 1 5 Row.off) (List._∷_ (3, Rows'.sc-here (Row.sInt Syntax.w64)) (List._∷_ (4, Rows'.sc-here (Row.sInt Syntax.w64)) (List._∷_ (5, Rows'.any-gone Laws'.mir) (List._∷_ (6, Rows'.any-gone Laws'.mir) (List._∷_ (7, Rows'.sslice (Referent.rtF (Referent.fInt Syntax.w8)) (Syntax.tyRef (Syntax.named 2) Syntax.imm (Syntax.tyInt Syntax.w8)) 2) (List._∷_ (8, Mut.mslice (Referent.rtF (Referent.fInt Syntax.w8)) (Syntax.tyRef (Syntax.named 3) Syntax.mut (Syntax.tyInt Syntax.w8)) 3) (List._∷_ (9, Rows.arrF (Referent.rtF (Referent.fInt Syntax.w8)) 4 0) (List._∷_ (10, Rows.arrF (Referent.rtF (Referent.fInt Syntax.w8)) 4 0) (List._∷_ (11, Rows'.any-gone Laws.mir) (List._∷_ (12, Rows'.any-gone (Syntax.tyRef Syntax.erased Syntax.mut (Memory·T.pointee (Client·T.the-row .written)))) (List._∷_ (13, Mut.mslice Client·T.the-row (Syntax.tyRef Syntax.erased Syntax.mut (Memory·T.pointee (Client·T.the-row .written))) 4) (List._∷_ (14, Relend.msptr (Referent.rtF (Referent.fInt Syntax.w8)) (Syntax.tyRef Syntax.erased Syntax.mut (Syntax.tyInt Syntax.w8)) 5) (List._∷_ (15, Rows'.any-gone (Syntax.tyStruct (List._∷_ 38 (List._∷_ 91 (List._∷_ 93 List.[]))) (Syntax.tcons (Syntax.tyRef Syntax.erased Syntax.mut (Syntax.tyInt Syntax.w8)) (Syntax.tcons (Syntax.tyInt Syntax.w64) Syntax.tnil)))) List.[])))))))))))))))
+t9 = List._∷_ (0, Rows'.any-gone Laws'.mir) (List._∷_ (1, Relend.mslice-owed Client·T.the-row (Syntax.tyRef (Syntax.named 0) Syntax.mut (Memory·T.pointee (Client·T.the-row .written))) 0 4 Row.off) (List._∷_ (2, Relend.mslice-owed (Referent.rtF (Referent.fInt Syntax.w8)) (Syntax.tyRef (Syntax.named 1) Syntax.mut (Syntax.tyInt Syntax.w8)) 1 5 Row.off) (List._∷_ (3, Rows'.sc-here (Row.sInt Syntax.w64)) (List._∷_ (4, Rows'.sc-here (Row.sInt Syntax.w64)) (List._∷_ (5, Rows'.any-gone Laws.mir) (List._∷_ (6, Rows'.any-gone Laws.mir) (List._∷_ (7, Rows'.sslice (Referent.rtF (Referent.fInt Syntax.w8)) (Syntax.tyRef (Syntax.named 2) Syntax.imm (Syntax.tyInt Syntax.w8)) 2) (List._∷_ (8, Mut.mslice (Referent.rtF (Referent.fInt Syntax.w8)) (Syntax.tyRef (Syntax.named 3) Syntax.mut (Syntax.tyInt Syntax.w8)) 3) (List._∷_ (9, Rows.arrF (Referent.rtF (Referent.fInt Syntax.w8)) 4 0) (List._∷_ (10, Rows.arrF (Referent.rtF (Referent.fInt Syntax.w8)) 4 0) (List._∷_ (11, Rows'.any-gone Laws''.mir) (List._∷_ (12, Rows'.any-gone (Syntax.tyRef Syntax.erased Syntax.mut (Memory·T.pointee (Client·T.the-row .written)))) (List._∷_ (13, Mut.mslice Client·T.the-row (Syntax.tyRef Syntax.erased Syntax.mut (Memory·T.pointee (Client·T.the-row .written))) 4) (List._∷_ (14, Relend.msptr (Referent.rtF (Referent.fInt Syntax.w8)) (Syntax.tyRef Syntax.erased Syntax.mut (Syntax.tyInt Syntax.w8)) 5) (List._∷_ (15, Rows'.any-gone (Syntax.tyStruct (List._∷_ 38 (List._∷_ 91 (List._∷_ 93 List.[]))) (Syntax.tcons (Syntax.tyRef Syntax.erased Syntax.mut (Syntax.tyInt Syntax.w8)) (Syntax.tcons (Syntax.tyInt Syntax.w64) Syntax.tnil)))) List.[])))))))))))))))
 
 abbrev pub t10 : List.List Row.Entry
-t10 = List._∷_ (0, Rows'.any-gone Laws''.mir) (List._∷_ (1, Relend.mslice-owed Client·T.the-row (Syntax.tyRef (Syntax.named 0) Syntax.mut (Memory·T.pointee (Client·T.the-row .written))) 0 4 Row.off) (List._∷_ (2, Relend.mslice-owed (Referent.rtF (Referent.fInt Syntax.w8)) (Syntax.tyRef (Syntax.named 1) Syntax.mut (Syntax.tyInt Syntax.w8)) 1 5 Row.off) (List._∷_ (3, Rows'.sc-here (Row.sInt Syntax.w64)) (List._∷_ (4, Rows'.sc-here (Row.sInt Syntax.w64)) (List._∷_ (5, Rows'.any-gone Laws'.mir) (List._∷_ (6, Rows'.any-gone Laws'.mir) (List._∷_ (7, Rows'.sslice (Referent.rtF (Referent.fInt Syntax.w8)) (Syntax.tyRef (Syntax.named 2) Syntax.imm (Syntax.tyInt Syntax.w8)) 2) (List._∷_ (8, Mut.mslice (Referent.rtF (Referent.fInt Syntax.w8)) (Syntax.tyRef (Syntax.named 3) Syntax.mut (Syntax.tyInt Syntax.w8)) 3) (List._∷_ (9, Rows.arrF (Referent.rtF (Referent.fInt Syntax.w8)) 4 0) (List._∷_ (10, Rows.arrF (Referent.rtF (Referent.fInt Syntax.w8)) 4 0) (List._∷_ (11, Rows'.any-gone Laws.mir) (List._∷_ (12, Rows'.any-gone (Syntax.tyRef Syntax.erased Syntax.mut (Memory·T.pointee (Client·T.the-row .written)))) (List._∷_ (13, Mut.mslice Client·T.the-row (Syntax.tyRef Syntax.erased Syntax.mut (Memory·T.pointee (Client·T.the-row .written))) 4) (List._∷_ (14, Rows'.any-gone (Syntax.tyRef Syntax.erased Syntax.mut (Syntax.tyInt Syntax.w8))) (List._∷_ (15, Mut.mslice (Referent.rtF (Referent.fInt Syntax.w8)) (Syntax.tyRef Syntax.erased Syntax.mut (Syntax.tyInt Syntax.w8)) 5) List.[])))))))))))))))
+t10 = List._∷_ (0, Rows'.any-gone Laws'.mir) (List._∷_ (1, Relend.mslice-owed Client·T.the-row (Syntax.tyRef (Syntax.named 0) Syntax.mut (Memory·T.pointee (Client·T.the-row .written))) 0 4 Row.off) (List._∷_ (2, Relend.mslice-owed (Referent.rtF (Referent.fInt Syntax.w8)) (Syntax.tyRef (Syntax.named 1) Syntax.mut (Syntax.tyInt Syntax.w8)) 1 5 Row.off) (List._∷_ (3, Rows'.sc-here (Row.sInt Syntax.w64)) (List._∷_ (4, Rows'.sc-here (Row.sInt Syntax.w64)) (List._∷_ (5, Rows'.any-gone Laws.mir) (List._∷_ (6, Rows'.any-gone Laws.mir) (List._∷_ (7, Rows'.sslice (Referent.rtF (Referent.fInt Syntax.w8)) (Syntax.tyRef (Syntax.named 2) Syntax.imm (Syntax.tyInt Syntax.w8)) 2) (List._∷_ (8, Mut.mslice (Referent.rtF (Referent.fInt Syntax.w8)) (Syntax.tyRef (Syntax.named 3) Syntax.mut (Syntax.tyInt Syntax.w8)) 3) (List._∷_ (9, Rows.arrF (Referent.rtF (Referent.fInt Syntax.w8)) 4 0) (List._∷_ (10, Rows.arrF (Referent.rtF (Referent.fInt Syntax.w8)) 4 0) (List._∷_ (11, Rows'.any-gone Laws''.mir) (List._∷_ (12, Rows'.any-gone (Syntax.tyRef Syntax.erased Syntax.mut (Memory·T.pointee (Client·T.the-row .written)))) (List._∷_ (13, Mut.mslice Client·T.the-row (Syntax.tyRef Syntax.erased Syntax.mut (Memory·T.pointee (Client·T.the-row .written))) 4) (List._∷_ (14, Rows'.any-gone (Syntax.tyRef Syntax.erased Syntax.mut (Syntax.tyInt Syntax.w8))) (List._∷_ (15, Mut.mslice (Referent.rtF (Referent.fInt Syntax.w8)) (Syntax.tyRef Syntax.erased Syntax.mut (Syntax.tyInt Syntax.w8)) 5) List.[])))))))))))))))
 
 abbrev pub t11 : List.List Row.Entry
-t11 = List._∷_ (0, Rows'.any-gone Laws''.mir) (List._∷_ (1, Relend.mslice-owed Client·T.the-row (Syntax.tyRef (Syntax.named 0) Syntax.mut (Memory·T.pointee (Client·T.the-row .written))) 0 4 Row.off) (List._∷_ (2, Relend.mslice-owed (Referent.rtF (Referent.fInt Syntax.w8)) (Syntax.tyRef (Syntax.named 1) Syntax.mut (Syntax.tyInt Syntax.w8)) 1 5 Row.off) (List._∷_ (3, Rows'.sc-here (Row.sInt Syntax.w64)) (List._∷_ (4, Rows'.sc-here (Row.sInt Syntax.w64)) (List._∷_ (5, Rows'.any-gone Laws'.mir) (List._∷_ (6, Rows'.any-gone Laws'.mir) (List._∷_ (7, Rows'.sslice (Referent.rtF (Referent.fInt Syntax.w8)) (Syntax.tyRef (Syntax.named 2) Syntax.imm (Syntax.tyInt Syntax.w8)) 2) (List._∷_ (8, Relend.mslice-owed (Referent.rtF (Referent.fInt Syntax.w8)) (Syntax.tyRef (Syntax.named 3) Syntax.mut (Syntax.tyInt Syntax.w8)) 3 6 Row.off) (List._∷_ (9, Rows.arrF (Referent.rtF (Referent.fInt Syntax.w8)) 4 0) (List._∷_ (10, Rows.arrF (Referent.rtF (Referent.fInt Syntax.w8)) 4 0) (List._∷_ (11, Rows'.any-gone Laws.mir) (List._∷_ (12, Rows'.any-gone (Syntax.tyRef Syntax.erased Syntax.mut (Memory·T.pointee (Client·T.the-row .written)))) (List._∷_ (13, Mut.mslice Client·T.the-row (Syntax.tyRef Syntax.erased Syntax.mut (Memory·T.pointee (Client·T.the-row .written))) 4) (List._∷_ (14, Rows'.any-gone (Syntax.tyRef Syntax.erased Syntax.mut (Syntax.tyInt Syntax.w8))) (List._∷_ (15, Mut.mslice (Referent.rtF (Referent.fInt Syntax.w8)) (Syntax.tyRef Syntax.erased Syntax.mut (Syntax.tyInt Syntax.w8)) 5) List.[])))))))))))))))
+t11 = List._∷_ (0, Rows'.any-gone Laws'.mir) (List._∷_ (1, Relend.mslice-owed Client·T.the-row (Syntax.tyRef (Syntax.named 0) Syntax.mut (Memory·T.pointee (Client·T.the-row .written))) 0 4 Row.off) (List._∷_ (2, Relend.mslice-owed (Referent.rtF (Referent.fInt Syntax.w8)) (Syntax.tyRef (Syntax.named 1) Syntax.mut (Syntax.tyInt Syntax.w8)) 1 5 Row.off) (List._∷_ (3, Rows'.sc-here (Row.sInt Syntax.w64)) (List._∷_ (4, Rows'.sc-here (Row.sInt Syntax.w64)) (List._∷_ (5, Rows'.any-gone Laws.mir) (List._∷_ (6, Rows'.any-gone Laws.mir) (List._∷_ (7, Rows'.sslice (Referent.rtF (Referent.fInt Syntax.w8)) (Syntax.tyRef (Syntax.named 2) Syntax.imm (Syntax.tyInt Syntax.w8)) 2) (List._∷_ (8, Relend.mslice-owed (Referent.rtF (Referent.fInt Syntax.w8)) (Syntax.tyRef (Syntax.named 3) Syntax.mut (Syntax.tyInt Syntax.w8)) 3 6 Row.off) (List._∷_ (9, Rows.arrF (Referent.rtF (Referent.fInt Syntax.w8)) 4 0) (List._∷_ (10, Rows.arrF (Referent.rtF (Referent.fInt Syntax.w8)) 4 0) (List._∷_ (11, Rows'.any-gone Laws''.mir) (List._∷_ (12, Rows'.any-gone (Syntax.tyRef Syntax.erased Syntax.mut (Memory·T.pointee (Client·T.the-row .written)))) (List._∷_ (13, Mut.mslice Client·T.the-row (Syntax.tyRef Syntax.erased Syntax.mut (Memory·T.pointee (Client·T.the-row .written))) 4) (List._∷_ (14, Rows'.any-gone (Syntax.tyRef Syntax.erased Syntax.mut (Syntax.tyInt Syntax.w8))) (List._∷_ (15, Mut.mslice (Referent.rtF (Referent.fInt Syntax.w8)) (Syntax.tyRef Syntax.erased Syntax.mut (Syntax.tyInt Syntax.w8)) 5) List.[])))))))))))))))
 
 abbrev pub t12 : List.List Row.Entry
 t12 = List._∷_ (16, Relend.msptr (Referent.rtF (Referent.fInt Syntax.w8)) (Syntax.tyRef Syntax.erased Syntax.mut (Syntax.tyInt Syntax.w8)) 6) (List._∷_ (17, Rows'.any-gone (Syntax.tyStruct (List._∷_ 38 (List._∷_ 91 (List._∷_ 93 List.[]))) (Syntax.tcons (Syntax.tyRef Syntax.erased Syntax.mut (Syntax.tyInt Syntax.w8)) (Syntax.tcons (Syntax.tyInt Syntax.w64) Syntax.tnil)))) List.[])
@@ -206,34 +206,34 @@ abbrev pub t13 : List.List Row.Entry
 t13 = List._∷_ (16, Rows'.any-gone (Syntax.tyRef Syntax.erased Syntax.mut (Syntax.tyInt Syntax.w8))) (List._∷_ (17, Mut.mslice (Referent.rtF (Referent.fInt Syntax.w8)) (Syntax.tyRef Syntax.erased Syntax.mut (Syntax.tyInt Syntax.w8)) 6) List.[])
 
 abbrev pub t14 : List.List Row.Entry
-t14 = List._∷_ (0, Rows'.any-gone Laws''.mir) (List._∷_ (1, Relend.mslice-owed Client·T.the-row (Syntax.tyRef (Syntax.named 0) Syntax.mut (Memory·T.pointee (Client·T.the-row .written))) 0 4 Row.off) (List._∷_ (2, Relend.mslice-owed (Referent.rtF (Referent.fInt Syntax.w8)) (Syntax.tyRef (Syntax.named 1) Syntax.mut (Syntax.tyInt Syntax.w8)) 1 5 Row.off) (List._∷_ (3, Rows'.sc-here (Row.sInt Syntax.w64)) (List._∷_ (4, Rows'.sc-here (Row.sInt Syntax.w64)) (List._∷_ (5, Rows'.any-gone Laws'.mir) (List._∷_ (6, Rows'.any-gone Laws'.mir) (List._∷_ (7, Rows'.sslice (Referent.rtF (Referent.fInt Syntax.w8)) (Syntax.tyRef (Syntax.named 2) Syntax.imm (Syntax.tyInt Syntax.w8)) 2) (List._∷_ (8, Relend.mslice-owed (Referent.rtF (Referent.fInt Syntax.w8)) (Syntax.tyRef (Syntax.named 3) Syntax.mut (Syntax.tyInt Syntax.w8)) 3 6 Row.off) (List._∷_ (9, Rows.arrF (Referent.rtF (Referent.fInt Syntax.w8)) 4 0) (List._∷_ (10, Rows.arrF (Referent.rtF (Referent.fInt Syntax.w8)) 4 0) (List._∷_ (11, Rows'.whole (Declared.row Received.the-type)) (List._∷_ (12, Rows'.any-gone (Syntax.tyRef Syntax.erased Syntax.mut (Memory·T.pointee (Client·T.the-row .written)))) (List._∷_ (13, Mut.msleft Client·T.the-row (Syntax.tyRef Syntax.erased Syntax.mut (Memory·T.pointee (Client·T.the-row .written)))) (List._∷_ (14, Rows'.any-gone (Syntax.tyRef Syntax.erased Syntax.mut (Syntax.tyInt Syntax.w8))) (List._∷_ (15, Mut.msleft (Referent.rtF (Referent.fInt Syntax.w8)) (Syntax.tyRef Syntax.erased Syntax.mut (Syntax.tyInt Syntax.w8))) List.[])))))))))))))))
+t14 = List._∷_ (0, Rows'.any-gone Laws'.mir) (List._∷_ (1, Relend.mslice-owed Client·T.the-row (Syntax.tyRef (Syntax.named 0) Syntax.mut (Memory·T.pointee (Client·T.the-row .written))) 0 4 Row.off) (List._∷_ (2, Relend.mslice-owed (Referent.rtF (Referent.fInt Syntax.w8)) (Syntax.tyRef (Syntax.named 1) Syntax.mut (Syntax.tyInt Syntax.w8)) 1 5 Row.off) (List._∷_ (3, Rows'.sc-here (Row.sInt Syntax.w64)) (List._∷_ (4, Rows'.sc-here (Row.sInt Syntax.w64)) (List._∷_ (5, Rows'.any-gone Laws.mir) (List._∷_ (6, Rows'.any-gone Laws.mir) (List._∷_ (7, Rows'.sslice (Referent.rtF (Referent.fInt Syntax.w8)) (Syntax.tyRef (Syntax.named 2) Syntax.imm (Syntax.tyInt Syntax.w8)) 2) (List._∷_ (8, Relend.mslice-owed (Referent.rtF (Referent.fInt Syntax.w8)) (Syntax.tyRef (Syntax.named 3) Syntax.mut (Syntax.tyInt Syntax.w8)) 3 6 Row.off) (List._∷_ (9, Rows.arrF (Referent.rtF (Referent.fInt Syntax.w8)) 4 0) (List._∷_ (10, Rows.arrF (Referent.rtF (Referent.fInt Syntax.w8)) 4 0) (List._∷_ (11, Rows'.whole (Declared.row Received'.the-type)) (List._∷_ (12, Rows'.any-gone (Syntax.tyRef Syntax.erased Syntax.mut (Memory·T.pointee (Client·T.the-row .written)))) (List._∷_ (13, Mut.msleft Client·T.the-row (Syntax.tyRef Syntax.erased Syntax.mut (Memory·T.pointee (Client·T.the-row .written)))) (List._∷_ (14, Rows'.any-gone (Syntax.tyRef Syntax.erased Syntax.mut (Syntax.tyInt Syntax.w8))) (List._∷_ (15, Mut.msleft (Referent.rtF (Referent.fInt Syntax.w8)) (Syntax.tyRef Syntax.erased Syntax.mut (Syntax.tyInt Syntax.w8))) List.[])))))))))))))))
 
 abbrev pub t15 : List.List Row.Entry
 t15 = List._∷_ (16, Rows'.any-gone (Syntax.tyRef Syntax.erased Syntax.mut (Syntax.tyInt Syntax.w8))) (List._∷_ (17, Mut.msleft (Referent.rtF (Referent.fInt Syntax.w8)) (Syntax.tyRef Syntax.erased Syntax.mut (Syntax.tyInt Syntax.w8))) List.[])
 
 abbrev pub t16 : List.List Row.Entry
-t16 = List._∷_ (0, Rows'.any-gone Laws''.mir) (List._∷_ (1, Relend.mslice-owed Client·T.the-row (Syntax.tyRef (Syntax.named 0) Syntax.mut (Memory·T.pointee (Client·T.the-row .written))) 0 4 Row.off) (List._∷_ (2, Relend.mslice-owed (Referent.rtF (Referent.fInt Syntax.w8)) (Syntax.tyRef (Syntax.named 1) Syntax.mut (Syntax.tyInt Syntax.w8)) 1 5 Row.off) (List._∷_ (3, Rows'.sc-here (Row.sInt Syntax.w64)) (List._∷_ (4, Rows'.sc-here (Row.sInt Syntax.w64)) (List._∷_ (5, Rows'.any-gone Laws'.mir) (List._∷_ (6, Rows'.any-gone Laws'.mir) (List._∷_ (7, Rows'.sslice (Referent.rtF (Referent.fInt Syntax.w8)) (Syntax.tyRef (Syntax.named 2) Syntax.imm (Syntax.tyInt Syntax.w8)) 2) (List._∷_ (8, Relend.mslice-owed (Referent.rtF (Referent.fInt Syntax.w8)) (Syntax.tyRef (Syntax.named 3) Syntax.mut (Syntax.tyInt Syntax.w8)) 3 6 Row.off) (List._∷_ (9, Rows'.any-gone (Syntax.tyArray (Syntax.tyInt Syntax.w8) 4)) (List._∷_ (10, Rows.arrF (Referent.rtF (Referent.fInt Syntax.w8)) 4 0) (List._∷_ (11, Rows'.whole (Declared.row Received.the-type)) (List._∷_ (12, Rows'.any-gone (Syntax.tyRef Syntax.erased Syntax.mut (Memory·T.pointee (Client·T.the-row .written)))) (List._∷_ (13, Mut.msleft Client·T.the-row (Syntax.tyRef Syntax.erased Syntax.mut (Memory·T.pointee (Client·T.the-row .written)))) (List._∷_ (14, Rows'.any-gone (Syntax.tyRef Syntax.erased Syntax.mut (Syntax.tyInt Syntax.w8))) (List._∷_ (15, Mut.msleft (Referent.rtF (Referent.fInt Syntax.w8)) (Syntax.tyRef Syntax.erased Syntax.mut (Syntax.tyInt Syntax.w8))) List.[])))))))))))))))
+t16 = List._∷_ (0, Rows'.any-gone Laws'.mir) (List._∷_ (1, Relend.mslice-owed Client·T.the-row (Syntax.tyRef (Syntax.named 0) Syntax.mut (Memory·T.pointee (Client·T.the-row .written))) 0 4 Row.off) (List._∷_ (2, Relend.mslice-owed (Referent.rtF (Referent.fInt Syntax.w8)) (Syntax.tyRef (Syntax.named 1) Syntax.mut (Syntax.tyInt Syntax.w8)) 1 5 Row.off) (List._∷_ (3, Rows'.sc-here (Row.sInt Syntax.w64)) (List._∷_ (4, Rows'.sc-here (Row.sInt Syntax.w64)) (List._∷_ (5, Rows'.any-gone Laws.mir) (List._∷_ (6, Rows'.any-gone Laws.mir) (List._∷_ (7, Rows'.sslice (Referent.rtF (Referent.fInt Syntax.w8)) (Syntax.tyRef (Syntax.named 2) Syntax.imm (Syntax.tyInt Syntax.w8)) 2) (List._∷_ (8, Relend.mslice-owed (Referent.rtF (Referent.fInt Syntax.w8)) (Syntax.tyRef (Syntax.named 3) Syntax.mut (Syntax.tyInt Syntax.w8)) 3 6 Row.off) (List._∷_ (9, Rows'.any-gone (Syntax.tyArray (Syntax.tyInt Syntax.w8) 4)) (List._∷_ (10, Rows.arrF (Referent.rtF (Referent.fInt Syntax.w8)) 4 0) (List._∷_ (11, Rows'.whole (Declared.row Received'.the-type)) (List._∷_ (12, Rows'.any-gone (Syntax.tyRef Syntax.erased Syntax.mut (Memory·T.pointee (Client·T.the-row .written)))) (List._∷_ (13, Mut.msleft Client·T.the-row (Syntax.tyRef Syntax.erased Syntax.mut (Memory·T.pointee (Client·T.the-row .written)))) (List._∷_ (14, Rows'.any-gone (Syntax.tyRef Syntax.erased Syntax.mut (Syntax.tyInt Syntax.w8))) (List._∷_ (15, Mut.msleft (Referent.rtF (Referent.fInt Syntax.w8)) (Syntax.tyRef Syntax.erased Syntax.mut (Syntax.tyInt Syntax.w8))) List.[])))))))))))))))
 
 abbrev pub t17 : List.List Row.Entry
-t17 = List._∷_ (0, Rows'.any-gone Laws''.mir) (List._∷_ (1, Relend.mslice-owed Client·T.the-row (Syntax.tyRef (Syntax.named 0) Syntax.mut (Memory·T.pointee (Client·T.the-row .written))) 0 4 Row.off) (List._∷_ (2, Relend.mslice-owed (Referent.rtF (Referent.fInt Syntax.w8)) (Syntax.tyRef (Syntax.named 1) Syntax.mut (Syntax.tyInt Syntax.w8)) 1 5 Row.off) (List._∷_ (3, Rows'.sc-here (Row.sInt Syntax.w64)) (List._∷_ (4, Rows'.sc-here (Row.sInt Syntax.w64)) (List._∷_ (5, Rows'.any-gone Laws'.mir) (List._∷_ (6, Rows'.any-gone Laws'.mir) (List._∷_ (7, Rows'.sslice (Referent.rtF (Referent.fInt Syntax.w8)) (Syntax.tyRef (Syntax.named 2) Syntax.imm (Syntax.tyInt Syntax.w8)) 2) (List._∷_ (8, Relend.mslice-owed (Referent.rtF (Referent.fInt Syntax.w8)) (Syntax.tyRef (Syntax.named 3) Syntax.mut (Syntax.tyInt Syntax.w8)) 3 6 Row.off) (List._∷_ (9, Rows'.any-gone (Syntax.tyArray (Syntax.tyInt Syntax.w8) 4)) (List._∷_ (10, Rows'.any-gone (Syntax.tyArray (Syntax.tyInt Syntax.w8) 4)) (List._∷_ (11, Rows'.whole (Declared.row Received.the-type)) (List._∷_ (12, Rows'.any-gone (Syntax.tyRef Syntax.erased Syntax.mut (Memory·T.pointee (Client·T.the-row .written)))) (List._∷_ (13, Mut.msleft Client·T.the-row (Syntax.tyRef Syntax.erased Syntax.mut (Memory·T.pointee (Client·T.the-row .written)))) (List._∷_ (14, Rows'.any-gone (Syntax.tyRef Syntax.erased Syntax.mut (Syntax.tyInt Syntax.w8))) (List._∷_ (15, Mut.msleft (Referent.rtF (Referent.fInt Syntax.w8)) (Syntax.tyRef Syntax.erased Syntax.mut (Syntax.tyInt Syntax.w8))) List.[])))))))))))))))
+t17 = List._∷_ (0, Rows'.any-gone Laws'.mir) (List._∷_ (1, Relend.mslice-owed Client·T.the-row (Syntax.tyRef (Syntax.named 0) Syntax.mut (Memory·T.pointee (Client·T.the-row .written))) 0 4 Row.off) (List._∷_ (2, Relend.mslice-owed (Referent.rtF (Referent.fInt Syntax.w8)) (Syntax.tyRef (Syntax.named 1) Syntax.mut (Syntax.tyInt Syntax.w8)) 1 5 Row.off) (List._∷_ (3, Rows'.sc-here (Row.sInt Syntax.w64)) (List._∷_ (4, Rows'.sc-here (Row.sInt Syntax.w64)) (List._∷_ (5, Rows'.any-gone Laws.mir) (List._∷_ (6, Rows'.any-gone Laws.mir) (List._∷_ (7, Rows'.sslice (Referent.rtF (Referent.fInt Syntax.w8)) (Syntax.tyRef (Syntax.named 2) Syntax.imm (Syntax.tyInt Syntax.w8)) 2) (List._∷_ (8, Relend.mslice-owed (Referent.rtF (Referent.fInt Syntax.w8)) (Syntax.tyRef (Syntax.named 3) Syntax.mut (Syntax.tyInt Syntax.w8)) 3 6 Row.off) (List._∷_ (9, Rows'.any-gone (Syntax.tyArray (Syntax.tyInt Syntax.w8) 4)) (List._∷_ (10, Rows'.any-gone (Syntax.tyArray (Syntax.tyInt Syntax.w8) 4)) (List._∷_ (11, Rows'.whole (Declared.row Received'.the-type)) (List._∷_ (12, Rows'.any-gone (Syntax.tyRef Syntax.erased Syntax.mut (Memory·T.pointee (Client·T.the-row .written)))) (List._∷_ (13, Mut.msleft Client·T.the-row (Syntax.tyRef Syntax.erased Syntax.mut (Memory·T.pointee (Client·T.the-row .written)))) (List._∷_ (14, Rows'.any-gone (Syntax.tyRef Syntax.erased Syntax.mut (Syntax.tyInt Syntax.w8))) (List._∷_ (15, Mut.msleft (Referent.rtF (Referent.fInt Syntax.w8)) (Syntax.tyRef Syntax.erased Syntax.mut (Syntax.tyInt Syntax.w8))) List.[])))))))))))))))
 
 abbrev pub t18 : List.List Row.Entry
-t18 = List._∷_ (0, Rows'.any-gone Laws''.mir) (List._∷_ (1, Mut.mslice Client·T.the-row (Syntax.tyRef (Syntax.named 0) Syntax.mut (Memory·T.pointee (Client·T.the-row .written))) 0) (List._∷_ (2, Relend.mslice-owed (Referent.rtF (Referent.fInt Syntax.w8)) (Syntax.tyRef (Syntax.named 1) Syntax.mut (Syntax.tyInt Syntax.w8)) 1 5 Row.off) (List._∷_ (3, Rows'.sc-here (Row.sInt Syntax.w64)) (List._∷_ (4, Rows'.sc-here (Row.sInt Syntax.w64)) (List._∷_ (5, Rows'.any-gone Laws'.mir) (List._∷_ (6, Rows'.any-gone Laws'.mir) (List._∷_ (7, Rows'.sslice (Referent.rtF (Referent.fInt Syntax.w8)) (Syntax.tyRef (Syntax.named 2) Syntax.imm (Syntax.tyInt Syntax.w8)) 2) (List._∷_ (8, Relend.mslice-owed (Referent.rtF (Referent.fInt Syntax.w8)) (Syntax.tyRef (Syntax.named 3) Syntax.mut (Syntax.tyInt Syntax.w8)) 3 6 Row.off) (List._∷_ (9, Rows'.any-gone (Syntax.tyArray (Syntax.tyInt Syntax.w8) 4)) (List._∷_ (10, Rows'.any-gone (Syntax.tyArray (Syntax.tyInt Syntax.w8) 4)) (List._∷_ (11, Rows'.whole (Declared.row Received.the-type)) (List._∷_ (12, Rows'.any-gone (Syntax.tyRef Syntax.erased Syntax.mut (Memory·T.pointee (Client·T.the-row .written)))) (List._∷_ (13, Rows'.any-gone (Syntax.tyStruct (List._∷_ 38 (List._∷_ 91 (List._∷_ 93 List.[]))) (Syntax.tcons (Syntax.tyRef Syntax.erased Syntax.mut (Memory·T.pointee (Client·T.the-row .written))) (Syntax.tcons (Syntax.tyInt Syntax.w64) Syntax.tnil)))) (List._∷_ (14, Rows'.any-gone (Syntax.tyRef Syntax.erased Syntax.mut (Syntax.tyInt Syntax.w8))) (List._∷_ (15, Mut.msleft (Referent.rtF (Referent.fInt Syntax.w8)) (Syntax.tyRef Syntax.erased Syntax.mut (Syntax.tyInt Syntax.w8))) List.[])))))))))))))))
+t18 = List._∷_ (0, Rows'.any-gone Laws'.mir) (List._∷_ (1, Mut.mslice Client·T.the-row (Syntax.tyRef (Syntax.named 0) Syntax.mut (Memory·T.pointee (Client·T.the-row .written))) 0) (List._∷_ (2, Relend.mslice-owed (Referent.rtF (Referent.fInt Syntax.w8)) (Syntax.tyRef (Syntax.named 1) Syntax.mut (Syntax.tyInt Syntax.w8)) 1 5 Row.off) (List._∷_ (3, Rows'.sc-here (Row.sInt Syntax.w64)) (List._∷_ (4, Rows'.sc-here (Row.sInt Syntax.w64)) (List._∷_ (5, Rows'.any-gone Laws.mir) (List._∷_ (6, Rows'.any-gone Laws.mir) (List._∷_ (7, Rows'.sslice (Referent.rtF (Referent.fInt Syntax.w8)) (Syntax.tyRef (Syntax.named 2) Syntax.imm (Syntax.tyInt Syntax.w8)) 2) (List._∷_ (8, Relend.mslice-owed (Referent.rtF (Referent.fInt Syntax.w8)) (Syntax.tyRef (Syntax.named 3) Syntax.mut (Syntax.tyInt Syntax.w8)) 3 6 Row.off) (List._∷_ (9, Rows'.any-gone (Syntax.tyArray (Syntax.tyInt Syntax.w8) 4)) (List._∷_ (10, Rows'.any-gone (Syntax.tyArray (Syntax.tyInt Syntax.w8) 4)) (List._∷_ (11, Rows'.whole (Declared.row Received'.the-type)) (List._∷_ (12, Rows'.any-gone (Syntax.tyRef Syntax.erased Syntax.mut (Memory·T.pointee (Client·T.the-row .written)))) (List._∷_ (13, Rows'.any-gone (Syntax.tyStruct (List._∷_ 38 (List._∷_ 91 (List._∷_ 93 List.[]))) (Syntax.tcons (Syntax.tyRef Syntax.erased Syntax.mut (Memory·T.pointee (Client·T.the-row .written))) (Syntax.tcons (Syntax.tyInt Syntax.w64) Syntax.tnil)))) (List._∷_ (14, Rows'.any-gone (Syntax.tyRef Syntax.erased Syntax.mut (Syntax.tyInt Syntax.w8))) (List._∷_ (15, Mut.msleft (Referent.rtF (Referent.fInt Syntax.w8)) (Syntax.tyRef Syntax.erased Syntax.mut (Syntax.tyInt Syntax.w8))) List.[])))))))))))))))
 
 abbrev pub t19 : List.List Row.Entry
-t19 = List._∷_ (0, Rows'.any-gone Laws''.mir) (List._∷_ (1, Mut.mslice Client·T.the-row (Syntax.tyRef (Syntax.named 0) Syntax.mut (Memory·T.pointee (Client·T.the-row .written))) 0) (List._∷_ (2, Mut.mslice (Referent.rtF (Referent.fInt Syntax.w8)) (Syntax.tyRef (Syntax.named 1) Syntax.mut (Syntax.tyInt Syntax.w8)) 1) (List._∷_ (3, Rows'.sc-here (Row.sInt Syntax.w64)) (List._∷_ (4, Rows'.sc-here (Row.sInt Syntax.w64)) (List._∷_ (5, Rows'.any-gone Laws'.mir) (List._∷_ (6, Rows'.any-gone Laws'.mir) (List._∷_ (7, Rows'.sslice (Referent.rtF (Referent.fInt Syntax.w8)) (Syntax.tyRef (Syntax.named 2) Syntax.imm (Syntax.tyInt Syntax.w8)) 2) (List._∷_ (8, Relend.mslice-owed (Referent.rtF (Referent.fInt Syntax.w8)) (Syntax.tyRef (Syntax.named 3) Syntax.mut (Syntax.tyInt Syntax.w8)) 3 6 Row.off) (List._∷_ (9, Rows'.any-gone (Syntax.tyArray (Syntax.tyInt Syntax.w8) 4)) (List._∷_ (10, Rows'.any-gone (Syntax.tyArray (Syntax.tyInt Syntax.w8) 4)) (List._∷_ (11, Rows'.whole (Declared.row Received.the-type)) (List._∷_ (12, Rows'.any-gone (Syntax.tyRef Syntax.erased Syntax.mut (Memory·T.pointee (Client·T.the-row .written)))) (List._∷_ (13, Rows'.any-gone (Syntax.tyStruct (List._∷_ 38 (List._∷_ 91 (List._∷_ 93 List.[]))) (Syntax.tcons (Syntax.tyRef Syntax.erased Syntax.mut (Memory·T.pointee (Client·T.the-row .written))) (Syntax.tcons (Syntax.tyInt Syntax.w64) Syntax.tnil)))) (List._∷_ (14, Rows'.any-gone (Syntax.tyRef Syntax.erased Syntax.mut (Syntax.tyInt Syntax.w8))) (List._∷_ (15, Rows'.any-gone (Syntax.tyStruct (List._∷_ 38 (List._∷_ 91 (List._∷_ 93 List.[]))) (Syntax.tcons (Syntax.tyRef Syntax.erased Syntax.mut (Syntax.tyInt Syntax.w8)) (Syntax.tcons (Syntax.tyInt Syntax.w64) Syntax.tnil)))) List.[])))))))))))))))
+t19 = List._∷_ (0, Rows'.any-gone Laws'.mir) (List._∷_ (1, Mut.mslice Client·T.the-row (Syntax.tyRef (Syntax.named 0) Syntax.mut (Memory·T.pointee (Client·T.the-row .written))) 0) (List._∷_ (2, Mut.mslice (Referent.rtF (Referent.fInt Syntax.w8)) (Syntax.tyRef (Syntax.named 1) Syntax.mut (Syntax.tyInt Syntax.w8)) 1) (List._∷_ (3, Rows'.sc-here (Row.sInt Syntax.w64)) (List._∷_ (4, Rows'.sc-here (Row.sInt Syntax.w64)) (List._∷_ (5, Rows'.any-gone Laws.mir) (List._∷_ (6, Rows'.any-gone Laws.mir) (List._∷_ (7, Rows'.sslice (Referent.rtF (Referent.fInt Syntax.w8)) (Syntax.tyRef (Syntax.named 2) Syntax.imm (Syntax.tyInt Syntax.w8)) 2) (List._∷_ (8, Relend.mslice-owed (Referent.rtF (Referent.fInt Syntax.w8)) (Syntax.tyRef (Syntax.named 3) Syntax.mut (Syntax.tyInt Syntax.w8)) 3 6 Row.off) (List._∷_ (9, Rows'.any-gone (Syntax.tyArray (Syntax.tyInt Syntax.w8) 4)) (List._∷_ (10, Rows'.any-gone (Syntax.tyArray (Syntax.tyInt Syntax.w8) 4)) (List._∷_ (11, Rows'.whole (Declared.row Received'.the-type)) (List._∷_ (12, Rows'.any-gone (Syntax.tyRef Syntax.erased Syntax.mut (Memory·T.pointee (Client·T.the-row .written)))) (List._∷_ (13, Rows'.any-gone (Syntax.tyStruct (List._∷_ 38 (List._∷_ 91 (List._∷_ 93 List.[]))) (Syntax.tcons (Syntax.tyRef Syntax.erased Syntax.mut (Memory·T.pointee (Client·T.the-row .written))) (Syntax.tcons (Syntax.tyInt Syntax.w64) Syntax.tnil)))) (List._∷_ (14, Rows'.any-gone (Syntax.tyRef Syntax.erased Syntax.mut (Syntax.tyInt Syntax.w8))) (List._∷_ (15, Rows'.any-gone (Syntax.tyStruct (List._∷_ 38 (List._∷_ 91 (List._∷_ 93 List.[]))) (Syntax.tcons (Syntax.tyRef Syntax.erased Syntax.mut (Syntax.tyInt Syntax.w8)) (Syntax.tcons (Syntax.tyInt Syntax.w64) Syntax.tnil)))) List.[])))))))))))))))
 
 abbrev pub t20 : List.List Row.Entry
-t20 = List._∷_ (0, Rows'.any-gone Laws''.mir) (List._∷_ (1, Mut.mslice Client·T.the-row (Syntax.tyRef (Syntax.named 0) Syntax.mut (Memory·T.pointee (Client·T.the-row .written))) 0) (List._∷_ (2, Mut.mslice (Referent.rtF (Referent.fInt Syntax.w8)) (Syntax.tyRef (Syntax.named 1) Syntax.mut (Syntax.tyInt Syntax.w8)) 1) (List._∷_ (3, Rows'.sc-here (Row.sInt Syntax.w64)) (List._∷_ (4, Rows'.sc-here (Row.sInt Syntax.w64)) (List._∷_ (5, Rows'.any-gone Laws'.mir) (List._∷_ (6, Rows'.any-gone Laws'.mir) (List._∷_ (7, Rows'.sslice (Referent.rtF (Referent.fInt Syntax.w8)) (Syntax.tyRef (Syntax.named 2) Syntax.imm (Syntax.tyInt Syntax.w8)) 2) (List._∷_ (8, Mut.mslice (Referent.rtF (Referent.fInt Syntax.w8)) (Syntax.tyRef (Syntax.named 3) Syntax.mut (Syntax.tyInt Syntax.w8)) 3) (List._∷_ (9, Rows'.any-gone (Syntax.tyArray (Syntax.tyInt Syntax.w8) 4)) (List._∷_ (10, Rows'.any-gone (Syntax.tyArray (Syntax.tyInt Syntax.w8) 4)) (List._∷_ (11, Rows'.whole (Declared.row Received.the-type)) (List._∷_ (12, Rows'.any-gone (Syntax.tyRef Syntax.erased Syntax.mut (Memory·T.pointee (Client·T.the-row .written)))) (List._∷_ (13, Rows'.any-gone (Syntax.tyStruct (List._∷_ 38 (List._∷_ 91 (List._∷_ 93 List.[]))) (Syntax.tcons (Syntax.tyRef Syntax.erased Syntax.mut (Memory·T.pointee (Client·T.the-row .written))) (Syntax.tcons (Syntax.tyInt Syntax.w64) Syntax.tnil)))) (List._∷_ (14, Rows'.any-gone (Syntax.tyRef Syntax.erased Syntax.mut (Syntax.tyInt Syntax.w8))) (List._∷_ (15, Rows'.any-gone (Syntax.tyStruct (List._∷_ 38 (List._∷_ 91 (List._∷_ 93 List.[]))) (Syntax.tcons (Syntax.tyRef Syntax.erased Syntax.mut (Syntax.tyInt Syntax.w8)) (Syntax.tcons (Syntax.tyInt Syntax.w64) Syntax.tnil)))) List.[])))))))))))))))
+t20 = List._∷_ (0, Rows'.any-gone Laws'.mir) (List._∷_ (1, Mut.mslice Client·T.the-row (Syntax.tyRef (Syntax.named 0) Syntax.mut (Memory·T.pointee (Client·T.the-row .written))) 0) (List._∷_ (2, Mut.mslice (Referent.rtF (Referent.fInt Syntax.w8)) (Syntax.tyRef (Syntax.named 1) Syntax.mut (Syntax.tyInt Syntax.w8)) 1) (List._∷_ (3, Rows'.sc-here (Row.sInt Syntax.w64)) (List._∷_ (4, Rows'.sc-here (Row.sInt Syntax.w64)) (List._∷_ (5, Rows'.any-gone Laws.mir) (List._∷_ (6, Rows'.any-gone Laws.mir) (List._∷_ (7, Rows'.sslice (Referent.rtF (Referent.fInt Syntax.w8)) (Syntax.tyRef (Syntax.named 2) Syntax.imm (Syntax.tyInt Syntax.w8)) 2) (List._∷_ (8, Mut.mslice (Referent.rtF (Referent.fInt Syntax.w8)) (Syntax.tyRef (Syntax.named 3) Syntax.mut (Syntax.tyInt Syntax.w8)) 3) (List._∷_ (9, Rows'.any-gone (Syntax.tyArray (Syntax.tyInt Syntax.w8) 4)) (List._∷_ (10, Rows'.any-gone (Syntax.tyArray (Syntax.tyInt Syntax.w8) 4)) (List._∷_ (11, Rows'.whole (Declared.row Received'.the-type)) (List._∷_ (12, Rows'.any-gone (Syntax.tyRef Syntax.erased Syntax.mut (Memory·T.pointee (Client·T.the-row .written)))) (List._∷_ (13, Rows'.any-gone (Syntax.tyStruct (List._∷_ 38 (List._∷_ 91 (List._∷_ 93 List.[]))) (Syntax.tcons (Syntax.tyRef Syntax.erased Syntax.mut (Memory·T.pointee (Client·T.the-row .written))) (Syntax.tcons (Syntax.tyInt Syntax.w64) Syntax.tnil)))) (List._∷_ (14, Rows'.any-gone (Syntax.tyRef Syntax.erased Syntax.mut (Syntax.tyInt Syntax.w8))) (List._∷_ (15, Rows'.any-gone (Syntax.tyStruct (List._∷_ 38 (List._∷_ 91 (List._∷_ 93 List.[]))) (Syntax.tcons (Syntax.tyRef Syntax.erased Syntax.mut (Syntax.tyInt Syntax.w8)) (Syntax.tcons (Syntax.tyInt Syntax.w64) Syntax.tnil)))) List.[])))))))))))))))
 
 abbrev pub t21 : List.List Row.Entry
-t21 = List._∷_ (0, Rows'.whole (Declared'.row Received'.the-type)) (List._∷_ (1, Mut.mslice Client·T.the-row (Syntax.tyRef (Syntax.named 0) Syntax.mut (Memory·T.pointee (Client·T.the-row .written))) 0) (List._∷_ (2, Mut.mslice (Referent.rtF (Referent.fInt Syntax.w8)) (Syntax.tyRef (Syntax.named 1) Syntax.mut (Syntax.tyInt Syntax.w8)) 1) (List._∷_ (3, Rows'.sc-here (Row.sInt Syntax.w64)) (List._∷_ (4, Rows'.sc-here (Row.sInt Syntax.w64)) (List._∷_ (5, Rows'.any-gone Laws'.mir) (List._∷_ (6, Rows'.any-gone Laws'.mir) (List._∷_ (7, Rows'.sslice (Referent.rtF (Referent.fInt Syntax.w8)) (Syntax.tyRef (Syntax.named 2) Syntax.imm (Syntax.tyInt Syntax.w8)) 2) (List._∷_ (8, Mut.mslice (Referent.rtF (Referent.fInt Syntax.w8)) (Syntax.tyRef (Syntax.named 3) Syntax.mut (Syntax.tyInt Syntax.w8)) 3) (List._∷_ (9, Rows'.any-gone (Syntax.tyArray (Syntax.tyInt Syntax.w8) 4)) (List._∷_ (10, Rows'.any-gone (Syntax.tyArray (Syntax.tyInt Syntax.w8) 4)) (List._∷_ (11, Rows'.whole (Declared.row Received.the-type)) (List._∷_ (12, Rows'.any-gone (Syntax.tyRef Syntax.erased Syntax.mut (Memory·T.pointee (Client·T.the-row .written)))) (List._∷_ (13, Rows'.any-gone (Syntax.tyStruct (List._∷_ 38 (List._∷_ 91 (List._∷_ 93 List.[]))) (Syntax.tcons (Syntax.tyRef Syntax.erased Syntax.mut (Memory·T.pointee (Client·T.the-row .written))) (Syntax.tcons (Syntax.tyInt Syntax.w64) Syntax.tnil)))) (List._∷_ (14, Rows'.any-gone (Syntax.tyRef Syntax.erased Syntax.mut (Syntax.tyInt Syntax.w8))) (List._∷_ (15, Rows'.any-gone (Syntax.tyStruct (List._∷_ 38 (List._∷_ 91 (List._∷_ 93 List.[]))) (Syntax.tcons (Syntax.tyRef Syntax.erased Syntax.mut (Syntax.tyInt Syntax.w8)) (Syntax.tcons (Syntax.tyInt Syntax.w64) Syntax.tnil)))) List.[])))))))))))))))
+t21 = List._∷_ (0, Rows'.whole (Declared'.row Received.the-type)) (List._∷_ (1, Mut.mslice Client·T.the-row (Syntax.tyRef (Syntax.named 0) Syntax.mut (Memory·T.pointee (Client·T.the-row .written))) 0) (List._∷_ (2, Mut.mslice (Referent.rtF (Referent.fInt Syntax.w8)) (Syntax.tyRef (Syntax.named 1) Syntax.mut (Syntax.tyInt Syntax.w8)) 1) (List._∷_ (3, Rows'.sc-here (Row.sInt Syntax.w64)) (List._∷_ (4, Rows'.sc-here (Row.sInt Syntax.w64)) (List._∷_ (5, Rows'.any-gone Laws.mir) (List._∷_ (6, Rows'.any-gone Laws.mir) (List._∷_ (7, Rows'.sslice (Referent.rtF (Referent.fInt Syntax.w8)) (Syntax.tyRef (Syntax.named 2) Syntax.imm (Syntax.tyInt Syntax.w8)) 2) (List._∷_ (8, Mut.mslice (Referent.rtF (Referent.fInt Syntax.w8)) (Syntax.tyRef (Syntax.named 3) Syntax.mut (Syntax.tyInt Syntax.w8)) 3) (List._∷_ (9, Rows'.any-gone (Syntax.tyArray (Syntax.tyInt Syntax.w8) 4)) (List._∷_ (10, Rows'.any-gone (Syntax.tyArray (Syntax.tyInt Syntax.w8) 4)) (List._∷_ (11, Rows'.whole (Declared.row Received'.the-type)) (List._∷_ (12, Rows'.any-gone (Syntax.tyRef Syntax.erased Syntax.mut (Memory·T.pointee (Client·T.the-row .written)))) (List._∷_ (13, Rows'.any-gone (Syntax.tyStruct (List._∷_ 38 (List._∷_ 91 (List._∷_ 93 List.[]))) (Syntax.tcons (Syntax.tyRef Syntax.erased Syntax.mut (Memory·T.pointee (Client·T.the-row .written))) (Syntax.tcons (Syntax.tyInt Syntax.w64) Syntax.tnil)))) (List._∷_ (14, Rows'.any-gone (Syntax.tyRef Syntax.erased Syntax.mut (Syntax.tyInt Syntax.w8))) (List._∷_ (15, Rows'.any-gone (Syntax.tyStruct (List._∷_ 38 (List._∷_ 91 (List._∷_ 93 List.[]))) (Syntax.tcons (Syntax.tyRef Syntax.erased Syntax.mut (Syntax.tyInt Syntax.w8)) (Syntax.tcons (Syntax.tyInt Syntax.w64) Syntax.tnil)))) List.[])))))))))))))))
 
 abbrev pub t22 : List.List Row.Entry
-t22 = List._∷_ (0, Rows'.whole (Declared'.row Received'.the-type)) (List._∷_ (1, Mut.mslice Client·T.the-row (Syntax.tyRef (Syntax.named 0) Syntax.mut (Memory·T.pointee (Client·T.the-row .written))) 0) (List._∷_ (2, Mut.mslice (Referent.rtF (Referent.fInt Syntax.w8)) (Syntax.tyRef (Syntax.named 1) Syntax.mut (Syntax.tyInt Syntax.w8)) 1) (List._∷_ (3, Rows'.sc-here (Row.sInt Syntax.w64)) (List._∷_ (4, Rows'.sc-here (Row.sInt Syntax.w64)) (List._∷_ (5, Rows'.any-gone Laws'.mir) (List._∷_ (6, Rows'.any-gone Laws'.mir) (List._∷_ (7, Rows'.sslice (Referent.rtF (Referent.fInt Syntax.w8)) (Syntax.tyRef (Syntax.named 2) Syntax.imm (Syntax.tyInt Syntax.w8)) 2) (List._∷_ (8, Mut.mslice (Referent.rtF (Referent.fInt Syntax.w8)) (Syntax.tyRef (Syntax.named 3) Syntax.mut (Syntax.tyInt Syntax.w8)) 3) (List._∷_ (9, Rows'.any-gone (Syntax.tyArray (Syntax.tyInt Syntax.w8) 4)) (List._∷_ (10, Rows'.any-gone (Syntax.tyArray (Syntax.tyInt Syntax.w8) 4)) (List._∷_ (11, Rows'.any-gone Laws.mir) (List._∷_ (12, Rows'.any-gone (Syntax.tyRef Syntax.erased Syntax.mut (Memory·T.pointee (Client·T.the-row .written)))) (List._∷_ (13, Rows'.any-gone (Syntax.tyStruct (List._∷_ 38 (List._∷_ 91 (List._∷_ 93 List.[]))) (Syntax.tcons (Syntax.tyRef Syntax.erased Syntax.mut (Memory·T.pointee (Client·T.the-row .written))) (Syntax.tcons (Syntax.tyInt Syntax.w64) Syntax.tnil)))) (List._∷_ (14, Rows'.any-gone (Syntax.tyRef Syntax.erased Syntax.mut (Syntax.tyInt Syntax.w8))) (List._∷_ (15, Rows'.any-gone (Syntax.tyStruct (List._∷_ 38 (List._∷_ 91 (List._∷_ 93 List.[]))) (Syntax.tcons (Syntax.tyRef Syntax.erased Syntax.mut (Syntax.tyInt Syntax.w8)) (Syntax.tcons (Syntax.tyInt Syntax.w64) Syntax.tnil)))) List.[])))))))))))))))
+t22 = List._∷_ (0, Rows'.whole (Declared'.row Received.the-type)) (List._∷_ (1, Mut.mslice Client·T.the-row (Syntax.tyRef (Syntax.named 0) Syntax.mut (Memory·T.pointee (Client·T.the-row .written))) 0) (List._∷_ (2, Mut.mslice (Referent.rtF (Referent.fInt Syntax.w8)) (Syntax.tyRef (Syntax.named 1) Syntax.mut (Syntax.tyInt Syntax.w8)) 1) (List._∷_ (3, Rows'.sc-here (Row.sInt Syntax.w64)) (List._∷_ (4, Rows'.sc-here (Row.sInt Syntax.w64)) (List._∷_ (5, Rows'.any-gone Laws.mir) (List._∷_ (6, Rows'.any-gone Laws.mir) (List._∷_ (7, Rows'.sslice (Referent.rtF (Referent.fInt Syntax.w8)) (Syntax.tyRef (Syntax.named 2) Syntax.imm (Syntax.tyInt Syntax.w8)) 2) (List._∷_ (8, Mut.mslice (Referent.rtF (Referent.fInt Syntax.w8)) (Syntax.tyRef (Syntax.named 3) Syntax.mut (Syntax.tyInt Syntax.w8)) 3) (List._∷_ (9, Rows'.any-gone (Syntax.tyArray (Syntax.tyInt Syntax.w8) 4)) (List._∷_ (10, Rows'.any-gone (Syntax.tyArray (Syntax.tyInt Syntax.w8) 4)) (List._∷_ (11, Rows'.any-gone Laws''.mir) (List._∷_ (12, Rows'.any-gone (Syntax.tyRef Syntax.erased Syntax.mut (Memory·T.pointee (Client·T.the-row .written)))) (List._∷_ (13, Rows'.any-gone (Syntax.tyStruct (List._∷_ 38 (List._∷_ 91 (List._∷_ 93 List.[]))) (Syntax.tcons (Syntax.tyRef Syntax.erased Syntax.mut (Memory·T.pointee (Client·T.the-row .written))) (Syntax.tcons (Syntax.tyInt Syntax.w64) Syntax.tnil)))) (List._∷_ (14, Rows'.any-gone (Syntax.tyRef Syntax.erased Syntax.mut (Syntax.tyInt Syntax.w8))) (List._∷_ (15, Rows'.any-gone (Syntax.tyStruct (List._∷_ 38 (List._∷_ 91 (List._∷_ 93 List.[]))) (Syntax.tcons (Syntax.tyRef Syntax.erased Syntax.mut (Syntax.tyInt Syntax.w8)) (Syntax.tcons (Syntax.tyInt Syntax.w64) Syntax.tnil)))) List.[])))))))))))))))
 
 abbrev pub t23 : List.List Row.Entry
-t23 = List._∷_ (0, Rows'.whole (Declared'.row Received'.the-type)) (List._∷_ (1, Mut.mslice Client·T.the-row (Syntax.tyRef (Syntax.named 0) Syntax.mut (Memory·T.pointee (Client·T.the-row .written))) 0) (List._∷_ (2, Mut.mslice (Referent.rtF (Referent.fInt Syntax.w8)) (Syntax.tyRef (Syntax.named 1) Syntax.mut (Syntax.tyInt Syntax.w8)) 1) (List._∷_ (3, Rows'.any-gone (Syntax.tyInt Syntax.w64)) (List._∷_ (4, Rows'.sc-here (Row.sInt Syntax.w64)) (List._∷_ (5, Rows'.any-gone Laws'.mir) (List._∷_ (6, Rows'.any-gone Laws'.mir) (List._∷_ (7, Rows'.sslice (Referent.rtF (Referent.fInt Syntax.w8)) (Syntax.tyRef (Syntax.named 2) Syntax.imm (Syntax.tyInt Syntax.w8)) 2) (List._∷_ (8, Mut.mslice (Referent.rtF (Referent.fInt Syntax.w8)) (Syntax.tyRef (Syntax.named 3) Syntax.mut (Syntax.tyInt Syntax.w8)) 3) (List._∷_ (9, Rows'.any-gone (Syntax.tyArray (Syntax.tyInt Syntax.w8) 4)) (List._∷_ (10, Rows'.any-gone (Syntax.tyArray (Syntax.tyInt Syntax.w8) 4)) (List._∷_ (11, Rows'.any-gone Laws.mir) (List._∷_ (12, Rows'.any-gone (Syntax.tyRef Syntax.erased Syntax.mut (Memory·T.pointee (Client·T.the-row .written)))) (List._∷_ (13, Rows'.any-gone (Syntax.tyStruct (List._∷_ 38 (List._∷_ 91 (List._∷_ 93 List.[]))) (Syntax.tcons (Syntax.tyRef Syntax.erased Syntax.mut (Memory·T.pointee (Client·T.the-row .written))) (Syntax.tcons (Syntax.tyInt Syntax.w64) Syntax.tnil)))) (List._∷_ (14, Rows'.any-gone (Syntax.tyRef Syntax.erased Syntax.mut (Syntax.tyInt Syntax.w8))) (List._∷_ (15, Rows'.any-gone (Syntax.tyStruct (List._∷_ 38 (List._∷_ 91 (List._∷_ 93 List.[]))) (Syntax.tcons (Syntax.tyRef Syntax.erased Syntax.mut (Syntax.tyInt Syntax.w8)) (Syntax.tcons (Syntax.tyInt Syntax.w64) Syntax.tnil)))) List.[])))))))))))))))
+t23 = List._∷_ (0, Rows'.whole (Declared'.row Received.the-type)) (List._∷_ (1, Mut.mslice Client·T.the-row (Syntax.tyRef (Syntax.named 0) Syntax.mut (Memory·T.pointee (Client·T.the-row .written))) 0) (List._∷_ (2, Mut.mslice (Referent.rtF (Referent.fInt Syntax.w8)) (Syntax.tyRef (Syntax.named 1) Syntax.mut (Syntax.tyInt Syntax.w8)) 1) (List._∷_ (3, Rows'.any-gone (Syntax.tyInt Syntax.w64)) (List._∷_ (4, Rows'.sc-here (Row.sInt Syntax.w64)) (List._∷_ (5, Rows'.any-gone Laws.mir) (List._∷_ (6, Rows'.any-gone Laws.mir) (List._∷_ (7, Rows'.sslice (Referent.rtF (Referent.fInt Syntax.w8)) (Syntax.tyRef (Syntax.named 2) Syntax.imm (Syntax.tyInt Syntax.w8)) 2) (List._∷_ (8, Mut.mslice (Referent.rtF (Referent.fInt Syntax.w8)) (Syntax.tyRef (Syntax.named 3) Syntax.mut (Syntax.tyInt Syntax.w8)) 3) (List._∷_ (9, Rows'.any-gone (Syntax.tyArray (Syntax.tyInt Syntax.w8) 4)) (List._∷_ (10, Rows'.any-gone (Syntax.tyArray (Syntax.tyInt Syntax.w8) 4)) (List._∷_ (11, Rows'.any-gone Laws''.mir) (List._∷_ (12, Rows'.any-gone (Syntax.tyRef Syntax.erased Syntax.mut (Memory·T.pointee (Client·T.the-row .written)))) (List._∷_ (13, Rows'.any-gone (Syntax.tyStruct (List._∷_ 38 (List._∷_ 91 (List._∷_ 93 List.[]))) (Syntax.tcons (Syntax.tyRef Syntax.erased Syntax.mut (Memory·T.pointee (Client·T.the-row .written))) (Syntax.tcons (Syntax.tyInt Syntax.w64) Syntax.tnil)))) (List._∷_ (14, Rows'.any-gone (Syntax.tyRef Syntax.erased Syntax.mut (Syntax.tyInt Syntax.w8))) (List._∷_ (15, Rows'.any-gone (Syntax.tyStruct (List._∷_ 38 (List._∷_ 91 (List._∷_ 93 List.[]))) (Syntax.tcons (Syntax.tyRef Syntax.erased Syntax.mut (Syntax.tyInt Syntax.w8)) (Syntax.tcons (Syntax.tyInt Syntax.w64) Syntax.tnil)))) List.[])))))))))))))))
 
 abbrev pub T0 : Row.Cx
 T0 = record { locals = List._++_ t0 t1; slots = List.[] }
@@ -333,13 +333,13 @@ module _ (claims· : Claims) where
   s3 = λ bs. WayStmt.k-way-copy-out T4 (Row.out 5 (T4 .locals)) (λ u. Row.drop 5 (T4 .locals) u) 9 (Rows.arrF (Referent.rtF (Referent.fInt Syntax.w8)) 4 0) (λ u. At.getAt (Address.the-type .parts) 0 (Address.struct .as-values (u .1 .1 .1 .1 .1 .0))) (λ T′. record { locals = Row.setRow 5 (5, Rows'.whole (Declared'.row Address.the-type)) T′; slots = List.[] }) (λ u T′ m′. Row.set 5 (5, Rows'.whole (Declared'.row Address.the-type)) (u .1 .1 .1 .1 .1 .0) T′ m′) (λ u. Unit) λ u. Unit
 
   abbrev s4 : (bs : List.List Nat.ℕ) → Typed.Mo T5 → Typed.Mo T6
-  s4 = λ bs. Scalar.n-room T5 5 Laws'.mir
+  s4 = λ bs. Scalar.n-room T5 5 Laws.mir
 
   abbrev s5 : (bs : List.List Nat.ℕ) → Typed.Both T6 T7
   s5 = λ bs. WayStmt.k-way-copy-out T6 (Row.out 6 (T6 .locals)) (λ u. Row.drop 6 (T6 .locals) u) 10 (Rows.arrF (Referent.rtF (Referent.fInt Syntax.w8)) 4 0) (λ u. At.getAt (Address.the-type .parts) 0 (Address.struct .as-values (u .1 .1 .1 .1 .1 .1 .0))) (λ T′. record { locals = Row.setRow 6 (6, Rows'.whole (Declared'.row Address.the-type)) T′; slots = List.[] }) (λ u T′ m′. Row.set 6 (6, Rows'.whole (Declared'.row Address.the-type)) (u .1 .1 .1 .1 .1 .1 .0) T′ m′) (λ u. Unit) λ u. Unit
 
   abbrev s6 : (bs : List.List Nat.ℕ) → Typed.Mo T7 → Typed.Mo T8
-  s6 = λ bs. Scalar.n-room T7 6 Laws'.mir
+  s6 = λ bs. Scalar.n-room T7 6 Laws.mir
 
   abbrev s8 : (bs : List.List Nat.ℕ) → Typed.Gives T8 T10
   s8 = λ bs. Relend.k-sl-relend Client·T.the-row T8 1 12 0 4 (Syntax.tyRef (Syntax.named 0) Syntax.mut (Memory·T.pointee (Client·T.the-row .written))) (Syntax.tyRef Syntax.erased Syntax.mut (Memory·T.pointee (Client·T.the-row .written))) Row.off λ x. x
@@ -360,7 +360,7 @@ module _ (claims· : Claims) where
   s15 = λ bs. Relend.k-sl-aggregate (Referent.rtF (Referent.fInt Syntax.w8)) (Relend.asMut (Referent.rtF (Referent.fInt Syntax.w8))) T16 16 17 6 (Syntax.tyRef Syntax.erased Syntax.mut (Syntax.tyInt Syntax.w8)) (Syntax.tyRef Syntax.erased Syntax.mut (Syntax.tyInt Syntax.w8)) (λ x. x) (Scalar.oFld 8 (List._∷_ (Syntax.field 1) List.[]) (Syntax.tyInt Syntax.w64) 8 λ v. Shared.lenV (v .0))
 
   abbrev s16 : (bs : List.List Nat.ℕ) → Typed.Both T17 T18
-  s16 = λ bs. Call.callB ps·0 r·0 (claims· .0) (claims· .1) T17 (record { pos = 13; ty = Syntax.tyRef Syntax.erased Syntax.mut (Memory·T.pointee (Client·T.the-row .written)); ref = λ x. x }, (record { pos = 15; ty = Syntax.tyRef Syntax.erased Syntax.mut (Syntax.tyInt Syntax.w8); ref = λ x. x }, (Num.vAt 3 λ x. x, (Num.vAt 4 λ x. x, (record { pos = 9; st = List.[]; d = 0; at = λ x. x }, (record { pos = 10; st = List.[]; d = 0; at = λ x. x }, (record { pos = 7; ty = Syntax.tyRef (Syntax.named 2) Syntax.imm (Syntax.tyInt Syntax.w8); ref = λ x. x }, (record { pos = 17; ty = Syntax.tyRef Syntax.erased Syntax.mut (Syntax.tyInt Syntax.w8); ref = λ x. x }, tt)))))))) 11 (List._∷_ 4 (List._∷_ 5 (List._∷_ 2 (List._∷_ 6 List.[])))) Laws.mir
+  s16 = λ bs. Call.callB ps·0 r·0 (claims· .0) (claims· .1) T17 (record { pos = 13; ty = Syntax.tyRef Syntax.erased Syntax.mut (Memory·T.pointee (Client·T.the-row .written)); ref = λ x. x }, (record { pos = 15; ty = Syntax.tyRef Syntax.erased Syntax.mut (Syntax.tyInt Syntax.w8); ref = λ x. x }, (Num.vAt 3 λ x. x, (Num.vAt 4 λ x. x, (record { pos = 9; st = List.[]; d = 0; at = λ x. x }, (record { pos = 10; st = List.[]; d = 0; at = λ x. x }, (record { pos = 7; ty = Syntax.tyRef (Syntax.named 2) Syntax.imm (Syntax.tyInt Syntax.w8); ref = λ x. x }, (record { pos = 17; ty = Syntax.tyRef Syntax.erased Syntax.mut (Syntax.tyInt Syntax.w8); ref = λ x. x }, tt)))))))) 11 (List._∷_ 4 (List._∷_ 5 (List._∷_ 2 (List._∷_ 6 List.[])))) Laws''.mir
 
   abbrev s17 : (bs : List.List Nat.ℕ) → Typed.Mo T18 → Typed.Mo T19
   s17 = λ bs. Scalar.n-room T18 9 (Syntax.tyArray (Syntax.tyInt Syntax.w8) 4)
@@ -384,10 +384,10 @@ module _ (claims· : Claims) where
   s28 = λ bs. Know.k-sl-known (Referent.fInt Syntax.w8) T29 8 3 (Syntax.tyRef (Syntax.named 3) Syntax.mut (Syntax.tyInt Syntax.w8)) Row.off 0 λ x. x
 
   abbrev s30 : (bs : List.List Nat.ℕ) → Typed.Both T30 T32
-  s30 = λ bs. Call.callB ps·1 r·1 (claims· .2) (claims· .3) T30 (record { pos = 11; st = List.[]; d = 0; at = λ x. x }, tt) 0 List.[] Laws''.mir
+  s30 = λ bs. Call.callB ps·1 r·1 (claims· .2) (claims· .3) T30 (record { pos = 11; st = List.[]; d = 0; at = λ x. x }, tt) 0 List.[] Laws'.mir
 
   abbrev s31 : (bs : List.List Nat.ℕ) → Typed.Mo T32 → Typed.Mo T33
-  s31 = λ bs. Scalar.n-room T32 11 Laws.mir
+  s31 = λ bs. Scalar.n-room T32 11 Laws''.mir
 
   abbrev s32 : (bs : List.List Nat.ℕ) → Typed.Mo T33 → Typed.Mo T34
   s32 = λ bs. Scalar.n-room T33 3 (Syntax.tyInt Syntax.w64)
@@ -515,34 +515,34 @@ module _ (claims· : Claims) where
 
       module _ (κs : Lifetimes.Lfts 4) (qs : Lifetimes.Shares 4) where
         abbrev g7 : List.List Row.Entry
-        g7 = List._∷_ (0, Rows'.any-gone Laws''.mir) (List._∷_ (1, Relend.mslice-owed Client·T.the-row (Syntax.tyRef (Syntax.named 0) Syntax.mut (Memory·T.pointee (Client·T.the-row .written))) 0 4 (Row.lease (κs .0) (qs .0))) (List._∷_ (2, Mut.mslice (Referent.rtF (Referent.fInt Syntax.w8)) (Syntax.tyRef (Syntax.named 1) Syntax.mut (Syntax.tyInt Syntax.w8)) 1) (List._∷_ (3, Rows'.sc-here (Row.sInt Syntax.w64)) (List._∷_ (4, Rows'.sc-here (Row.sInt Syntax.w64)) (List._∷_ (5, Rows'.any-gone Laws'.mir) (List._∷_ (6, Rows'.any-gone Laws'.mir) (List._∷_ (7, Rows'.sslice (Referent.rtF (Referent.fInt Syntax.w8)) (Syntax.tyRef (Syntax.named 2) Syntax.imm (Syntax.tyInt Syntax.w8)) 2) (List._∷_ (8, Mut.mslice (Referent.rtF (Referent.fInt Syntax.w8)) (Syntax.tyRef (Syntax.named 3) Syntax.mut (Syntax.tyInt Syntax.w8)) 3) (List._∷_ (9, Rows.arrF (Referent.rtF (Referent.fInt Syntax.w8)) 4 0) (List._∷_ (10, Rows.arrF (Referent.rtF (Referent.fInt Syntax.w8)) 4 0) (List._∷_ (11, Rows'.any-gone Laws.mir) (List._∷_ (12, Relend.msptr Client·T.the-row (Syntax.tyRef Syntax.erased Syntax.mut (Memory·T.pointee (Client·T.the-row .written))) 4) (List._∷_ (13, Rows'.any-gone (Syntax.tyStruct (List._∷_ 38 (List._∷_ 91 (List._∷_ 93 List.[]))) (Syntax.tcons (Syntax.tyRef Syntax.erased Syntax.mut (Memory·T.pointee (Client·T.the-row .written))) (Syntax.tcons (Syntax.tyInt Syntax.w64) Syntax.tnil)))) (List._∷_ (14, Rows'.any-gone (Syntax.tyRef Syntax.erased Syntax.mut (Syntax.tyInt Syntax.w8))) (List._∷_ (15, Rows'.any-gone (Syntax.tyStruct (List._∷_ 38 (List._∷_ 91 (List._∷_ 93 List.[]))) (Syntax.tcons (Syntax.tyRef Syntax.erased Syntax.mut (Syntax.tyInt Syntax.w8)) (Syntax.tcons (Syntax.tyInt Syntax.w64) Syntax.tnil)))) List.[])))))))))))))))
+        g7 = List._∷_ (0, Rows'.any-gone Laws'.mir) (List._∷_ (1, Relend.mslice-owed Client·T.the-row (Syntax.tyRef (Syntax.named 0) Syntax.mut (Memory·T.pointee (Client·T.the-row .written))) 0 4 (Row.lease (κs .0) (qs .0))) (List._∷_ (2, Mut.mslice (Referent.rtF (Referent.fInt Syntax.w8)) (Syntax.tyRef (Syntax.named 1) Syntax.mut (Syntax.tyInt Syntax.w8)) 1) (List._∷_ (3, Rows'.sc-here (Row.sInt Syntax.w64)) (List._∷_ (4, Rows'.sc-here (Row.sInt Syntax.w64)) (List._∷_ (5, Rows'.any-gone Laws.mir) (List._∷_ (6, Rows'.any-gone Laws.mir) (List._∷_ (7, Rows'.sslice (Referent.rtF (Referent.fInt Syntax.w8)) (Syntax.tyRef (Syntax.named 2) Syntax.imm (Syntax.tyInt Syntax.w8)) 2) (List._∷_ (8, Mut.mslice (Referent.rtF (Referent.fInt Syntax.w8)) (Syntax.tyRef (Syntax.named 3) Syntax.mut (Syntax.tyInt Syntax.w8)) 3) (List._∷_ (9, Rows.arrF (Referent.rtF (Referent.fInt Syntax.w8)) 4 0) (List._∷_ (10, Rows.arrF (Referent.rtF (Referent.fInt Syntax.w8)) 4 0) (List._∷_ (11, Rows'.any-gone Laws''.mir) (List._∷_ (12, Relend.msptr Client·T.the-row (Syntax.tyRef Syntax.erased Syntax.mut (Memory·T.pointee (Client·T.the-row .written))) 4) (List._∷_ (13, Rows'.any-gone (Syntax.tyStruct (List._∷_ 38 (List._∷_ 91 (List._∷_ 93 List.[]))) (Syntax.tcons (Syntax.tyRef Syntax.erased Syntax.mut (Memory·T.pointee (Client·T.the-row .written))) (Syntax.tcons (Syntax.tyInt Syntax.w64) Syntax.tnil)))) (List._∷_ (14, Rows'.any-gone (Syntax.tyRef Syntax.erased Syntax.mut (Syntax.tyInt Syntax.w8))) (List._∷_ (15, Rows'.any-gone (Syntax.tyStruct (List._∷_ 38 (List._∷_ 91 (List._∷_ 93 List.[]))) (Syntax.tcons (Syntax.tyRef Syntax.erased Syntax.mut (Syntax.tyInt Syntax.w8)) (Syntax.tcons (Syntax.tyInt Syntax.w64) Syntax.tnil)))) List.[])))))))))))))))
 
         abbrev g8 : List.List Row.Entry
-        g8 = List._∷_ (0, Rows'.any-gone Laws''.mir) (List._∷_ (1, Relend.mslice-owed Client·T.the-row (Syntax.tyRef (Syntax.named 0) Syntax.mut (Memory·T.pointee (Client·T.the-row .written))) 0 4 (Row.lease (κs .0) (qs .0))) (List._∷_ (2, Mut.mslice (Referent.rtF (Referent.fInt Syntax.w8)) (Syntax.tyRef (Syntax.named 1) Syntax.mut (Syntax.tyInt Syntax.w8)) 1) (List._∷_ (3, Rows'.sc-here (Row.sInt Syntax.w64)) (List._∷_ (4, Rows'.sc-here (Row.sInt Syntax.w64)) (List._∷_ (5, Rows'.any-gone Laws'.mir) (List._∷_ (6, Rows'.any-gone Laws'.mir) (List._∷_ (7, Rows'.sslice (Referent.rtF (Referent.fInt Syntax.w8)) (Syntax.tyRef (Syntax.named 2) Syntax.imm (Syntax.tyInt Syntax.w8)) 2) (List._∷_ (8, Mut.mslice (Referent.rtF (Referent.fInt Syntax.w8)) (Syntax.tyRef (Syntax.named 3) Syntax.mut (Syntax.tyInt Syntax.w8)) 3) (List._∷_ (9, Rows.arrF (Referent.rtF (Referent.fInt Syntax.w8)) 4 0) (List._∷_ (10, Rows.arrF (Referent.rtF (Referent.fInt Syntax.w8)) 4 0) (List._∷_ (11, Rows'.any-gone Laws.mir) (List._∷_ (12, Rows'.any-gone (Syntax.tyRef Syntax.erased Syntax.mut (Memory·T.pointee (Client·T.the-row .written)))) (List._∷_ (13, Mut.mslice Client·T.the-row (Syntax.tyRef Syntax.erased Syntax.mut (Memory·T.pointee (Client·T.the-row .written))) 4) (List._∷_ (14, Rows'.any-gone (Syntax.tyRef Syntax.erased Syntax.mut (Syntax.tyInt Syntax.w8))) (List._∷_ (15, Rows'.any-gone (Syntax.tyStruct (List._∷_ 38 (List._∷_ 91 (List._∷_ 93 List.[]))) (Syntax.tcons (Syntax.tyRef Syntax.erased Syntax.mut (Syntax.tyInt Syntax.w8)) (Syntax.tcons (Syntax.tyInt Syntax.w64) Syntax.tnil)))) List.[])))))))))))))))
+        g8 = List._∷_ (0, Rows'.any-gone Laws'.mir) (List._∷_ (1, Relend.mslice-owed Client·T.the-row (Syntax.tyRef (Syntax.named 0) Syntax.mut (Memory·T.pointee (Client·T.the-row .written))) 0 4 (Row.lease (κs .0) (qs .0))) (List._∷_ (2, Mut.mslice (Referent.rtF (Referent.fInt Syntax.w8)) (Syntax.tyRef (Syntax.named 1) Syntax.mut (Syntax.tyInt Syntax.w8)) 1) (List._∷_ (3, Rows'.sc-here (Row.sInt Syntax.w64)) (List._∷_ (4, Rows'.sc-here (Row.sInt Syntax.w64)) (List._∷_ (5, Rows'.any-gone Laws.mir) (List._∷_ (6, Rows'.any-gone Laws.mir) (List._∷_ (7, Rows'.sslice (Referent.rtF (Referent.fInt Syntax.w8)) (Syntax.tyRef (Syntax.named 2) Syntax.imm (Syntax.tyInt Syntax.w8)) 2) (List._∷_ (8, Mut.mslice (Referent.rtF (Referent.fInt Syntax.w8)) (Syntax.tyRef (Syntax.named 3) Syntax.mut (Syntax.tyInt Syntax.w8)) 3) (List._∷_ (9, Rows.arrF (Referent.rtF (Referent.fInt Syntax.w8)) 4 0) (List._∷_ (10, Rows.arrF (Referent.rtF (Referent.fInt Syntax.w8)) 4 0) (List._∷_ (11, Rows'.any-gone Laws''.mir) (List._∷_ (12, Rows'.any-gone (Syntax.tyRef Syntax.erased Syntax.mut (Memory·T.pointee (Client·T.the-row .written)))) (List._∷_ (13, Mut.mslice Client·T.the-row (Syntax.tyRef Syntax.erased Syntax.mut (Memory·T.pointee (Client·T.the-row .written))) 4) (List._∷_ (14, Rows'.any-gone (Syntax.tyRef Syntax.erased Syntax.mut (Syntax.tyInt Syntax.w8))) (List._∷_ (15, Rows'.any-gone (Syntax.tyStruct (List._∷_ 38 (List._∷_ 91 (List._∷_ 93 List.[]))) (Syntax.tcons (Syntax.tyRef Syntax.erased Syntax.mut (Syntax.tyInt Syntax.w8)) (Syntax.tcons (Syntax.tyInt Syntax.w64) Syntax.tnil)))) List.[])))))))))))))))
 
         abbrev g9 : List.List Row.Entry
-        g9 = List._∷_ (0, Rows'.any-gone Laws''.mir) (List._∷_ (1, Relend.mslice-owed Client·T.the-row (Syntax.tyRef (Syntax.named 0) Syntax.mut (Memory·T.pointee (Client·T.the-row .written))) 0 4 (Row.lease (κs .0) (qs .0))) (List._∷_ (2, Relend.mslice-owed (Referent.rtF (Referent.fInt Syntax.w8)) (Syntax.tyRef (Syntax.named 1) Syntax.mut (Syntax.tyInt Syntax.w8)) 1 5 (Row.lease (κs .1 .0) (qs .1 .0))) (List._∷_ (3, Rows'.sc-here (Row.sInt Syntax.w64)) (List._∷_ (4, Rows'.sc-here (Row.sInt Syntax.w64)) (List._∷_ (5, Rows'.any-gone Laws'.mir) (List._∷_ (6, Rows'.any-gone Laws'.mir) (List._∷_ (7, Rows'.sslice (Referent.rtF (Referent.fInt Syntax.w8)) (Syntax.tyRef (Syntax.named 2) Syntax.imm (Syntax.tyInt Syntax.w8)) 2) (List._∷_ (8, Mut.mslice (Referent.rtF (Referent.fInt Syntax.w8)) (Syntax.tyRef (Syntax.named 3) Syntax.mut (Syntax.tyInt Syntax.w8)) 3) (List._∷_ (9, Rows.arrF (Referent.rtF (Referent.fInt Syntax.w8)) 4 0) (List._∷_ (10, Rows.arrF (Referent.rtF (Referent.fInt Syntax.w8)) 4 0) (List._∷_ (11, Rows'.any-gone Laws.mir) (List._∷_ (12, Rows'.any-gone (Syntax.tyRef Syntax.erased Syntax.mut (Memory·T.pointee (Client·T.the-row .written)))) (List._∷_ (13, Mut.mslice Client·T.the-row (Syntax.tyRef Syntax.erased Syntax.mut (Memory·T.pointee (Client·T.the-row .written))) 4) (List._∷_ (14, Relend.msptr (Referent.rtF (Referent.fInt Syntax.w8)) (Syntax.tyRef Syntax.erased Syntax.mut (Syntax.tyInt Syntax.w8)) 5) (List._∷_ (15, Rows'.any-gone (Syntax.tyStruct (List._∷_ 38 (List._∷_ 91 (List._∷_ 93 List.[]))) (Syntax.tcons (Syntax.tyRef Syntax.erased Syntax.mut (Syntax.tyInt Syntax.w8)) (Syntax.tcons (Syntax.tyInt Syntax.w64) Syntax.tnil)))) List.[])))))))))))))))
+        g9 = List._∷_ (0, Rows'.any-gone Laws'.mir) (List._∷_ (1, Relend.mslice-owed Client·T.the-row (Syntax.tyRef (Syntax.named 0) Syntax.mut (Memory·T.pointee (Client·T.the-row .written))) 0 4 (Row.lease (κs .0) (qs .0))) (List._∷_ (2, Relend.mslice-owed (Referent.rtF (Referent.fInt Syntax.w8)) (Syntax.tyRef (Syntax.named 1) Syntax.mut (Syntax.tyInt Syntax.w8)) 1 5 (Row.lease (κs .1 .0) (qs .1 .0))) (List._∷_ (3, Rows'.sc-here (Row.sInt Syntax.w64)) (List._∷_ (4, Rows'.sc-here (Row.sInt Syntax.w64)) (List._∷_ (5, Rows'.any-gone Laws.mir) (List._∷_ (6, Rows'.any-gone Laws.mir) (List._∷_ (7, Rows'.sslice (Referent.rtF (Referent.fInt Syntax.w8)) (Syntax.tyRef (Syntax.named 2) Syntax.imm (Syntax.tyInt Syntax.w8)) 2) (List._∷_ (8, Mut.mslice (Referent.rtF (Referent.fInt Syntax.w8)) (Syntax.tyRef (Syntax.named 3) Syntax.mut (Syntax.tyInt Syntax.w8)) 3) (List._∷_ (9, Rows.arrF (Referent.rtF (Referent.fInt Syntax.w8)) 4 0) (List._∷_ (10, Rows.arrF (Referent.rtF (Referent.fInt Syntax.w8)) 4 0) (List._∷_ (11, Rows'.any-gone Laws''.mir) (List._∷_ (12, Rows'.any-gone (Syntax.tyRef Syntax.erased Syntax.mut (Memory·T.pointee (Client·T.the-row .written)))) (List._∷_ (13, Mut.mslice Client·T.the-row (Syntax.tyRef Syntax.erased Syntax.mut (Memory·T.pointee (Client·T.the-row .written))) 4) (List._∷_ (14, Relend.msptr (Referent.rtF (Referent.fInt Syntax.w8)) (Syntax.tyRef Syntax.erased Syntax.mut (Syntax.tyInt Syntax.w8)) 5) (List._∷_ (15, Rows'.any-gone (Syntax.tyStruct (List._∷_ 38 (List._∷_ 91 (List._∷_ 93 List.[]))) (Syntax.tcons (Syntax.tyRef Syntax.erased Syntax.mut (Syntax.tyInt Syntax.w8)) (Syntax.tcons (Syntax.tyInt Syntax.w64) Syntax.tnil)))) List.[])))))))))))))))
 
         abbrev g10 : List.List Row.Entry
-        g10 = List._∷_ (0, Rows'.any-gone Laws''.mir) (List._∷_ (1, Relend.mslice-owed Client·T.the-row (Syntax.tyRef (Syntax.named 0) Syntax.mut (Memory·T.pointee (Client·T.the-row .written))) 0 4 (Row.lease (κs .0) (qs .0))) (List._∷_ (2, Relend.mslice-owed (Referent.rtF (Referent.fInt Syntax.w8)) (Syntax.tyRef (Syntax.named 1) Syntax.mut (Syntax.tyInt Syntax.w8)) 1 5 (Row.lease (κs .1 .0) (qs .1 .0))) (List._∷_ (3, Rows'.sc-here (Row.sInt Syntax.w64)) (List._∷_ (4, Rows'.sc-here (Row.sInt Syntax.w64)) (List._∷_ (5, Rows'.any-gone Laws'.mir) (List._∷_ (6, Rows'.any-gone Laws'.mir) (List._∷_ (7, Rows'.sslice (Referent.rtF (Referent.fInt Syntax.w8)) (Syntax.tyRef (Syntax.named 2) Syntax.imm (Syntax.tyInt Syntax.w8)) 2) (List._∷_ (8, Mut.mslice (Referent.rtF (Referent.fInt Syntax.w8)) (Syntax.tyRef (Syntax.named 3) Syntax.mut (Syntax.tyInt Syntax.w8)) 3) (List._∷_ (9, Rows.arrF (Referent.rtF (Referent.fInt Syntax.w8)) 4 0) (List._∷_ (10, Rows.arrF (Referent.rtF (Referent.fInt Syntax.w8)) 4 0) (List._∷_ (11, Rows'.any-gone Laws.mir) (List._∷_ (12, Rows'.any-gone (Syntax.tyRef Syntax.erased Syntax.mut (Memory·T.pointee (Client·T.the-row .written)))) (List._∷_ (13, Mut.mslice Client·T.the-row (Syntax.tyRef Syntax.erased Syntax.mut (Memory·T.pointee (Client·T.the-row .written))) 4) (List._∷_ (14, Rows'.any-gone (Syntax.tyRef Syntax.erased Syntax.mut (Syntax.tyInt Syntax.w8))) (List._∷_ (15, Mut.mslice (Referent.rtF (Referent.fInt Syntax.w8)) (Syntax.tyRef Syntax.erased Syntax.mut (Syntax.tyInt Syntax.w8)) 5) List.[])))))))))))))))
+        g10 = List._∷_ (0, Rows'.any-gone Laws'.mir) (List._∷_ (1, Relend.mslice-owed Client·T.the-row (Syntax.tyRef (Syntax.named 0) Syntax.mut (Memory·T.pointee (Client·T.the-row .written))) 0 4 (Row.lease (κs .0) (qs .0))) (List._∷_ (2, Relend.mslice-owed (Referent.rtF (Referent.fInt Syntax.w8)) (Syntax.tyRef (Syntax.named 1) Syntax.mut (Syntax.tyInt Syntax.w8)) 1 5 (Row.lease (κs .1 .0) (qs .1 .0))) (List._∷_ (3, Rows'.sc-here (Row.sInt Syntax.w64)) (List._∷_ (4, Rows'.sc-here (Row.sInt Syntax.w64)) (List._∷_ (5, Rows'.any-gone Laws.mir) (List._∷_ (6, Rows'.any-gone Laws.mir) (List._∷_ (7, Rows'.sslice (Referent.rtF (Referent.fInt Syntax.w8)) (Syntax.tyRef (Syntax.named 2) Syntax.imm (Syntax.tyInt Syntax.w8)) 2) (List._∷_ (8, Mut.mslice (Referent.rtF (Referent.fInt Syntax.w8)) (Syntax.tyRef (Syntax.named 3) Syntax.mut (Syntax.tyInt Syntax.w8)) 3) (List._∷_ (9, Rows.arrF (Referent.rtF (Referent.fInt Syntax.w8)) 4 0) (List._∷_ (10, Rows.arrF (Referent.rtF (Referent.fInt Syntax.w8)) 4 0) (List._∷_ (11, Rows'.any-gone Laws''.mir) (List._∷_ (12, Rows'.any-gone (Syntax.tyRef Syntax.erased Syntax.mut (Memory·T.pointee (Client·T.the-row .written)))) (List._∷_ (13, Mut.mslice Client·T.the-row (Syntax.tyRef Syntax.erased Syntax.mut (Memory·T.pointee (Client·T.the-row .written))) 4) (List._∷_ (14, Rows'.any-gone (Syntax.tyRef Syntax.erased Syntax.mut (Syntax.tyInt Syntax.w8))) (List._∷_ (15, Mut.mslice (Referent.rtF (Referent.fInt Syntax.w8)) (Syntax.tyRef Syntax.erased Syntax.mut (Syntax.tyInt Syntax.w8)) 5) List.[])))))))))))))))
 
         abbrev g11 : List.List Row.Entry
-        g11 = List._∷_ (0, Rows'.any-gone Laws''.mir) (List._∷_ (1, Relend.mslice-owed Client·T.the-row (Syntax.tyRef (Syntax.named 0) Syntax.mut (Memory·T.pointee (Client·T.the-row .written))) 0 4 (Row.lease (κs .0) (qs .0))) (List._∷_ (2, Relend.mslice-owed (Referent.rtF (Referent.fInt Syntax.w8)) (Syntax.tyRef (Syntax.named 1) Syntax.mut (Syntax.tyInt Syntax.w8)) 1 5 (Row.lease (κs .1 .0) (qs .1 .0))) (List._∷_ (3, Rows'.sc-here (Row.sInt Syntax.w64)) (List._∷_ (4, Rows'.sc-here (Row.sInt Syntax.w64)) (List._∷_ (5, Rows'.any-gone Laws'.mir) (List._∷_ (6, Rows'.any-gone Laws'.mir) (List._∷_ (7, Rows'.sslice (Referent.rtF (Referent.fInt Syntax.w8)) (Syntax.tyRef (Syntax.named 2) Syntax.imm (Syntax.tyInt Syntax.w8)) 2) (List._∷_ (8, Relend.mslice-owed (Referent.rtF (Referent.fInt Syntax.w8)) (Syntax.tyRef (Syntax.named 3) Syntax.mut (Syntax.tyInt Syntax.w8)) 3 6 (Row.lease (κs .1 .1 .1 .0) (qs .1 .1 .1 .0))) (List._∷_ (9, Rows.arrF (Referent.rtF (Referent.fInt Syntax.w8)) 4 0) (List._∷_ (10, Rows.arrF (Referent.rtF (Referent.fInt Syntax.w8)) 4 0) (List._∷_ (11, Rows'.any-gone Laws.mir) (List._∷_ (12, Rows'.any-gone (Syntax.tyRef Syntax.erased Syntax.mut (Memory·T.pointee (Client·T.the-row .written)))) (List._∷_ (13, Mut.mslice Client·T.the-row (Syntax.tyRef Syntax.erased Syntax.mut (Memory·T.pointee (Client·T.the-row .written))) 4) (List._∷_ (14, Rows'.any-gone (Syntax.tyRef Syntax.erased Syntax.mut (Syntax.tyInt Syntax.w8))) (List._∷_ (15, Mut.mslice (Referent.rtF (Referent.fInt Syntax.w8)) (Syntax.tyRef Syntax.erased Syntax.mut (Syntax.tyInt Syntax.w8)) 5) List.[])))))))))))))))
+        g11 = List._∷_ (0, Rows'.any-gone Laws'.mir) (List._∷_ (1, Relend.mslice-owed Client·T.the-row (Syntax.tyRef (Syntax.named 0) Syntax.mut (Memory·T.pointee (Client·T.the-row .written))) 0 4 (Row.lease (κs .0) (qs .0))) (List._∷_ (2, Relend.mslice-owed (Referent.rtF (Referent.fInt Syntax.w8)) (Syntax.tyRef (Syntax.named 1) Syntax.mut (Syntax.tyInt Syntax.w8)) 1 5 (Row.lease (κs .1 .0) (qs .1 .0))) (List._∷_ (3, Rows'.sc-here (Row.sInt Syntax.w64)) (List._∷_ (4, Rows'.sc-here (Row.sInt Syntax.w64)) (List._∷_ (5, Rows'.any-gone Laws.mir) (List._∷_ (6, Rows'.any-gone Laws.mir) (List._∷_ (7, Rows'.sslice (Referent.rtF (Referent.fInt Syntax.w8)) (Syntax.tyRef (Syntax.named 2) Syntax.imm (Syntax.tyInt Syntax.w8)) 2) (List._∷_ (8, Relend.mslice-owed (Referent.rtF (Referent.fInt Syntax.w8)) (Syntax.tyRef (Syntax.named 3) Syntax.mut (Syntax.tyInt Syntax.w8)) 3 6 (Row.lease (κs .1 .1 .1 .0) (qs .1 .1 .1 .0))) (List._∷_ (9, Rows.arrF (Referent.rtF (Referent.fInt Syntax.w8)) 4 0) (List._∷_ (10, Rows.arrF (Referent.rtF (Referent.fInt Syntax.w8)) 4 0) (List._∷_ (11, Rows'.any-gone Laws''.mir) (List._∷_ (12, Rows'.any-gone (Syntax.tyRef Syntax.erased Syntax.mut (Memory·T.pointee (Client·T.the-row .written)))) (List._∷_ (13, Mut.mslice Client·T.the-row (Syntax.tyRef Syntax.erased Syntax.mut (Memory·T.pointee (Client·T.the-row .written))) 4) (List._∷_ (14, Rows'.any-gone (Syntax.tyRef Syntax.erased Syntax.mut (Syntax.tyInt Syntax.w8))) (List._∷_ (15, Mut.mslice (Referent.rtF (Referent.fInt Syntax.w8)) (Syntax.tyRef Syntax.erased Syntax.mut (Syntax.tyInt Syntax.w8)) 5) List.[])))))))))))))))
 
         abbrev g14 : List.List Row.Entry
-        g14 = List._∷_ (0, Rows'.any-gone Laws''.mir) (List._∷_ (1, Relend.mslice-owed Client·T.the-row (Syntax.tyRef (Syntax.named 0) Syntax.mut (Memory·T.pointee (Client·T.the-row .written))) 0 4 (Row.lease (κs .0) (qs .0))) (List._∷_ (2, Relend.mslice-owed (Referent.rtF (Referent.fInt Syntax.w8)) (Syntax.tyRef (Syntax.named 1) Syntax.mut (Syntax.tyInt Syntax.w8)) 1 5 (Row.lease (κs .1 .0) (qs .1 .0))) (List._∷_ (3, Rows'.sc-here (Row.sInt Syntax.w64)) (List._∷_ (4, Rows'.sc-here (Row.sInt Syntax.w64)) (List._∷_ (5, Rows'.any-gone Laws'.mir) (List._∷_ (6, Rows'.any-gone Laws'.mir) (List._∷_ (7, Rows'.sslice (Referent.rtF (Referent.fInt Syntax.w8)) (Syntax.tyRef (Syntax.named 2) Syntax.imm (Syntax.tyInt Syntax.w8)) 2) (List._∷_ (8, Relend.mslice-owed (Referent.rtF (Referent.fInt Syntax.w8)) (Syntax.tyRef (Syntax.named 3) Syntax.mut (Syntax.tyInt Syntax.w8)) 3 6 (Row.lease (κs .1 .1 .1 .0) (qs .1 .1 .1 .0))) (List._∷_ (9, Rows.arrF (Referent.rtF (Referent.fInt Syntax.w8)) 4 0) (List._∷_ (10, Rows.arrF (Referent.rtF (Referent.fInt Syntax.w8)) 4 0) (List._∷_ (11, Rows'.whole (Declared.row Received.the-type)) (List._∷_ (12, Rows'.any-gone (Syntax.tyRef Syntax.erased Syntax.mut (Memory·T.pointee (Client·T.the-row .written)))) (List._∷_ (13, Mut.msleft Client·T.the-row (Syntax.tyRef Syntax.erased Syntax.mut (Memory·T.pointee (Client·T.the-row .written)))) (List._∷_ (14, Rows'.any-gone (Syntax.tyRef Syntax.erased Syntax.mut (Syntax.tyInt Syntax.w8))) (List._∷_ (15, Mut.msleft (Referent.rtF (Referent.fInt Syntax.w8)) (Syntax.tyRef Syntax.erased Syntax.mut (Syntax.tyInt Syntax.w8))) List.[])))))))))))))))
+        g14 = List._∷_ (0, Rows'.any-gone Laws'.mir) (List._∷_ (1, Relend.mslice-owed Client·T.the-row (Syntax.tyRef (Syntax.named 0) Syntax.mut (Memory·T.pointee (Client·T.the-row .written))) 0 4 (Row.lease (κs .0) (qs .0))) (List._∷_ (2, Relend.mslice-owed (Referent.rtF (Referent.fInt Syntax.w8)) (Syntax.tyRef (Syntax.named 1) Syntax.mut (Syntax.tyInt Syntax.w8)) 1 5 (Row.lease (κs .1 .0) (qs .1 .0))) (List._∷_ (3, Rows'.sc-here (Row.sInt Syntax.w64)) (List._∷_ (4, Rows'.sc-here (Row.sInt Syntax.w64)) (List._∷_ (5, Rows'.any-gone Laws.mir) (List._∷_ (6, Rows'.any-gone Laws.mir) (List._∷_ (7, Rows'.sslice (Referent.rtF (Referent.fInt Syntax.w8)) (Syntax.tyRef (Syntax.named 2) Syntax.imm (Syntax.tyInt Syntax.w8)) 2) (List._∷_ (8, Relend.mslice-owed (Referent.rtF (Referent.fInt Syntax.w8)) (Syntax.tyRef (Syntax.named 3) Syntax.mut (Syntax.tyInt Syntax.w8)) 3 6 (Row.lease (κs .1 .1 .1 .0) (qs .1 .1 .1 .0))) (List._∷_ (9, Rows.arrF (Referent.rtF (Referent.fInt Syntax.w8)) 4 0) (List._∷_ (10, Rows.arrF (Referent.rtF (Referent.fInt Syntax.w8)) 4 0) (List._∷_ (11, Rows'.whole (Declared.row Received'.the-type)) (List._∷_ (12, Rows'.any-gone (Syntax.tyRef Syntax.erased Syntax.mut (Memory·T.pointee (Client·T.the-row .written)))) (List._∷_ (13, Mut.msleft Client·T.the-row (Syntax.tyRef Syntax.erased Syntax.mut (Memory·T.pointee (Client·T.the-row .written)))) (List._∷_ (14, Rows'.any-gone (Syntax.tyRef Syntax.erased Syntax.mut (Syntax.tyInt Syntax.w8))) (List._∷_ (15, Mut.msleft (Referent.rtF (Referent.fInt Syntax.w8)) (Syntax.tyRef Syntax.erased Syntax.mut (Syntax.tyInt Syntax.w8))) List.[])))))))))))))))
 
         abbrev g16 : List.List Row.Entry
-        g16 = List._∷_ (0, Rows'.any-gone Laws''.mir) (List._∷_ (1, Relend.mslice-owed Client·T.the-row (Syntax.tyRef (Syntax.named 0) Syntax.mut (Memory·T.pointee (Client·T.the-row .written))) 0 4 (Row.lease (κs .0) (qs .0))) (List._∷_ (2, Relend.mslice-owed (Referent.rtF (Referent.fInt Syntax.w8)) (Syntax.tyRef (Syntax.named 1) Syntax.mut (Syntax.tyInt Syntax.w8)) 1 5 (Row.lease (κs .1 .0) (qs .1 .0))) (List._∷_ (3, Rows'.sc-here (Row.sInt Syntax.w64)) (List._∷_ (4, Rows'.sc-here (Row.sInt Syntax.w64)) (List._∷_ (5, Rows'.any-gone Laws'.mir) (List._∷_ (6, Rows'.any-gone Laws'.mir) (List._∷_ (7, Rows'.sslice (Referent.rtF (Referent.fInt Syntax.w8)) (Syntax.tyRef (Syntax.named 2) Syntax.imm (Syntax.tyInt Syntax.w8)) 2) (List._∷_ (8, Relend.mslice-owed (Referent.rtF (Referent.fInt Syntax.w8)) (Syntax.tyRef (Syntax.named 3) Syntax.mut (Syntax.tyInt Syntax.w8)) 3 6 (Row.lease (κs .1 .1 .1 .0) (qs .1 .1 .1 .0))) (List._∷_ (9, Rows'.any-gone (Syntax.tyArray (Syntax.tyInt Syntax.w8) 4)) (List._∷_ (10, Rows.arrF (Referent.rtF (Referent.fInt Syntax.w8)) 4 0) (List._∷_ (11, Rows'.whole (Declared.row Received.the-type)) (List._∷_ (12, Rows'.any-gone (Syntax.tyRef Syntax.erased Syntax.mut (Memory·T.pointee (Client·T.the-row .written)))) (List._∷_ (13, Mut.msleft Client·T.the-row (Syntax.tyRef Syntax.erased Syntax.mut (Memory·T.pointee (Client·T.the-row .written)))) (List._∷_ (14, Rows'.any-gone (Syntax.tyRef Syntax.erased Syntax.mut (Syntax.tyInt Syntax.w8))) (List._∷_ (15, Mut.msleft (Referent.rtF (Referent.fInt Syntax.w8)) (Syntax.tyRef Syntax.erased Syntax.mut (Syntax.tyInt Syntax.w8))) List.[])))))))))))))))
+        g16 = List._∷_ (0, Rows'.any-gone Laws'.mir) (List._∷_ (1, Relend.mslice-owed Client·T.the-row (Syntax.tyRef (Syntax.named 0) Syntax.mut (Memory·T.pointee (Client·T.the-row .written))) 0 4 (Row.lease (κs .0) (qs .0))) (List._∷_ (2, Relend.mslice-owed (Referent.rtF (Referent.fInt Syntax.w8)) (Syntax.tyRef (Syntax.named 1) Syntax.mut (Syntax.tyInt Syntax.w8)) 1 5 (Row.lease (κs .1 .0) (qs .1 .0))) (List._∷_ (3, Rows'.sc-here (Row.sInt Syntax.w64)) (List._∷_ (4, Rows'.sc-here (Row.sInt Syntax.w64)) (List._∷_ (5, Rows'.any-gone Laws.mir) (List._∷_ (6, Rows'.any-gone Laws.mir) (List._∷_ (7, Rows'.sslice (Referent.rtF (Referent.fInt Syntax.w8)) (Syntax.tyRef (Syntax.named 2) Syntax.imm (Syntax.tyInt Syntax.w8)) 2) (List._∷_ (8, Relend.mslice-owed (Referent.rtF (Referent.fInt Syntax.w8)) (Syntax.tyRef (Syntax.named 3) Syntax.mut (Syntax.tyInt Syntax.w8)) 3 6 (Row.lease (κs .1 .1 .1 .0) (qs .1 .1 .1 .0))) (List._∷_ (9, Rows'.any-gone (Syntax.tyArray (Syntax.tyInt Syntax.w8) 4)) (List._∷_ (10, Rows.arrF (Referent.rtF (Referent.fInt Syntax.w8)) 4 0) (List._∷_ (11, Rows'.whole (Declared.row Received'.the-type)) (List._∷_ (12, Rows'.any-gone (Syntax.tyRef Syntax.erased Syntax.mut (Memory·T.pointee (Client·T.the-row .written)))) (List._∷_ (13, Mut.msleft Client·T.the-row (Syntax.tyRef Syntax.erased Syntax.mut (Memory·T.pointee (Client·T.the-row .written)))) (List._∷_ (14, Rows'.any-gone (Syntax.tyRef Syntax.erased Syntax.mut (Syntax.tyInt Syntax.w8))) (List._∷_ (15, Mut.msleft (Referent.rtF (Referent.fInt Syntax.w8)) (Syntax.tyRef Syntax.erased Syntax.mut (Syntax.tyInt Syntax.w8))) List.[])))))))))))))))
 
         abbrev g17 : List.List Row.Entry
-        g17 = List._∷_ (0, Rows'.any-gone Laws''.mir) (List._∷_ (1, Relend.mslice-owed Client·T.the-row (Syntax.tyRef (Syntax.named 0) Syntax.mut (Memory·T.pointee (Client·T.the-row .written))) 0 4 (Row.lease (κs .0) (qs .0))) (List._∷_ (2, Relend.mslice-owed (Referent.rtF (Referent.fInt Syntax.w8)) (Syntax.tyRef (Syntax.named 1) Syntax.mut (Syntax.tyInt Syntax.w8)) 1 5 (Row.lease (κs .1 .0) (qs .1 .0))) (List._∷_ (3, Rows'.sc-here (Row.sInt Syntax.w64)) (List._∷_ (4, Rows'.sc-here (Row.sInt Syntax.w64)) (List._∷_ (5, Rows'.any-gone Laws'.mir) (List._∷_ (6, Rows'.any-gone Laws'.mir) (List._∷_ (7, Rows'.sslice (Referent.rtF (Referent.fInt Syntax.w8)) (Syntax.tyRef (Syntax.named 2) Syntax.imm (Syntax.tyInt Syntax.w8)) 2) (List._∷_ (8, Relend.mslice-owed (Referent.rtF (Referent.fInt Syntax.w8)) (Syntax.tyRef (Syntax.named 3) Syntax.mut (Syntax.tyInt Syntax.w8)) 3 6 (Row.lease (κs .1 .1 .1 .0) (qs .1 .1 .1 .0))) (List._∷_ (9, Rows'.any-gone (Syntax.tyArray (Syntax.tyInt Syntax.w8) 4)) (List._∷_ (10, Rows'.any-gone (Syntax.tyArray (Syntax.tyInt Syntax.w8) 4)) (List._∷_ (11, Rows'.whole (Declared.row Received.the-type)) (List._∷_ (12, Rows'.any-gone (Syntax.tyRef Syntax.erased Syntax.mut (Memory·T.pointee (Client·T.the-row .written)))) (List._∷_ (13, Mut.msleft Client·T.the-row (Syntax.tyRef Syntax.erased Syntax.mut (Memory·T.pointee (Client·T.the-row .written)))) (List._∷_ (14, Rows'.any-gone (Syntax.tyRef Syntax.erased Syntax.mut (Syntax.tyInt Syntax.w8))) (List._∷_ (15, Mut.msleft (Referent.rtF (Referent.fInt Syntax.w8)) (Syntax.tyRef Syntax.erased Syntax.mut (Syntax.tyInt Syntax.w8))) List.[])))))))))))))))
+        g17 = List._∷_ (0, Rows'.any-gone Laws'.mir) (List._∷_ (1, Relend.mslice-owed Client·T.the-row (Syntax.tyRef (Syntax.named 0) Syntax.mut (Memory·T.pointee (Client·T.the-row .written))) 0 4 (Row.lease (κs .0) (qs .0))) (List._∷_ (2, Relend.mslice-owed (Referent.rtF (Referent.fInt Syntax.w8)) (Syntax.tyRef (Syntax.named 1) Syntax.mut (Syntax.tyInt Syntax.w8)) 1 5 (Row.lease (κs .1 .0) (qs .1 .0))) (List._∷_ (3, Rows'.sc-here (Row.sInt Syntax.w64)) (List._∷_ (4, Rows'.sc-here (Row.sInt Syntax.w64)) (List._∷_ (5, Rows'.any-gone Laws.mir) (List._∷_ (6, Rows'.any-gone Laws.mir) (List._∷_ (7, Rows'.sslice (Referent.rtF (Referent.fInt Syntax.w8)) (Syntax.tyRef (Syntax.named 2) Syntax.imm (Syntax.tyInt Syntax.w8)) 2) (List._∷_ (8, Relend.mslice-owed (Referent.rtF (Referent.fInt Syntax.w8)) (Syntax.tyRef (Syntax.named 3) Syntax.mut (Syntax.tyInt Syntax.w8)) 3 6 (Row.lease (κs .1 .1 .1 .0) (qs .1 .1 .1 .0))) (List._∷_ (9, Rows'.any-gone (Syntax.tyArray (Syntax.tyInt Syntax.w8) 4)) (List._∷_ (10, Rows'.any-gone (Syntax.tyArray (Syntax.tyInt Syntax.w8) 4)) (List._∷_ (11, Rows'.whole (Declared.row Received'.the-type)) (List._∷_ (12, Rows'.any-gone (Syntax.tyRef Syntax.erased Syntax.mut (Memory·T.pointee (Client·T.the-row .written)))) (List._∷_ (13, Mut.msleft Client·T.the-row (Syntax.tyRef Syntax.erased Syntax.mut (Memory·T.pointee (Client·T.the-row .written)))) (List._∷_ (14, Rows'.any-gone (Syntax.tyRef Syntax.erased Syntax.mut (Syntax.tyInt Syntax.w8))) (List._∷_ (15, Mut.msleft (Referent.rtF (Referent.fInt Syntax.w8)) (Syntax.tyRef Syntax.erased Syntax.mut (Syntax.tyInt Syntax.w8))) List.[])))))))))))))))
 
         abbrev g18 : List.List Row.Entry
-        g18 = List._∷_ (0, Rows'.any-gone Laws''.mir) (List._∷_ (1, Mut.mslice Client·T.the-row (Syntax.tyRef (Syntax.named 0) Syntax.mut (Memory·T.pointee (Client·T.the-row .written))) 0) (List._∷_ (2, Relend.mslice-owed (Referent.rtF (Referent.fInt Syntax.w8)) (Syntax.tyRef (Syntax.named 1) Syntax.mut (Syntax.tyInt Syntax.w8)) 1 5 (Row.lease (κs .1 .0) (qs .1 .0))) (List._∷_ (3, Rows'.sc-here (Row.sInt Syntax.w64)) (List._∷_ (4, Rows'.sc-here (Row.sInt Syntax.w64)) (List._∷_ (5, Rows'.any-gone Laws'.mir) (List._∷_ (6, Rows'.any-gone Laws'.mir) (List._∷_ (7, Rows'.sslice (Referent.rtF (Referent.fInt Syntax.w8)) (Syntax.tyRef (Syntax.named 2) Syntax.imm (Syntax.tyInt Syntax.w8)) 2) (List._∷_ (8, Relend.mslice-owed (Referent.rtF (Referent.fInt Syntax.w8)) (Syntax.tyRef (Syntax.named 3) Syntax.mut (Syntax.tyInt Syntax.w8)) 3 6 (Row.lease (κs .1 .1 .1 .0) (qs .1 .1 .1 .0))) (List._∷_ (9, Rows'.any-gone (Syntax.tyArray (Syntax.tyInt Syntax.w8) 4)) (List._∷_ (10, Rows'.any-gone (Syntax.tyArray (Syntax.tyInt Syntax.w8) 4)) (List._∷_ (11, Rows'.whole (Declared.row Received.the-type)) (List._∷_ (12, Rows'.any-gone (Syntax.tyRef Syntax.erased Syntax.mut (Memory·T.pointee (Client·T.the-row .written)))) (List._∷_ (13, Rows'.any-gone (Syntax.tyStruct (List._∷_ 38 (List._∷_ 91 (List._∷_ 93 List.[]))) (Syntax.tcons (Syntax.tyRef Syntax.erased Syntax.mut (Memory·T.pointee (Client·T.the-row .written))) (Syntax.tcons (Syntax.tyInt Syntax.w64) Syntax.tnil)))) (List._∷_ (14, Rows'.any-gone (Syntax.tyRef Syntax.erased Syntax.mut (Syntax.tyInt Syntax.w8))) (List._∷_ (15, Mut.msleft (Referent.rtF (Referent.fInt Syntax.w8)) (Syntax.tyRef Syntax.erased Syntax.mut (Syntax.tyInt Syntax.w8))) List.[])))))))))))))))
+        g18 = List._∷_ (0, Rows'.any-gone Laws'.mir) (List._∷_ (1, Mut.mslice Client·T.the-row (Syntax.tyRef (Syntax.named 0) Syntax.mut (Memory·T.pointee (Client·T.the-row .written))) 0) (List._∷_ (2, Relend.mslice-owed (Referent.rtF (Referent.fInt Syntax.w8)) (Syntax.tyRef (Syntax.named 1) Syntax.mut (Syntax.tyInt Syntax.w8)) 1 5 (Row.lease (κs .1 .0) (qs .1 .0))) (List._∷_ (3, Rows'.sc-here (Row.sInt Syntax.w64)) (List._∷_ (4, Rows'.sc-here (Row.sInt Syntax.w64)) (List._∷_ (5, Rows'.any-gone Laws.mir) (List._∷_ (6, Rows'.any-gone Laws.mir) (List._∷_ (7, Rows'.sslice (Referent.rtF (Referent.fInt Syntax.w8)) (Syntax.tyRef (Syntax.named 2) Syntax.imm (Syntax.tyInt Syntax.w8)) 2) (List._∷_ (8, Relend.mslice-owed (Referent.rtF (Referent.fInt Syntax.w8)) (Syntax.tyRef (Syntax.named 3) Syntax.mut (Syntax.tyInt Syntax.w8)) 3 6 (Row.lease (κs .1 .1 .1 .0) (qs .1 .1 .1 .0))) (List._∷_ (9, Rows'.any-gone (Syntax.tyArray (Syntax.tyInt Syntax.w8) 4)) (List._∷_ (10, Rows'.any-gone (Syntax.tyArray (Syntax.tyInt Syntax.w8) 4)) (List._∷_ (11, Rows'.whole (Declared.row Received'.the-type)) (List._∷_ (12, Rows'.any-gone (Syntax.tyRef Syntax.erased Syntax.mut (Memory·T.pointee (Client·T.the-row .written)))) (List._∷_ (13, Rows'.any-gone (Syntax.tyStruct (List._∷_ 38 (List._∷_ 91 (List._∷_ 93 List.[]))) (Syntax.tcons (Syntax.tyRef Syntax.erased Syntax.mut (Memory·T.pointee (Client·T.the-row .written))) (Syntax.tcons (Syntax.tyInt Syntax.w64) Syntax.tnil)))) (List._∷_ (14, Rows'.any-gone (Syntax.tyRef Syntax.erased Syntax.mut (Syntax.tyInt Syntax.w8))) (List._∷_ (15, Mut.msleft (Referent.rtF (Referent.fInt Syntax.w8)) (Syntax.tyRef Syntax.erased Syntax.mut (Syntax.tyInt Syntax.w8))) List.[])))))))))))))))
 
         abbrev g19 : List.List Row.Entry
-        g19 = List._∷_ (0, Rows'.any-gone Laws''.mir) (List._∷_ (1, Mut.mslice Client·T.the-row (Syntax.tyRef (Syntax.named 0) Syntax.mut (Memory·T.pointee (Client·T.the-row .written))) 0) (List._∷_ (2, Mut.mslice (Referent.rtF (Referent.fInt Syntax.w8)) (Syntax.tyRef (Syntax.named 1) Syntax.mut (Syntax.tyInt Syntax.w8)) 1) (List._∷_ (3, Rows'.sc-here (Row.sInt Syntax.w64)) (List._∷_ (4, Rows'.sc-here (Row.sInt Syntax.w64)) (List._∷_ (5, Rows'.any-gone Laws'.mir) (List._∷_ (6, Rows'.any-gone Laws'.mir) (List._∷_ (7, Rows'.sslice (Referent.rtF (Referent.fInt Syntax.w8)) (Syntax.tyRef (Syntax.named 2) Syntax.imm (Syntax.tyInt Syntax.w8)) 2) (List._∷_ (8, Relend.mslice-owed (Referent.rtF (Referent.fInt Syntax.w8)) (Syntax.tyRef (Syntax.named 3) Syntax.mut (Syntax.tyInt Syntax.w8)) 3 6 (Row.lease (κs .1 .1 .1 .0) (qs .1 .1 .1 .0))) (List._∷_ (9, Rows'.any-gone (Syntax.tyArray (Syntax.tyInt Syntax.w8) 4)) (List._∷_ (10, Rows'.any-gone (Syntax.tyArray (Syntax.tyInt Syntax.w8) 4)) (List._∷_ (11, Rows'.whole (Declared.row Received.the-type)) (List._∷_ (12, Rows'.any-gone (Syntax.tyRef Syntax.erased Syntax.mut (Memory·T.pointee (Client·T.the-row .written)))) (List._∷_ (13, Rows'.any-gone (Syntax.tyStruct (List._∷_ 38 (List._∷_ 91 (List._∷_ 93 List.[]))) (Syntax.tcons (Syntax.tyRef Syntax.erased Syntax.mut (Memory·T.pointee (Client·T.the-row .written))) (Syntax.tcons (Syntax.tyInt Syntax.w64) Syntax.tnil)))) (List._∷_ (14, Rows'.any-gone (Syntax.tyRef Syntax.erased Syntax.mut (Syntax.tyInt Syntax.w8))) (List._∷_ (15, Rows'.any-gone (Syntax.tyStruct (List._∷_ 38 (List._∷_ 91 (List._∷_ 93 List.[]))) (Syntax.tcons (Syntax.tyRef Syntax.erased Syntax.mut (Syntax.tyInt Syntax.w8)) (Syntax.tcons (Syntax.tyInt Syntax.w64) Syntax.tnil)))) List.[])))))))))))))))
+        g19 = List._∷_ (0, Rows'.any-gone Laws'.mir) (List._∷_ (1, Mut.mslice Client·T.the-row (Syntax.tyRef (Syntax.named 0) Syntax.mut (Memory·T.pointee (Client·T.the-row .written))) 0) (List._∷_ (2, Mut.mslice (Referent.rtF (Referent.fInt Syntax.w8)) (Syntax.tyRef (Syntax.named 1) Syntax.mut (Syntax.tyInt Syntax.w8)) 1) (List._∷_ (3, Rows'.sc-here (Row.sInt Syntax.w64)) (List._∷_ (4, Rows'.sc-here (Row.sInt Syntax.w64)) (List._∷_ (5, Rows'.any-gone Laws.mir) (List._∷_ (6, Rows'.any-gone Laws.mir) (List._∷_ (7, Rows'.sslice (Referent.rtF (Referent.fInt Syntax.w8)) (Syntax.tyRef (Syntax.named 2) Syntax.imm (Syntax.tyInt Syntax.w8)) 2) (List._∷_ (8, Relend.mslice-owed (Referent.rtF (Referent.fInt Syntax.w8)) (Syntax.tyRef (Syntax.named 3) Syntax.mut (Syntax.tyInt Syntax.w8)) 3 6 (Row.lease (κs .1 .1 .1 .0) (qs .1 .1 .1 .0))) (List._∷_ (9, Rows'.any-gone (Syntax.tyArray (Syntax.tyInt Syntax.w8) 4)) (List._∷_ (10, Rows'.any-gone (Syntax.tyArray (Syntax.tyInt Syntax.w8) 4)) (List._∷_ (11, Rows'.whole (Declared.row Received'.the-type)) (List._∷_ (12, Rows'.any-gone (Syntax.tyRef Syntax.erased Syntax.mut (Memory·T.pointee (Client·T.the-row .written)))) (List._∷_ (13, Rows'.any-gone (Syntax.tyStruct (List._∷_ 38 (List._∷_ 91 (List._∷_ 93 List.[]))) (Syntax.tcons (Syntax.tyRef Syntax.erased Syntax.mut (Memory·T.pointee (Client·T.the-row .written))) (Syntax.tcons (Syntax.tyInt Syntax.w64) Syntax.tnil)))) (List._∷_ (14, Rows'.any-gone (Syntax.tyRef Syntax.erased Syntax.mut (Syntax.tyInt Syntax.w8))) (List._∷_ (15, Rows'.any-gone (Syntax.tyStruct (List._∷_ 38 (List._∷_ 91 (List._∷_ 93 List.[]))) (Syntax.tcons (Syntax.tyRef Syntax.erased Syntax.mut (Syntax.tyInt Syntax.w8)) (Syntax.tcons (Syntax.tyInt Syntax.w64) Syntax.tnil)))) List.[])))))))))))))))
 
         abbrev G0 : Row.Cx
         G0 = record { locals = List._++_ t0 t1; slots = List._∷_ (Row.lease (κs .0) (qs .0)) (List._∷_ (Row.lease (κs .1 .0) (qs .1 .0)) (List._∷_ (Row.lease (κs .1 .1 .0) (qs .1 .1 .0)) (List._∷_ (Row.lease (κs .1 .1 .1 .0) (qs .1 .1 .1 .0)) (List._∷_ Row.off (List._∷_ Row.off (List._∷_ Row.off List.[])))))) }
@@ -669,10 +669,10 @@ module _ (claims· : Claims) where
           d2 = Typed.g-pre 𝓤 H A W 𝓣 E G33 G34 b10 Δ0 (Typed.pass T33 T34 (s32 bs)) (at1 bs) (Scalar.g-room 𝓤 H A W E G33 3 (Syntax.tyInt Syntax.w64) (Scalar.room-sc 𝓤 H A W (Row.sInt Syntax.w64))) d1
 
           d3 : Typed.Typed 𝓤 H A 𝓣 E G32 b10 Δ0 (at3 bs)
-          d3 = Typed.g-pre 𝓤 H A W 𝓣 E G32 G33 b10 Δ0 (Typed.pass T32 T33 (s31 bs)) (at2 bs) (Scalar.g-room 𝓤 H A W E G32 11 Laws.mir (Local.room-whole 𝓤 H A W (Declared.row Received.the-type) Laws.mir Path'.refl)) d2
+          d3 = Typed.g-pre 𝓤 H A W 𝓣 E G32 G33 b10 Δ0 (Typed.pass T32 T33 (s31 bs)) (at2 bs) (Scalar.g-room 𝓤 H A W E G32 11 Laws''.mir (Local.room-whole 𝓤 H A W (Declared.row Received'.the-type) Laws''.mir Path'.refl)) d2
 
           d4 : Typed.Typed 𝓤 H A 𝓣 E G31 b11 Δ0 (at4 bs)
-          d4 = Typed.s-seq 𝓤 H A W 𝓣 E G31 G32 b9 b10 Δ0 (Typed.both (s30 bs)) (at3 bs) (Plain.t-call-plain 𝓤 H A W 𝓣 0 ps·1 r·1 (claims· .2) (claims· .3) "host_values::received_of" (known .1) E (λ pos β. β) G31 (record { pos = 11; st = List.[]; d = 0; at = λ x. x }, tt) 0 List.[] (Call.sub-id 𝓤 H A W (G31 .slots)) ((Yields.yields-copy 𝓤 H A W (λ ρ. Unit) (Declared.row Received.the-type) Path'.refl (Copies.cEnum Received.the-type Laws.the-laws Laws.the-copy .copy 𝓤 H A W) (Rows'.whole (Declared.row Received.the-type)) (λ x. x) (λ x. x) (λ ρ told. Local.mem-whole 𝓤 H A W (Declared.row Received.the-type) ρ) λ ρ told. Local.whole-mem 𝓤 H A W (Declared.row Received.the-type) ρ, Path'.refl), tt) (Reads.room-gone 𝓤 H A Laws''.mir) tt Path'.refl) d3
+          d4 = Typed.s-seq 𝓤 H A W 𝓣 E G31 G32 b9 b10 Δ0 (Typed.both (s30 bs)) (at3 bs) (Plain.t-call-plain 𝓤 H A W 𝓣 0 ps·1 r·1 (claims· .2) (claims· .3) "host_values::received_of" (known .1) E (λ pos β. β) G31 (record { pos = 11; st = List.[]; d = 0; at = λ x. x }, tt) 0 List.[] (Call.sub-id 𝓤 H A W (G31 .slots)) ((Yields.yields-copy 𝓤 H A W (λ ρ. Unit) (Declared.row Received'.the-type) Path'.refl (Copies.cEnum Received'.the-type Laws''.the-laws Laws''.the-copy .copy 𝓤 H A W) (Rows'.whole (Declared.row Received'.the-type)) (λ x. x) (λ x. x) (λ ρ told. Local.mem-whole 𝓤 H A W (Declared.row Received'.the-type) ρ) λ ρ told. Local.whole-mem 𝓤 H A W (Declared.row Received'.the-type) ρ, Path'.refl), tt) (Reads.room-gone 𝓤 H A Laws'.mir) tt Path'.refl) d3
 
           d5 : Typed.Typed 𝓤 H A 𝓣 E G30 b11 Δ0 (at5 bs)
           d5 = Typed.g-pre 𝓤 H A W 𝓣 E G30 G31 b11 Δ0 (λ Ψ. Ψ) (at4 bs) (Lifetime.g-forget 𝓤 H A W E G30 6 Row.dead Path'.refl) d4
@@ -714,7 +714,7 @@ module _ (claims· : Claims) where
           d17 = Typed.g-pre 𝓤 H A W 𝓣 E G18 G19 b11 Δ0 (Typed.pass T18 T19 (s17 bs)) (at16 bs) (Scalar.g-room 𝓤 H A W E G18 9 (Syntax.tyArray (Syntax.tyInt Syntax.w8) 4) (Init.room-arr 𝓤 H A W (Referent.rtF (Referent.fInt Syntax.w8)) 4 0 4 Path'.refl)) d16
 
           d18 : Typed.Typed 𝓤 H A 𝓣 E G17 b12 Δ0 (at18 bs)
-          d18 = Typed.s-seq 𝓤 H A W 𝓣 E G17 G18 b8 b11 Δ0 (Typed.both (s16 bs)) (at17 bs) (Plain.t-call-plain 𝓤 H A W 𝓣 4 ps·0 r·0 (claims· .0) (claims· .1) "table_receiver::receive" (known .0) E (λ pos β. β) G17 (record { pos = 13; ty = Syntax.tyRef Syntax.erased Syntax.mut (Memory·T.pointee (Client·T.the-row .written)); ref = λ x. x }, (record { pos = 15; ty = Syntax.tyRef Syntax.erased Syntax.mut (Syntax.tyInt Syntax.w8); ref = λ x. x }, (Num.vAt 3 λ x. x, (Num.vAt 4 λ x. x, (record { pos = 9; st = List.[]; d = 0; at = λ x. x }, (record { pos = 10; st = List.[]; d = 0; at = λ x. x }, (record { pos = 7; ty = Syntax.tyRef (Syntax.named 2) Syntax.imm (Syntax.tyInt Syntax.w8); ref = λ x. x }, (record { pos = 17; ty = Syntax.tyRef Syntax.erased Syntax.mut (Syntax.tyInt Syntax.w8); ref = λ x. x }, tt)))))))) 11 (List._∷_ 4 (List._∷_ 5 (List._∷_ 2 (List._∷_ 6 List.[])))) (Call.sub-id 𝓤 H A W (G17 .slots)) (Reads.as-is 𝓤 H A (Mut.mslice Client·T.the-row (Syntax.tyRef Syntax.erased Syntax.mut (Memory·T.pointee (Client·T.the-row .written))) 4), Mut.reads-mslice 𝓤 H A W Client·T.the-row (Syntax.tyRef Syntax.erased Syntax.mut (Memory·T.pointee (Client·T.the-row .written))) 4, Path'.refl, (Reads.as-is 𝓤 H A (Mut.mslice (Referent.rtF (Referent.fInt Syntax.w8)) (Syntax.tyRef Syntax.erased Syntax.mut (Syntax.tyInt Syntax.w8)) 5), Mut.reads-mslice 𝓤 H A W (Referent.rtF (Referent.fInt Syntax.w8)) (Syntax.tyRef Syntax.erased Syntax.mut (Syntax.tyInt Syntax.w8)) 5, Path'.refl, ((Scalar.reads-sc 𝓤 H A W (Row.sInt Syntax.w64), Path'.refl), ((Scalar.reads-sc 𝓤 H A W (Row.sInt Syntax.w64), Path'.refl), ((Array.arr-yields 𝓤 H A W (Array.eInt Syntax.w8) (Array.eInt-laws Syntax.w8) 4, Path'.refl), ((Array.arr-yields 𝓤 H A W (Array.eInt Syntax.w8) (Array.eInt-laws Syntax.w8) 4, Path'.refl), (ShrSlice.spares-sslice 𝓤 H A W (Referent.rtF (Referent.fInt Syntax.w8)) (Syntax.tyRef (Syntax.named 2) Syntax.imm (Syntax.tyInt Syntax.w8)) 2, Shared.reads-sslice 𝓤 H A W (Referent.rtF (Referent.fInt Syntax.w8)) (Syntax.tyRef (Syntax.named 2) Syntax.imm (Syntax.tyInt Syntax.w8)) 2, Path'.refl, (Reads.as-is 𝓤 H A (Mut.mslice (Referent.rtF (Referent.fInt Syntax.w8)) (Syntax.tyRef Syntax.erased Syntax.mut (Syntax.tyInt Syntax.w8)) 6), Mut.reads-mslice 𝓤 H A W (Referent.rtF (Referent.fInt Syntax.w8)) (Syntax.tyRef Syntax.erased Syntax.mut (Syntax.tyInt Syntax.w8)) 6, Path'.refl, tt)))))))) (Reads.room-gone 𝓤 H A Laws.mir) (tt, (tt, (tt, (tt, tt)))) Path'.refl) d17
+          d18 = Typed.s-seq 𝓤 H A W 𝓣 E G17 G18 b8 b11 Δ0 (Typed.both (s16 bs)) (at17 bs) (Plain.t-call-plain 𝓤 H A W 𝓣 4 ps·0 r·0 (claims· .0) (claims· .1) "table_receiver::receive" (known .0) E (λ pos β. β) G17 (record { pos = 13; ty = Syntax.tyRef Syntax.erased Syntax.mut (Memory·T.pointee (Client·T.the-row .written)); ref = λ x. x }, (record { pos = 15; ty = Syntax.tyRef Syntax.erased Syntax.mut (Syntax.tyInt Syntax.w8); ref = λ x. x }, (Num.vAt 3 λ x. x, (Num.vAt 4 λ x. x, (record { pos = 9; st = List.[]; d = 0; at = λ x. x }, (record { pos = 10; st = List.[]; d = 0; at = λ x. x }, (record { pos = 7; ty = Syntax.tyRef (Syntax.named 2) Syntax.imm (Syntax.tyInt Syntax.w8); ref = λ x. x }, (record { pos = 17; ty = Syntax.tyRef Syntax.erased Syntax.mut (Syntax.tyInt Syntax.w8); ref = λ x. x }, tt)))))))) 11 (List._∷_ 4 (List._∷_ 5 (List._∷_ 2 (List._∷_ 6 List.[])))) (Call.sub-id 𝓤 H A W (G17 .slots)) (Reads.as-is 𝓤 H A (Mut.mslice Client·T.the-row (Syntax.tyRef Syntax.erased Syntax.mut (Memory·T.pointee (Client·T.the-row .written))) 4), Mut.reads-mslice 𝓤 H A W Client·T.the-row (Syntax.tyRef Syntax.erased Syntax.mut (Memory·T.pointee (Client·T.the-row .written))) 4, Path'.refl, (Reads.as-is 𝓤 H A (Mut.mslice (Referent.rtF (Referent.fInt Syntax.w8)) (Syntax.tyRef Syntax.erased Syntax.mut (Syntax.tyInt Syntax.w8)) 5), Mut.reads-mslice 𝓤 H A W (Referent.rtF (Referent.fInt Syntax.w8)) (Syntax.tyRef Syntax.erased Syntax.mut (Syntax.tyInt Syntax.w8)) 5, Path'.refl, ((Scalar.reads-sc 𝓤 H A W (Row.sInt Syntax.w64), Path'.refl), ((Scalar.reads-sc 𝓤 H A W (Row.sInt Syntax.w64), Path'.refl), ((Array.arr-yields 𝓤 H A W (Array.eInt Syntax.w8) (Array.eInt-laws Syntax.w8) 4, Path'.refl), ((Array.arr-yields 𝓤 H A W (Array.eInt Syntax.w8) (Array.eInt-laws Syntax.w8) 4, Path'.refl), (ShrSlice.spares-sslice 𝓤 H A W (Referent.rtF (Referent.fInt Syntax.w8)) (Syntax.tyRef (Syntax.named 2) Syntax.imm (Syntax.tyInt Syntax.w8)) 2, Shared.reads-sslice 𝓤 H A W (Referent.rtF (Referent.fInt Syntax.w8)) (Syntax.tyRef (Syntax.named 2) Syntax.imm (Syntax.tyInt Syntax.w8)) 2, Path'.refl, (Reads.as-is 𝓤 H A (Mut.mslice (Referent.rtF (Referent.fInt Syntax.w8)) (Syntax.tyRef Syntax.erased Syntax.mut (Syntax.tyInt Syntax.w8)) 6), Mut.reads-mslice 𝓤 H A W (Referent.rtF (Referent.fInt Syntax.w8)) (Syntax.tyRef Syntax.erased Syntax.mut (Syntax.tyInt Syntax.w8)) 6, Path'.refl, tt)))))))) (Reads.room-gone 𝓤 H A Laws''.mir) (tt, (tt, (tt, (tt, tt)))) Path'.refl) d17
 
           d19 : Typed.Typed 𝓤 H A 𝓣 E G16 b13 Δ0 (at19 bs)
           d19 = Typed.s-seq 𝓤 H A W 𝓣 E G16 G17 b7 b12 Δ0 (Typed.ask (s15 bs)) (at18 bs) (Relend.t-sl-aggregate 𝓤 H A W E (Referent.rtF (Referent.fInt Syntax.w8)) 𝓣 (Relend.asMut (Referent.rtF (Referent.fInt Syntax.w8))) G16 16 17 6 (Syntax.tyRef Syntax.erased Syntax.mut (Syntax.tyInt Syntax.w8)) (Syntax.tyRef Syntax.erased Syntax.mut (Syntax.tyInt Syntax.w8)) (λ x. x) (Scalar.oFld 8 (List._∷_ (Syntax.field 1) List.[]) (Syntax.tyInt Syntax.w64) 8 λ v. Shared.lenV (v .0)) (Reads.as-is 𝓤 H A (Relend.msptr (Referent.rtF (Referent.fInt Syntax.w8)) (Syntax.tyRef Syntax.erased Syntax.mut (Syntax.tyInt Syntax.w8)) 6)) (Reads.room-gone 𝓤 H A (Syntax.tyStruct (List._∷_ 38 (List._∷_ 91 (List._∷_ 93 List.[]))) (Syntax.tcons (Syntax.tyRef Syntax.erased Syntax.mut (Syntax.tyInt Syntax.w8)) (Syntax.tcons (Syntax.tyInt Syntax.w64) Syntax.tnil)))) (Relend.reads-owed-len 𝓤 H A W (Referent.rtF (Referent.fInt Syntax.w8)) (Syntax.tyRef (Syntax.named 3) Syntax.mut (Syntax.tyInt Syntax.w8)) 3 6 (Row.lease (κs .1 .1 .1 .0) (qs .1 .1 .1 .0)) 8 Path'.refl, Path'.refl) Path'.refl Path'.refl λ b o k. tt) d18
@@ -744,16 +744,16 @@ module _ (claims· : Claims) where
           d27 = Typed.g-pre 𝓤 H A W 𝓣 E G8 G9 b18 Δ0 (λ Ψ. Ψ) (at26 bs) (Lifetime.g-begin 𝓤 H A W E G8 4 (tt, (tt, (tt, (tt, (tt, (tt, (tt, (tt, (tt, (tt, (tt, (tt, (tt, (tt, (tt, (tt, (tt, (tt, tt))))))))))))))))))) d26
 
           d28 : Typed.Typed 𝓤 H A 𝓣 E G7 b18 Δ0 (at28 bs)
-          d28 = Typed.g-pre 𝓤 H A W 𝓣 E G7 G8 b18 Δ0 (Typed.pass T7 T8 (s6 bs)) (at27 bs) (Scalar.g-room 𝓤 H A W E G7 6 Laws'.mir (Local.room-whole 𝓤 H A W (Declared'.row Address.the-type) Laws'.mir Path'.refl)) d27
+          d28 = Typed.g-pre 𝓤 H A W 𝓣 E G7 G8 b18 Δ0 (Typed.pass T7 T8 (s6 bs)) (at27 bs) (Scalar.g-room 𝓤 H A W E G7 6 Laws.mir (Local.room-whole 𝓤 H A W (Declared'.row Address.the-type) Laws.mir Path'.refl)) d27
 
           d29 : Typed.Typed 𝓤 H A 𝓣 E G6 b19 Δ0 (at29 bs)
-          d29 = Typed.s-seq 𝓤 H A W 𝓣 E G6 G7 b1 b18 Δ0 (Typed.both (s5 bs)) (at28 bs) (WayStmt.t-way-copy-out 𝓤 H A W E 𝓣 (Array'.Array (Referent.rtF (Referent.fInt Syntax.w8)) 4) Path'.refl (Copies.cArr (Referent.rtF (Referent.fInt Syntax.w8)) (Copies.cRf (Referent.fInt Syntax.w8)) 4 .copy 𝓤 H A W) (λ ρ. Unit) G6 (Row.out 6 (G6 .locals)) (λ u. Row.drop 6 (G6 .locals) u) (G6 .slots) 6 (λ t. List._∷_ (Syntax.field 0) t) (Syntax.tyArray (Syntax.tyInt Syntax.w8) 4) (Syntax.tyArray (Syntax.tyInt Syntax.w8) 4) 10 (Rows.arrF (Referent.rtF (Referent.fInt Syntax.w8)) 4 0) (λ x. x) (λ u. At.getAt (Address.the-type .parts) 0 (Address.struct .as-values (u .1 .1 .1 .1 .1 .1 .0))) (λ u. (Row.hd 0 (Row.tl (Row.tl (Row.tl (Row.tl (Row.tl (Row.tl bs)))))), Nat._+_ 0 0)) (λ T′. record { locals = Row.setRow 6 (6, Rows'.whole (Declared'.row Address.the-type)) T′; slots = G6 .slots }) (λ u T′ m′. Row.set 6 (6, Rows'.whole (Declared'.row Address.the-type)) (u .1 .1 .1 .1 .1 .1 .0) T′ m′) (λ u. Unit) (λ x. Unit) (Own.told-none 𝓤 H A (G6 .slots)) (DerefMove.learns-nothing 𝓤 H A (Array'.Array (Referent.rtF (Referent.fInt Syntax.w8)) 4)) (λ ρ told u asked. Way'.w-partˢ 𝓤 H A W E (Declared'.row Address.the-type) (Array'.Array (Referent.rtF (Referent.fInt Syntax.w8)) 4) Laws'.mir (Syntax.tyArray (Syntax.tyInt Syntax.w8) 4) 0 0 (u .1 .1 .1 .1 .1 .1 .0) (At.getAt (Address.the-type .parts) 0 (Address.struct .as-values (u .1 .1 .1 .1 .1 .1 .0))) (Row.hd 0 (Row.tl (Row.tl (Row.tl (Row.tl (Row.tl (Row.tl bs)))))), 0) (Way.w-look 𝓤 H A W E (Way.w-local 𝓤 H A W E G6 ρ u (G6 .slots) 6 (Declared'.row Address.the-type) (Rows'.whole (Declared'.row Address.the-type)) (λ x. x) (λ x. x) (u .1 .1 .1 .1 .1 .1 .0) (Local.mem-whole 𝓤 H A W (Declared'.row Address.the-type) ρ (u .1 .1 .1 .1 .1 .1 .0) (Row.hd 0 (Row.tl (Row.tl (Row.tl (Row.tl (Row.tl (Row.tl bs)))))))) (Local.whole-mem 𝓤 H A W (Declared'.row Address.the-type) ρ (u .1 .1 .1 .1 .1 .1 .0) (Row.hd 0 (Row.tl (Row.tl (Row.tl (Row.tl (Row.tl (Row.tl bs)))))))))) Path'.refl λ q. Items.cut-array 𝓤 H A q (Declared'.row Address.the-type) (Referent.rtF (Referent.fInt Syntax.w8)) 4 0 (u .1 .1 .1 .1 .1 .1 .0) (u .1 .1 .1 .1 .1 .1 .0) (At.getAt (Address.the-type .parts) 0 (Address.struct .as-values (u .1 .1 .1 .1 .1 .1 .0))) (At.getAt (Address.the-type .parts) 0 (Address.struct .as-values (u .1 .1 .1 .1 .1 .1 .0))) (Row.hd 0 (Row.tl (Row.tl (Row.tl (Row.tl (Row.tl (Row.tl bs)))))), 0) (Behind.look-at 𝓤 H A W q Address.the-type Laws'.the-laws 0 0 Path'.refl Path'.refl (Row.hd 0 (Row.tl (Row.tl (Row.tl (Row.tl (Row.tl (Row.tl bs)))))), 0) (u .1 .1 .1 .1 .1 .1 .0) (Address.struct .as-values (u .1 .1 .1 .1 .1 .1 .0)) Path'.refl)) (Reads.room-gone 𝓤 H A (Syntax.tyArray (Syntax.tyInt Syntax.w8) 4)) (Yields.makes-mem 𝓤 H A W (λ ρ. Unit) (Array'.Array (Referent.rtF (Referent.fInt Syntax.w8)) 4) Path'.refl (Rows.arrF (Referent.rtF (Referent.fInt Syntax.w8)) 4 0) (λ x. x) λ ρ told. Whole.arr-mem 𝓤 H A W (Referent.rtF (Referent.fInt Syntax.w8)) 4 tt ρ) Path'.refl Path'.refl Path'.refl) d28
+          d29 = Typed.s-seq 𝓤 H A W 𝓣 E G6 G7 b1 b18 Δ0 (Typed.both (s5 bs)) (at28 bs) (WayStmt.t-way-copy-out 𝓤 H A W E 𝓣 (Array'.Array (Referent.rtF (Referent.fInt Syntax.w8)) 4) Path'.refl (Copies.cArr (Referent.rtF (Referent.fInt Syntax.w8)) (Copies.cRf (Referent.fInt Syntax.w8)) 4 .copy 𝓤 H A W) (λ ρ. Unit) G6 (Row.out 6 (G6 .locals)) (λ u. Row.drop 6 (G6 .locals) u) (G6 .slots) 6 (λ t. List._∷_ (Syntax.field 0) t) (Syntax.tyArray (Syntax.tyInt Syntax.w8) 4) (Syntax.tyArray (Syntax.tyInt Syntax.w8) 4) 10 (Rows.arrF (Referent.rtF (Referent.fInt Syntax.w8)) 4 0) (λ x. x) (λ u. At.getAt (Address.the-type .parts) 0 (Address.struct .as-values (u .1 .1 .1 .1 .1 .1 .0))) (λ u. (Row.hd 0 (Row.tl (Row.tl (Row.tl (Row.tl (Row.tl (Row.tl bs)))))), Nat._+_ 0 0)) (λ T′. record { locals = Row.setRow 6 (6, Rows'.whole (Declared'.row Address.the-type)) T′; slots = G6 .slots }) (λ u T′ m′. Row.set 6 (6, Rows'.whole (Declared'.row Address.the-type)) (u .1 .1 .1 .1 .1 .1 .0) T′ m′) (λ u. Unit) (λ x. Unit) (Own.told-none 𝓤 H A (G6 .slots)) (DerefMove.learns-nothing 𝓤 H A (Array'.Array (Referent.rtF (Referent.fInt Syntax.w8)) 4)) (λ ρ told u asked. Way'.w-partˢ 𝓤 H A W E (Declared'.row Address.the-type) (Array'.Array (Referent.rtF (Referent.fInt Syntax.w8)) 4) Laws.mir (Syntax.tyArray (Syntax.tyInt Syntax.w8) 4) 0 0 (u .1 .1 .1 .1 .1 .1 .0) (At.getAt (Address.the-type .parts) 0 (Address.struct .as-values (u .1 .1 .1 .1 .1 .1 .0))) (Row.hd 0 (Row.tl (Row.tl (Row.tl (Row.tl (Row.tl (Row.tl bs)))))), 0) (Way.w-look 𝓤 H A W E (Way.w-local 𝓤 H A W E G6 ρ u (G6 .slots) 6 (Declared'.row Address.the-type) (Rows'.whole (Declared'.row Address.the-type)) (λ x. x) (λ x. x) (u .1 .1 .1 .1 .1 .1 .0) (Local.mem-whole 𝓤 H A W (Declared'.row Address.the-type) ρ (u .1 .1 .1 .1 .1 .1 .0) (Row.hd 0 (Row.tl (Row.tl (Row.tl (Row.tl (Row.tl (Row.tl bs)))))))) (Local.whole-mem 𝓤 H A W (Declared'.row Address.the-type) ρ (u .1 .1 .1 .1 .1 .1 .0) (Row.hd 0 (Row.tl (Row.tl (Row.tl (Row.tl (Row.tl (Row.tl bs)))))))))) Path'.refl λ q. Items.cut-array 𝓤 H A q (Declared'.row Address.the-type) (Referent.rtF (Referent.fInt Syntax.w8)) 4 0 (u .1 .1 .1 .1 .1 .1 .0) (u .1 .1 .1 .1 .1 .1 .0) (At.getAt (Address.the-type .parts) 0 (Address.struct .as-values (u .1 .1 .1 .1 .1 .1 .0))) (At.getAt (Address.the-type .parts) 0 (Address.struct .as-values (u .1 .1 .1 .1 .1 .1 .0))) (Row.hd 0 (Row.tl (Row.tl (Row.tl (Row.tl (Row.tl (Row.tl bs)))))), 0) (Behind.look-at 𝓤 H A W q Address.the-type Laws.the-laws 0 0 Path'.refl Path'.refl (Row.hd 0 (Row.tl (Row.tl (Row.tl (Row.tl (Row.tl (Row.tl bs)))))), 0) (u .1 .1 .1 .1 .1 .1 .0) (Address.struct .as-values (u .1 .1 .1 .1 .1 .1 .0)) Path'.refl)) (Reads.room-gone 𝓤 H A (Syntax.tyArray (Syntax.tyInt Syntax.w8) 4)) (Yields.makes-mem 𝓤 H A W (λ ρ. Unit) (Array'.Array (Referent.rtF (Referent.fInt Syntax.w8)) 4) Path'.refl (Rows.arrF (Referent.rtF (Referent.fInt Syntax.w8)) 4 0) (λ x. x) λ ρ told. Whole.arr-mem 𝓤 H A W (Referent.rtF (Referent.fInt Syntax.w8)) 4 tt ρ) Path'.refl Path'.refl Path'.refl) d28
 
           d30 : Typed.Typed 𝓤 H A 𝓣 E G5 b19 Δ0 (at30 bs)
-          d30 = Typed.g-pre 𝓤 H A W 𝓣 E G5 G6 b19 Δ0 (Typed.pass T5 T6 (s4 bs)) (at29 bs) (Scalar.g-room 𝓤 H A W E G5 5 Laws'.mir (Local.room-whole 𝓤 H A W (Declared'.row Address.the-type) Laws'.mir Path'.refl)) d29
+          d30 = Typed.g-pre 𝓤 H A W 𝓣 E G5 G6 b19 Δ0 (Typed.pass T5 T6 (s4 bs)) (at29 bs) (Scalar.g-room 𝓤 H A W E G5 5 Laws.mir (Local.room-whole 𝓤 H A W (Declared'.row Address.the-type) Laws.mir Path'.refl)) d29
 
           d31 : Typed.Typed 𝓤 H A 𝓣 E G4 b20 Δ0 (at31 bs)
-          d31 = Typed.s-seq 𝓤 H A W 𝓣 E G4 G5 b0 b19 Δ0 (Typed.both (s3 bs)) (at30 bs) (WayStmt.t-way-copy-out 𝓤 H A W E 𝓣 (Array'.Array (Referent.rtF (Referent.fInt Syntax.w8)) 4) Path'.refl (Copies.cArr (Referent.rtF (Referent.fInt Syntax.w8)) (Copies.cRf (Referent.fInt Syntax.w8)) 4 .copy 𝓤 H A W) (λ ρ. Unit) G4 (Row.out 5 (G4 .locals)) (λ u. Row.drop 5 (G4 .locals) u) (G4 .slots) 5 (λ t. List._∷_ (Syntax.field 0) t) (Syntax.tyArray (Syntax.tyInt Syntax.w8) 4) (Syntax.tyArray (Syntax.tyInt Syntax.w8) 4) 9 (Rows.arrF (Referent.rtF (Referent.fInt Syntax.w8)) 4 0) (λ x. x) (λ u. At.getAt (Address.the-type .parts) 0 (Address.struct .as-values (u .1 .1 .1 .1 .1 .0))) (λ u. (Row.hd 0 (Row.tl (Row.tl (Row.tl (Row.tl (Row.tl bs))))), Nat._+_ 0 0)) (λ T′. record { locals = Row.setRow 5 (5, Rows'.whole (Declared'.row Address.the-type)) T′; slots = G4 .slots }) (λ u T′ m′. Row.set 5 (5, Rows'.whole (Declared'.row Address.the-type)) (u .1 .1 .1 .1 .1 .0) T′ m′) (λ u. Unit) (λ x. Unit) (Own.told-none 𝓤 H A (G4 .slots)) (DerefMove.learns-nothing 𝓤 H A (Array'.Array (Referent.rtF (Referent.fInt Syntax.w8)) 4)) (λ ρ told u asked. Way'.w-partˢ 𝓤 H A W E (Declared'.row Address.the-type) (Array'.Array (Referent.rtF (Referent.fInt Syntax.w8)) 4) Laws'.mir (Syntax.tyArray (Syntax.tyInt Syntax.w8) 4) 0 0 (u .1 .1 .1 .1 .1 .0) (At.getAt (Address.the-type .parts) 0 (Address.struct .as-values (u .1 .1 .1 .1 .1 .0))) (Row.hd 0 (Row.tl (Row.tl (Row.tl (Row.tl (Row.tl bs))))), 0) (Way.w-look 𝓤 H A W E (Way.w-local 𝓤 H A W E G4 ρ u (G4 .slots) 5 (Declared'.row Address.the-type) (Rows'.whole (Declared'.row Address.the-type)) (λ x. x) (λ x. x) (u .1 .1 .1 .1 .1 .0) (Local.mem-whole 𝓤 H A W (Declared'.row Address.the-type) ρ (u .1 .1 .1 .1 .1 .0) (Row.hd 0 (Row.tl (Row.tl (Row.tl (Row.tl (Row.tl bs))))))) (Local.whole-mem 𝓤 H A W (Declared'.row Address.the-type) ρ (u .1 .1 .1 .1 .1 .0) (Row.hd 0 (Row.tl (Row.tl (Row.tl (Row.tl (Row.tl bs))))))))) Path'.refl λ q. Items.cut-array 𝓤 H A q (Declared'.row Address.the-type) (Referent.rtF (Referent.fInt Syntax.w8)) 4 0 (u .1 .1 .1 .1 .1 .0) (u .1 .1 .1 .1 .1 .0) (At.getAt (Address.the-type .parts) 0 (Address.struct .as-values (u .1 .1 .1 .1 .1 .0))) (At.getAt (Address.the-type .parts) 0 (Address.struct .as-values (u .1 .1 .1 .1 .1 .0))) (Row.hd 0 (Row.tl (Row.tl (Row.tl (Row.tl (Row.tl bs))))), 0) (Behind.look-at 𝓤 H A W q Address.the-type Laws'.the-laws 0 0 Path'.refl Path'.refl (Row.hd 0 (Row.tl (Row.tl (Row.tl (Row.tl (Row.tl bs))))), 0) (u .1 .1 .1 .1 .1 .0) (Address.struct .as-values (u .1 .1 .1 .1 .1 .0)) Path'.refl)) (Reads.room-gone 𝓤 H A (Syntax.tyArray (Syntax.tyInt Syntax.w8) 4)) (Yields.makes-mem 𝓤 H A W (λ ρ. Unit) (Array'.Array (Referent.rtF (Referent.fInt Syntax.w8)) 4) Path'.refl (Rows.arrF (Referent.rtF (Referent.fInt Syntax.w8)) 4 0) (λ x. x) λ ρ told. Whole.arr-mem 𝓤 H A W (Referent.rtF (Referent.fInt Syntax.w8)) 4 tt ρ) Path'.refl Path'.refl Path'.refl) d30
+          d31 = Typed.s-seq 𝓤 H A W 𝓣 E G4 G5 b0 b19 Δ0 (Typed.both (s3 bs)) (at30 bs) (WayStmt.t-way-copy-out 𝓤 H A W E 𝓣 (Array'.Array (Referent.rtF (Referent.fInt Syntax.w8)) 4) Path'.refl (Copies.cArr (Referent.rtF (Referent.fInt Syntax.w8)) (Copies.cRf (Referent.fInt Syntax.w8)) 4 .copy 𝓤 H A W) (λ ρ. Unit) G4 (Row.out 5 (G4 .locals)) (λ u. Row.drop 5 (G4 .locals) u) (G4 .slots) 5 (λ t. List._∷_ (Syntax.field 0) t) (Syntax.tyArray (Syntax.tyInt Syntax.w8) 4) (Syntax.tyArray (Syntax.tyInt Syntax.w8) 4) 9 (Rows.arrF (Referent.rtF (Referent.fInt Syntax.w8)) 4 0) (λ x. x) (λ u. At.getAt (Address.the-type .parts) 0 (Address.struct .as-values (u .1 .1 .1 .1 .1 .0))) (λ u. (Row.hd 0 (Row.tl (Row.tl (Row.tl (Row.tl (Row.tl bs))))), Nat._+_ 0 0)) (λ T′. record { locals = Row.setRow 5 (5, Rows'.whole (Declared'.row Address.the-type)) T′; slots = G4 .slots }) (λ u T′ m′. Row.set 5 (5, Rows'.whole (Declared'.row Address.the-type)) (u .1 .1 .1 .1 .1 .0) T′ m′) (λ u. Unit) (λ x. Unit) (Own.told-none 𝓤 H A (G4 .slots)) (DerefMove.learns-nothing 𝓤 H A (Array'.Array (Referent.rtF (Referent.fInt Syntax.w8)) 4)) (λ ρ told u asked. Way'.w-partˢ 𝓤 H A W E (Declared'.row Address.the-type) (Array'.Array (Referent.rtF (Referent.fInt Syntax.w8)) 4) Laws.mir (Syntax.tyArray (Syntax.tyInt Syntax.w8) 4) 0 0 (u .1 .1 .1 .1 .1 .0) (At.getAt (Address.the-type .parts) 0 (Address.struct .as-values (u .1 .1 .1 .1 .1 .0))) (Row.hd 0 (Row.tl (Row.tl (Row.tl (Row.tl (Row.tl bs))))), 0) (Way.w-look 𝓤 H A W E (Way.w-local 𝓤 H A W E G4 ρ u (G4 .slots) 5 (Declared'.row Address.the-type) (Rows'.whole (Declared'.row Address.the-type)) (λ x. x) (λ x. x) (u .1 .1 .1 .1 .1 .0) (Local.mem-whole 𝓤 H A W (Declared'.row Address.the-type) ρ (u .1 .1 .1 .1 .1 .0) (Row.hd 0 (Row.tl (Row.tl (Row.tl (Row.tl (Row.tl bs))))))) (Local.whole-mem 𝓤 H A W (Declared'.row Address.the-type) ρ (u .1 .1 .1 .1 .1 .0) (Row.hd 0 (Row.tl (Row.tl (Row.tl (Row.tl (Row.tl bs))))))))) Path'.refl λ q. Items.cut-array 𝓤 H A q (Declared'.row Address.the-type) (Referent.rtF (Referent.fInt Syntax.w8)) 4 0 (u .1 .1 .1 .1 .1 .0) (u .1 .1 .1 .1 .1 .0) (At.getAt (Address.the-type .parts) 0 (Address.struct .as-values (u .1 .1 .1 .1 .1 .0))) (At.getAt (Address.the-type .parts) 0 (Address.struct .as-values (u .1 .1 .1 .1 .1 .0))) (Row.hd 0 (Row.tl (Row.tl (Row.tl (Row.tl (Row.tl bs))))), 0) (Behind.look-at 𝓤 H A W q Address.the-type Laws.the-laws 0 0 Path'.refl Path'.refl (Row.hd 0 (Row.tl (Row.tl (Row.tl (Row.tl (Row.tl bs))))), 0) (u .1 .1 .1 .1 .1 .0) (Address.struct .as-values (u .1 .1 .1 .1 .1 .0)) Path'.refl)) (Reads.room-gone 𝓤 H A (Syntax.tyArray (Syntax.tyInt Syntax.w8) 4)) (Yields.makes-mem 𝓤 H A W (λ ρ. Unit) (Array'.Array (Referent.rtF (Referent.fInt Syntax.w8)) 4) Path'.refl (Rows.arrF (Referent.rtF (Referent.fInt Syntax.w8)) 4 0) (λ x. x) λ ρ told. Whole.arr-mem 𝓤 H A W (Referent.rtF (Referent.fInt Syntax.w8)) 4 tt ρ) Path'.refl Path'.refl Path'.refl) d30
 
           d32 : Typed.Typed 𝓤 H A 𝓣 E G3 b20 Δ0 (at32 bs)
           d32 = Typed.g-pre 𝓤 H A W 𝓣 E G3 G4 b20 Δ0 (Typed.give (s2 bs)) (at31 bs) (Know.g-sl-known 𝓤 H A W (Referent.fInt Syntax.w8) E G3 8 3 (Syntax.tyRef (Syntax.named 3) Syntax.mut (Syntax.tyInt Syntax.w8)) (Row.lease (κs .1 .1 .1 .0) (qs .1 .1 .1 .0)) 0 (λ x. x) record { fits = Dec'.lit< tt } (Reads.as-is 𝓤 H A (Mut.mslice (Referent.rtF (Referent.fInt Syntax.w8)) (Syntax.tyRef (Syntax.named 3) Syntax.mut (Syntax.tyInt Syntax.w8)) 3)) Path'.refl tt) d31
@@ -773,8 +773,8 @@ module _ (claims· : Claims) where
           pub store : Kinds.Den {n = 4} κs (MutSlice.pMutS (Referent.rtF (Referent.fInt Syntax.w8)) 1 tt)
           pub k : Kinds.Den {n = 4} κs (Num.pNum Syntax.w64)
           pub time : Kinds.Den {n = 4} κs (Num.pNum Syntax.w64)
-          pub source : Kinds.Den {n = 4} κs (Value.pVal record { ty = Declared'.row Address.the-type; one = Path'.refl; val = Laws'4.val Address.the-type Laws'.the-laws; tells = Laws'4.tells Address.the-type Laws'.the-laws; still = Laws'4.still Address.the-type Laws'.the-copy Exit.yes; row = Rows'.whole (Declared'.row Address.the-type); rd = λ x. x; mk = λ x. x } λ M 𝓤 H A W. record { copies = Laws'4.copy Address.the-type Laws'.the-copy 𝓤 H A W; lawful = Laws'4.lawful Address.the-type Laws'.the-laws 𝓤 H A W; makes = Laws'4.makes Address.the-type Laws'.the-plain 𝓤 H A; in-mem = Local.mem-whole 𝓤 H A W (Declared'.row Address.the-type); of-mem = Local.whole-mem 𝓤 H A W (Declared'.row Address.the-type) })
-          pub destination : Kinds.Den {n = 4} κs (Value.pVal record { ty = Declared'.row Address.the-type; one = Path'.refl; val = Laws'4.val Address.the-type Laws'.the-laws; tells = Laws'4.tells Address.the-type Laws'.the-laws; still = Laws'4.still Address.the-type Laws'.the-copy Exit.yes; row = Rows'.whole (Declared'.row Address.the-type); rd = λ x. x; mk = λ x. x } λ M 𝓤 H A W. record { copies = Laws'4.copy Address.the-type Laws'.the-copy 𝓤 H A W; lawful = Laws'4.lawful Address.the-type Laws'.the-laws 𝓤 H A W; makes = Laws'4.makes Address.the-type Laws'.the-plain 𝓤 H A; in-mem = Local.mem-whole 𝓤 H A W (Declared'.row Address.the-type); of-mem = Local.whole-mem 𝓤 H A W (Declared'.row Address.the-type) })
+          pub source : Kinds.Den {n = 4} κs (Value.pVal record { ty = Declared'.row Address.the-type; one = Path'.refl; val = Laws'4.val Address.the-type Laws.the-laws; tells = Laws'4.tells Address.the-type Laws.the-laws; still = Laws'4.still Address.the-type Laws.the-copy Exit.yes; row = Rows'.whole (Declared'.row Address.the-type); rd = λ x. x; mk = λ x. x } λ M 𝓤 H A W. record { copies = Laws'4.copy Address.the-type Laws.the-copy 𝓤 H A W; lawful = Laws'4.lawful Address.the-type Laws.the-laws 𝓤 H A W; makes = Laws'4.makes Address.the-type Laws.the-plain 𝓤 H A; in-mem = Local.mem-whole 𝓤 H A W (Declared'.row Address.the-type); of-mem = Local.whole-mem 𝓤 H A W (Declared'.row Address.the-type) })
+          pub destination : Kinds.Den {n = 4} κs (Value.pVal record { ty = Declared'.row Address.the-type; one = Path'.refl; val = Laws'4.val Address.the-type Laws.the-laws; tells = Laws'4.tells Address.the-type Laws.the-laws; still = Laws'4.still Address.the-type Laws.the-copy Exit.yes; row = Rows'.whole (Declared'.row Address.the-type); rd = λ x. x; mk = λ x. x } λ M 𝓤 H A W. record { copies = Laws'4.copy Address.the-type Laws.the-copy 𝓤 H A W; lawful = Laws'4.lawful Address.the-type Laws.the-laws 𝓤 H A W; makes = Laws'4.makes Address.the-type Laws.the-plain 𝓤 H A; in-mem = Local.mem-whole 𝓤 H A W (Declared'.row Address.the-type); of-mem = Local.whole-mem 𝓤 H A W (Declared'.row Address.the-type) })
           pub payload : Kinds.Den {n = 4} κs (ShrSlice.pShrS (Referent.rtF (Referent.fInt Syntax.w8)) 2 tt)
           pub out : Kinds.Den {n = 4} κs (MutSlice.pMutS (Referent.rtF (Referent.fInt Syntax.w8)) 3 tt)
 

@@ -1,19 +1,19 @@
 -- Made by tools/lent/transplant.py for `table_receiver::receive`. Assumes nothing.
 use Prim.Native.Nat
-use Rattle.wire_datagram.proofs.reading.Outcome
-use Rattle.wire_datagram.proofs.reading.Outcome.Laws
-use Rattle.number_offsets.proofs.PacketOffset
-use Rattle.number_offsets.proofs.PacketOffset.Laws as Laws'
-use Rattle.wire_area.proofs.Fragment
-use Rattle.wire_area.proofs.Fragment.Laws as Laws''
 use Rattle.client_reassembly.proofs.Answer
-use Rattle.client_reassembly.proofs.Answer.Laws as Laws'3
+use Rattle.client_reassembly.proofs.Answer.Laws
 use Rattle.client_reassembly.proofs.Arrival
-use Rattle.client_reassembly.proofs.Arrival.Laws as Laws'4
+use Rattle.client_reassembly.proofs.Arrival.Laws as Laws'
+use Rattle.number_offsets.proofs.PacketOffset
+use Rattle.number_offsets.proofs.PacketOffset.Laws as Laws''
 use Rattle.table_receiver.proofs.Found
-use Rattle.table_receiver.proofs.Found.Laws as Laws'5
+use Rattle.table_receiver.proofs.Found.Laws as Laws'3
 use Rattle.table_receiver.proofs.Received
-use Rattle.table_receiver.proofs.Received.Laws as Laws'6
+use Rattle.table_receiver.proofs.Received.Laws as Laws'4
+use Rattle.wire_area.proofs.Fragment
+use Rattle.wire_area.proofs.Fragment.Laws as Laws'5
+use Rattle.wire_datagram.proofs.reading.Outcome
+use Rattle.wire_datagram.proofs.reading.Outcome.Laws as Laws'6
 use borrow.Author.Called
 use borrow.Enum.Known
 use borrow.Enum.Match
@@ -81,10 +81,10 @@ abbrev pub ps : List.List (Kinds.PK 4)
 ps = List._∷_ (MutSlice.pMutS Client·T.the-row 0 tt) (List._∷_ (MutSlice.pMutS (Referent.rtF (Referent.fInt Syntax.w8)) 1 tt) (List._∷_ (Num.pNum Syntax.w64) (List._∷_ (Num.pNum Syntax.w64) (List._∷_ (Array.pArr (Array.eInt Syntax.w8) (Array.eInt-laws Syntax.w8) 4) (List._∷_ (Array.pArr (Array.eInt Syntax.w8) (Array.eInt-laws Syntax.w8) 4) (List._∷_ (ShrSlice.pShrS (Referent.rtF (Referent.fInt Syntax.w8)) 2 tt) (List._∷_ (MutSlice.pMutS (Referent.rtF (Referent.fInt Syntax.w8)) 3 tt) List.[])))))))
 
 abbrev pub r : Kinds.RK 4
-r = Value.rVal record { ty = Declared.row Received.the-type; one = Path'.refl; val = Laws'7.val Received.the-type Laws'6.the-laws; tells = Laws'7.tells Received.the-type Laws'6.the-laws; still = Laws'7.still Received.the-type Laws'6.the-copy Exit.yes; row = Rows'.whole (Declared.row Received.the-type); rd = λ x. x; mk = λ x. x } λ M 𝓤 H A W. record { copies = Laws'7.copy Received.the-type Laws'6.the-copy 𝓤 H A W; lawful = Laws'7.lawful Received.the-type Laws'6.the-laws 𝓤 H A W tt; makes = Laws'7.makes Received.the-type Laws'6.the-plain 𝓤 H A; in-mem = Local.mem-whole 𝓤 H A W (Declared.row Received.the-type); of-mem = Local.whole-mem 𝓤 H A W (Declared.row Received.the-type) }
+r = Value.rVal record { ty = Declared.row Received.the-type; one = Path'.refl; val = Laws'7.val Received.the-type Laws'4.the-laws; tells = Laws'7.tells Received.the-type Laws'4.the-laws; still = Laws'7.still Received.the-type Laws'4.the-copy Exit.yes; row = Rows'.whole (Declared.row Received.the-type); rd = λ x. x; mk = λ x. x } λ M 𝓤 H A W. record { copies = Laws'7.copy Received.the-type Laws'4.the-copy 𝓤 H A W; lawful = Laws'7.lawful Received.the-type Laws'4.the-laws 𝓤 H A W tt; makes = Laws'7.makes Received.the-type Laws'4.the-plain 𝓤 H A; in-mem = Local.mem-whole 𝓤 H A W (Declared.row Received.the-type); of-mem = Local.whole-mem 𝓤 H A W (Declared.row Received.the-type) }
 
 abbrev pub xs : List.List Syntax.Ty
-xs = List._∷_ Laws.mir (List._∷_ Laws'5.mir (List._∷_ Laws''.mir (List._∷_ Laws'4.mir (List._∷_ (Syntax.tyInt Syntax.w64) (List._∷_ (Syntax.tyInt Syntax.w64) (List._∷_ Laws'3.mir (List._∷_ Laws'6.mir (List._∷_ (Syntax.tyRef Syntax.erased Syntax.mut (Memory·T.pointee (Client·T.the-row .written))) (List._∷_ (Syntax.tyStruct (List._∷_ 38 (List._∷_ 91 (List._∷_ 93 List.[]))) (Syntax.tcons (Syntax.tyRef Syntax.erased Syntax.mut (Memory·T.pointee (Client·T.the-row .written))) (Syntax.tcons (Syntax.tyInt Syntax.w64) Syntax.tnil))) (List._∷_ (Syntax.tyRef Syntax.erased Syntax.mut (Syntax.tyInt Syntax.w8)) (List._∷_ (Syntax.tyStruct (List._∷_ 38 (List._∷_ 91 (List._∷_ 93 List.[]))) (Syntax.tcons (Syntax.tyRef Syntax.erased Syntax.mut (Syntax.tyInt Syntax.w8)) (Syntax.tcons (Syntax.tyInt Syntax.w64) Syntax.tnil))) (List._∷_ Syntax.tyPtr (List._∷_ (Syntax.tyInt Syntax.w64) (List._∷_ (Syntax.tyRef Syntax.erased Syntax.imm (Syntax.tyInt Syntax.w8)) (List._∷_ (Syntax.tyStruct (List._∷_ 38 (List._∷_ 91 (List._∷_ 93 List.[]))) (Syntax.tcons (Syntax.tyRef Syntax.erased Syntax.imm (Syntax.tyInt Syntax.w8)) (Syntax.tcons (Syntax.tyInt Syntax.w64) Syntax.tnil))) (List._∷_ (Syntax.tyRef Syntax.erased Syntax.mut (Syntax.tyInt Syntax.w8)) (List._∷_ (Syntax.tyStruct (List._∷_ 38 (List._∷_ 91 (List._∷_ 93 List.[]))) (Syntax.tcons (Syntax.tyRef Syntax.erased Syntax.mut (Syntax.tyInt Syntax.w8)) (Syntax.tcons (Syntax.tyInt Syntax.w64) Syntax.tnil))) List.[])))))))))))))))))
+xs = List._∷_ Laws'6.mir (List._∷_ Laws'3.mir (List._∷_ Laws'5.mir (List._∷_ Laws'.mir (List._∷_ (Syntax.tyInt Syntax.w64) (List._∷_ (Syntax.tyInt Syntax.w64) (List._∷_ Laws.mir (List._∷_ Laws'4.mir (List._∷_ (Syntax.tyRef Syntax.erased Syntax.mut (Memory·T.pointee (Client·T.the-row .written))) (List._∷_ (Syntax.tyStruct (List._∷_ 38 (List._∷_ 91 (List._∷_ 93 List.[]))) (Syntax.tcons (Syntax.tyRef Syntax.erased Syntax.mut (Memory·T.pointee (Client·T.the-row .written))) (Syntax.tcons (Syntax.tyInt Syntax.w64) Syntax.tnil))) (List._∷_ (Syntax.tyRef Syntax.erased Syntax.mut (Syntax.tyInt Syntax.w8)) (List._∷_ (Syntax.tyStruct (List._∷_ 38 (List._∷_ 91 (List._∷_ 93 List.[]))) (Syntax.tcons (Syntax.tyRef Syntax.erased Syntax.mut (Syntax.tyInt Syntax.w8)) (Syntax.tcons (Syntax.tyInt Syntax.w64) Syntax.tnil))) (List._∷_ Syntax.tyPtr (List._∷_ (Syntax.tyInt Syntax.w64) (List._∷_ (Syntax.tyRef Syntax.erased Syntax.imm (Syntax.tyInt Syntax.w8)) (List._∷_ (Syntax.tyStruct (List._∷_ 38 (List._∷_ 91 (List._∷_ 93 List.[]))) (Syntax.tcons (Syntax.tyRef Syntax.erased Syntax.imm (Syntax.tyInt Syntax.w8)) (Syntax.tcons (Syntax.tyInt Syntax.w64) Syntax.tnil))) (List._∷_ (Syntax.tyRef Syntax.erased Syntax.mut (Syntax.tyInt Syntax.w8)) (List._∷_ (Syntax.tyStruct (List._∷_ 38 (List._∷_ 91 (List._∷_ 93 List.[]))) (Syntax.tcons (Syntax.tyRef Syntax.erased Syntax.mut (Syntax.tyInt Syntax.w8)) (Syntax.tcons (Syntax.tyInt Syntax.w64) Syntax.tnil))) List.[])))))))))))))))))
 
 abbrev pub m : Nat.ℕ
 m = 3
@@ -93,37 +93,37 @@ abbrev pub ps·0 : List.List (Kinds.PK 1)
 ps·0 = List._∷_ (ShrSlice.pShrS (Referent.rtF (Referent.fInt Syntax.w8)) 0 tt) (List._∷_ (Array.pArr (Array.eInt Syntax.w8) (Array.eInt-laws Syntax.w8) 4) (List._∷_ (Array.pArr (Array.eInt Syntax.w8) (Array.eInt-laws Syntax.w8) 4) List.[]))
 
 abbrev pub r·0 : Kinds.RK 1
-r·0 = Value.rVal record { ty = Declared.row Outcome.the-type; one = Path'.refl; val = Laws'7.val Outcome.the-type Laws.the-laws; tells = Laws'7.tells Outcome.the-type Laws.the-laws; still = Laws'7.still Outcome.the-type Laws.the-copy Exit.yes; row = Rows'.whole (Declared.row Outcome.the-type); rd = λ x. x; mk = λ x. x } λ M 𝓤 H A W. record { copies = Laws'7.copy Outcome.the-type Laws.the-copy 𝓤 H A W; lawful = Laws'7.lawful Outcome.the-type Laws.the-laws 𝓤 H A W tt; makes = Laws'7.makes Outcome.the-type Laws.the-plain 𝓤 H A; in-mem = Local.mem-whole 𝓤 H A W (Declared.row Outcome.the-type); of-mem = Local.whole-mem 𝓤 H A W (Declared.row Outcome.the-type) }
+r·0 = Value.rVal record { ty = Declared.row Outcome.the-type; one = Path'.refl; val = Laws'7.val Outcome.the-type Laws'6.the-laws; tells = Laws'7.tells Outcome.the-type Laws'6.the-laws; still = Laws'7.still Outcome.the-type Laws'6.the-copy Exit.yes; row = Rows'.whole (Declared.row Outcome.the-type); rd = λ x. x; mk = λ x. x } λ M 𝓤 H A W. record { copies = Laws'7.copy Outcome.the-type Laws'6.the-copy 𝓤 H A W; lawful = Laws'7.lawful Outcome.the-type Laws'6.the-laws 𝓤 H A W tt; makes = Laws'7.makes Outcome.the-type Laws'6.the-plain 𝓤 H A; in-mem = Local.mem-whole 𝓤 H A W (Declared.row Outcome.the-type); of-mem = Local.whole-mem 𝓤 H A W (Declared.row Outcome.the-type) }
 
 abbrev pub ps·1 : List.List (Kinds.PK 0)
-ps·1 = List._∷_ (Value.pVal record { ty = Declared.row Outcome.the-type; one = Path'.refl; val = Laws'7.val Outcome.the-type Laws.the-laws; tells = Laws'7.tells Outcome.the-type Laws.the-laws; still = Laws'7.still Outcome.the-type Laws.the-copy Exit.yes; row = Rows'.whole (Declared.row Outcome.the-type); rd = λ x. x; mk = λ x. x } λ M 𝓤 H A W. record { copies = Laws'7.copy Outcome.the-type Laws.the-copy 𝓤 H A W; lawful = Laws'7.lawful Outcome.the-type Laws.the-laws 𝓤 H A W tt; makes = Laws'7.makes Outcome.the-type Laws.the-plain 𝓤 H A; in-mem = Local.mem-whole 𝓤 H A W (Declared.row Outcome.the-type); of-mem = Local.whole-mem 𝓤 H A W (Declared.row Outcome.the-type) }) List.[]
+ps·1 = List._∷_ (Value.pVal record { ty = Declared.row Outcome.the-type; one = Path'.refl; val = Laws'7.val Outcome.the-type Laws'6.the-laws; tells = Laws'7.tells Outcome.the-type Laws'6.the-laws; still = Laws'7.still Outcome.the-type Laws'6.the-copy Exit.yes; row = Rows'.whole (Declared.row Outcome.the-type); rd = λ x. x; mk = λ x. x } λ M 𝓤 H A W. record { copies = Laws'7.copy Outcome.the-type Laws'6.the-copy 𝓤 H A W; lawful = Laws'7.lawful Outcome.the-type Laws'6.the-laws 𝓤 H A W tt; makes = Laws'7.makes Outcome.the-type Laws'6.the-plain 𝓤 H A; in-mem = Local.mem-whole 𝓤 H A W (Declared.row Outcome.the-type); of-mem = Local.whole-mem 𝓤 H A W (Declared.row Outcome.the-type) }) List.[]
 
 abbrev pub r·1 : Kinds.RK 0
-r·1 = Value.rVal record { ty = Declared.row Found.the-type; one = Path'.refl; val = Laws'7.val Found.the-type Laws'5.the-laws; tells = Laws'7.tells Found.the-type Laws'5.the-laws; still = Laws'7.still Found.the-type Laws'5.the-copy Exit.yes; row = Rows'.whole (Declared.row Found.the-type); rd = λ x. x; mk = λ x. x } λ M 𝓤 H A W. record { copies = Laws'7.copy Found.the-type Laws'5.the-copy 𝓤 H A W; lawful = Laws'7.lawful Found.the-type Laws'5.the-laws 𝓤 H A W tt; makes = Laws'7.makes Found.the-type Laws'5.the-plain 𝓤 H A; in-mem = Local.mem-whole 𝓤 H A W (Declared.row Found.the-type); of-mem = Local.whole-mem 𝓤 H A W (Declared.row Found.the-type) }
+r·1 = Value.rVal record { ty = Declared.row Found.the-type; one = Path'.refl; val = Laws'7.val Found.the-type Laws'3.the-laws; tells = Laws'7.tells Found.the-type Laws'3.the-laws; still = Laws'7.still Found.the-type Laws'3.the-copy Exit.yes; row = Rows'.whole (Declared.row Found.the-type); rd = λ x. x; mk = λ x. x } λ M 𝓤 H A W. record { copies = Laws'7.copy Found.the-type Laws'3.the-copy 𝓤 H A W; lawful = Laws'7.lawful Found.the-type Laws'3.the-laws 𝓤 H A W tt; makes = Laws'7.makes Found.the-type Laws'3.the-plain 𝓤 H A; in-mem = Local.mem-whole 𝓤 H A W (Declared.row Found.the-type); of-mem = Local.whole-mem 𝓤 H A W (Declared.row Found.the-type) }
 
 abbrev pub ps·2 : List.List (Kinds.PK 0)
-ps·2 = List._∷_ (Value.pVal record { ty = Declared.row Outcome.the-type; one = Path'.refl; val = Laws'7.val Outcome.the-type Laws.the-laws; tells = Laws'7.tells Outcome.the-type Laws.the-laws; still = Laws'7.still Outcome.the-type Laws.the-copy Exit.yes; row = Rows'.whole (Declared.row Outcome.the-type); rd = λ x. x; mk = λ x. x } λ M 𝓤 H A W. record { copies = Laws'7.copy Outcome.the-type Laws.the-copy 𝓤 H A W; lawful = Laws'7.lawful Outcome.the-type Laws.the-laws 𝓤 H A W tt; makes = Laws'7.makes Outcome.the-type Laws.the-plain 𝓤 H A; in-mem = Local.mem-whole 𝓤 H A W (Declared.row Outcome.the-type); of-mem = Local.whole-mem 𝓤 H A W (Declared.row Outcome.the-type) }) List.[]
+ps·2 = List._∷_ (Value.pVal record { ty = Declared.row Outcome.the-type; one = Path'.refl; val = Laws'7.val Outcome.the-type Laws'6.the-laws; tells = Laws'7.tells Outcome.the-type Laws'6.the-laws; still = Laws'7.still Outcome.the-type Laws'6.the-copy Exit.yes; row = Rows'.whole (Declared.row Outcome.the-type); rd = λ x. x; mk = λ x. x } λ M 𝓤 H A W. record { copies = Laws'7.copy Outcome.the-type Laws'6.the-copy 𝓤 H A W; lawful = Laws'7.lawful Outcome.the-type Laws'6.the-laws 𝓤 H A W tt; makes = Laws'7.makes Outcome.the-type Laws'6.the-plain 𝓤 H A; in-mem = Local.mem-whole 𝓤 H A W (Declared.row Outcome.the-type); of-mem = Local.whole-mem 𝓤 H A W (Declared.row Outcome.the-type) }) List.[]
 
 abbrev pub r·2 : Kinds.RK 0
-r·2 = Value.rVal record { ty = Declared.row Received.the-type; one = Path'.refl; val = Laws'7.val Received.the-type Laws'6.the-laws; tells = Laws'7.tells Received.the-type Laws'6.the-laws; still = Laws'7.still Received.the-type Laws'6.the-copy Exit.yes; row = Rows'.whole (Declared.row Received.the-type); rd = λ x. x; mk = λ x. x } λ M 𝓤 H A W. record { copies = Laws'7.copy Received.the-type Laws'6.the-copy 𝓤 H A W; lawful = Laws'7.lawful Received.the-type Laws'6.the-laws 𝓤 H A W tt; makes = Laws'7.makes Received.the-type Laws'6.the-plain 𝓤 H A; in-mem = Local.mem-whole 𝓤 H A W (Declared.row Received.the-type); of-mem = Local.whole-mem 𝓤 H A W (Declared.row Received.the-type) }
+r·2 = Value.rVal record { ty = Declared.row Received.the-type; one = Path'.refl; val = Laws'7.val Received.the-type Laws'4.the-laws; tells = Laws'7.tells Received.the-type Laws'4.the-laws; still = Laws'7.still Received.the-type Laws'4.the-copy Exit.yes; row = Rows'.whole (Declared.row Received.the-type); rd = λ x. x; mk = λ x. x } λ M 𝓤 H A W. record { copies = Laws'7.copy Received.the-type Laws'4.the-copy 𝓤 H A W; lawful = Laws'7.lawful Received.the-type Laws'4.the-laws 𝓤 H A W tt; makes = Laws'7.makes Received.the-type Laws'4.the-plain 𝓤 H A; in-mem = Local.mem-whole 𝓤 H A W (Declared.row Received.the-type); of-mem = Local.whole-mem 𝓤 H A W (Declared.row Received.the-type) }
 
 abbrev pub ps·3 : List.List (Kinds.PK 1)
-ps·3 = List._∷_ (ShrSlice.pShrS (Referent.rtF (Referent.fInt Syntax.w8)) 0 tt) (List._∷_ (Array.pArr (Array.eInt Syntax.w8) (Array.eInt-laws Syntax.w8) 4) (List._∷_ (Array.pArr (Array.eInt Syntax.w8) (Array.eInt-laws Syntax.w8) 4) (List._∷_ (Num.pNum Syntax.w64) (List._∷_ (Value.pVal record { ty = Declared'.row Fragment.the-type; one = Path'.refl; val = Laws'8.val Fragment.the-type Laws''.the-laws; tells = Laws'8.tells Fragment.the-type Laws''.the-laws; still = Laws'8.still Fragment.the-type Laws''.the-copy Exit.yes; row = Rows'.whole (Declared'.row Fragment.the-type); rd = λ x. x; mk = λ x. x } λ M 𝓤 H A W. record { copies = Laws'8.copy Fragment.the-type Laws''.the-copy 𝓤 H A W; lawful = Laws'8.lawful Fragment.the-type Laws''.the-laws 𝓤 H A W; makes = Laws'8.makes Fragment.the-type Laws''.the-plain 𝓤 H A; in-mem = Local.mem-whole 𝓤 H A W (Declared'.row Fragment.the-type); of-mem = Local.whole-mem 𝓤 H A W (Declared'.row Fragment.the-type) }) List.[]))))
+ps·3 = List._∷_ (ShrSlice.pShrS (Referent.rtF (Referent.fInt Syntax.w8)) 0 tt) (List._∷_ (Array.pArr (Array.eInt Syntax.w8) (Array.eInt-laws Syntax.w8) 4) (List._∷_ (Array.pArr (Array.eInt Syntax.w8) (Array.eInt-laws Syntax.w8) 4) (List._∷_ (Num.pNum Syntax.w64) (List._∷_ (Value.pVal record { ty = Declared'.row Fragment.the-type; one = Path'.refl; val = Laws'8.val Fragment.the-type Laws'5.the-laws; tells = Laws'8.tells Fragment.the-type Laws'5.the-laws; still = Laws'8.still Fragment.the-type Laws'5.the-copy Exit.yes; row = Rows'.whole (Declared'.row Fragment.the-type); rd = λ x. x; mk = λ x. x } λ M 𝓤 H A W. record { copies = Laws'8.copy Fragment.the-type Laws'5.the-copy 𝓤 H A W; lawful = Laws'8.lawful Fragment.the-type Laws'5.the-laws 𝓤 H A W; makes = Laws'8.makes Fragment.the-type Laws'5.the-plain 𝓤 H A; in-mem = Local.mem-whole 𝓤 H A W (Declared'.row Fragment.the-type); of-mem = Local.whole-mem 𝓤 H A W (Declared'.row Fragment.the-type) }) List.[]))))
 
 abbrev pub r·3 : Kinds.RK 1
-r·3 = Value.rVal record { ty = Declared'.row Arrival.the-type; one = Path'.refl; val = Laws'8.val Arrival.the-type Laws'4.the-laws; tells = Laws'8.tells Arrival.the-type Laws'4.the-laws; still = Laws'8.still Arrival.the-type Laws'4.the-copy Exit.yes; row = Rows'.whole (Declared'.row Arrival.the-type); rd = λ x. x; mk = λ x. x } λ M 𝓤 H A W. record { copies = Laws'8.copy Arrival.the-type Laws'4.the-copy 𝓤 H A W; lawful = Laws'8.lawful Arrival.the-type Laws'4.the-laws 𝓤 H A W; makes = Laws'8.makes Arrival.the-type Laws'4.the-plain 𝓤 H A; in-mem = Local.mem-whole 𝓤 H A W (Declared'.row Arrival.the-type); of-mem = Local.whole-mem 𝓤 H A W (Declared'.row Arrival.the-type) }
+r·3 = Value.rVal record { ty = Declared'.row Arrival.the-type; one = Path'.refl; val = Laws'8.val Arrival.the-type Laws'.the-laws; tells = Laws'8.tells Arrival.the-type Laws'.the-laws; still = Laws'8.still Arrival.the-type Laws'.the-copy Exit.yes; row = Rows'.whole (Declared'.row Arrival.the-type); rd = λ x. x; mk = λ x. x } λ M 𝓤 H A W. record { copies = Laws'8.copy Arrival.the-type Laws'.the-copy 𝓤 H A W; lawful = Laws'8.lawful Arrival.the-type Laws'.the-laws 𝓤 H A W; makes = Laws'8.makes Arrival.the-type Laws'.the-plain 𝓤 H A; in-mem = Local.mem-whole 𝓤 H A W (Declared'.row Arrival.the-type); of-mem = Local.whole-mem 𝓤 H A W (Declared'.row Arrival.the-type) }
 
 abbrev pub ps·4 : List.List (Kinds.PK 4)
-ps·4 = List._∷_ (MutSlice.pMutS Client·T.the-row 0 tt) (List._∷_ (MutSlice.pMutS (Referent.rtF (Referent.fInt Syntax.w8)) 1 tt) (List._∷_ (Num.pNum Syntax.w64) (List._∷_ (Value.pVal record { ty = Declared'.row Arrival.the-type; one = Path'.refl; val = Laws'8.val Arrival.the-type Laws'4.the-laws; tells = Laws'8.tells Arrival.the-type Laws'4.the-laws; still = Laws'8.still Arrival.the-type Laws'4.the-copy Exit.yes; row = Rows'.whole (Declared'.row Arrival.the-type); rd = λ x. x; mk = λ x. x } λ M 𝓤 H A W. record { copies = Laws'8.copy Arrival.the-type Laws'4.the-copy 𝓤 H A W; lawful = Laws'8.lawful Arrival.the-type Laws'4.the-laws 𝓤 H A W; makes = Laws'8.makes Arrival.the-type Laws'4.the-plain 𝓤 H A; in-mem = Local.mem-whole 𝓤 H A W (Declared'.row Arrival.the-type); of-mem = Local.whole-mem 𝓤 H A W (Declared'.row Arrival.the-type) }) (List._∷_ (ShrSlice.pShrS (Referent.rtF (Referent.fInt Syntax.w8)) 2 tt) (List._∷_ (MutSlice.pMutS (Referent.rtF (Referent.fInt Syntax.w8)) 3 tt) List.[])))))
+ps·4 = List._∷_ (MutSlice.pMutS Client·T.the-row 0 tt) (List._∷_ (MutSlice.pMutS (Referent.rtF (Referent.fInt Syntax.w8)) 1 tt) (List._∷_ (Num.pNum Syntax.w64) (List._∷_ (Value.pVal record { ty = Declared'.row Arrival.the-type; one = Path'.refl; val = Laws'8.val Arrival.the-type Laws'.the-laws; tells = Laws'8.tells Arrival.the-type Laws'.the-laws; still = Laws'8.still Arrival.the-type Laws'.the-copy Exit.yes; row = Rows'.whole (Declared'.row Arrival.the-type); rd = λ x. x; mk = λ x. x } λ M 𝓤 H A W. record { copies = Laws'8.copy Arrival.the-type Laws'.the-copy 𝓤 H A W; lawful = Laws'8.lawful Arrival.the-type Laws'.the-laws 𝓤 H A W; makes = Laws'8.makes Arrival.the-type Laws'.the-plain 𝓤 H A; in-mem = Local.mem-whole 𝓤 H A W (Declared'.row Arrival.the-type); of-mem = Local.whole-mem 𝓤 H A W (Declared'.row Arrival.the-type) }) (List._∷_ (ShrSlice.pShrS (Referent.rtF (Referent.fInt Syntax.w8)) 2 tt) (List._∷_ (MutSlice.pMutS (Referent.rtF (Referent.fInt Syntax.w8)) 3 tt) List.[])))))
 
 abbrev pub r·4 : Kinds.RK 4
-r·4 = Value.rVal record { ty = Declared.row Answer.the-type; one = Path'.refl; val = Laws'7.val Answer.the-type Laws'3.the-laws; tells = Laws'7.tells Answer.the-type Laws'3.the-laws; still = Laws'7.still Answer.the-type Laws'3.the-copy Exit.yes; row = Rows'.whole (Declared.row Answer.the-type); rd = λ x. x; mk = λ x. x } λ M 𝓤 H A W. record { copies = Laws'7.copy Answer.the-type Laws'3.the-copy 𝓤 H A W; lawful = Laws'7.lawful Answer.the-type Laws'3.the-laws 𝓤 H A W tt; makes = Laws'7.makes Answer.the-type Laws'3.the-plain 𝓤 H A; in-mem = Local.mem-whole 𝓤 H A W (Declared.row Answer.the-type); of-mem = Local.whole-mem 𝓤 H A W (Declared.row Answer.the-type) }
+r·4 = Value.rVal record { ty = Declared.row Answer.the-type; one = Path'.refl; val = Laws'7.val Answer.the-type Laws.the-laws; tells = Laws'7.tells Answer.the-type Laws.the-laws; still = Laws'7.still Answer.the-type Laws.the-copy Exit.yes; row = Rows'.whole (Declared.row Answer.the-type); rd = λ x. x; mk = λ x. x } λ M 𝓤 H A W. record { copies = Laws'7.copy Answer.the-type Laws.the-copy 𝓤 H A W; lawful = Laws'7.lawful Answer.the-type Laws.the-laws 𝓤 H A W tt; makes = Laws'7.makes Answer.the-type Laws.the-plain 𝓤 H A; in-mem = Local.mem-whole 𝓤 H A W (Declared.row Answer.the-type); of-mem = Local.whole-mem 𝓤 H A W (Declared.row Answer.the-type) }
 
 abbrev pub ps·5 : List.List (Kinds.PK 0)
-ps·5 = List._∷_ (Value.pVal record { ty = Declared.row Answer.the-type; one = Path'.refl; val = Laws'7.val Answer.the-type Laws'3.the-laws; tells = Laws'7.tells Answer.the-type Laws'3.the-laws; still = Laws'7.still Answer.the-type Laws'3.the-copy Exit.yes; row = Rows'.whole (Declared.row Answer.the-type); rd = λ x. x; mk = λ x. x } λ M 𝓤 H A W. record { copies = Laws'7.copy Answer.the-type Laws'3.the-copy 𝓤 H A W; lawful = Laws'7.lawful Answer.the-type Laws'3.the-laws 𝓤 H A W tt; makes = Laws'7.makes Answer.the-type Laws'3.the-plain 𝓤 H A; in-mem = Local.mem-whole 𝓤 H A W (Declared.row Answer.the-type); of-mem = Local.whole-mem 𝓤 H A W (Declared.row Answer.the-type) }) List.[]
+ps·5 = List._∷_ (Value.pVal record { ty = Declared.row Answer.the-type; one = Path'.refl; val = Laws'7.val Answer.the-type Laws.the-laws; tells = Laws'7.tells Answer.the-type Laws.the-laws; still = Laws'7.still Answer.the-type Laws.the-copy Exit.yes; row = Rows'.whole (Declared.row Answer.the-type); rd = λ x. x; mk = λ x. x } λ M 𝓤 H A W. record { copies = Laws'7.copy Answer.the-type Laws.the-copy 𝓤 H A W; lawful = Laws'7.lawful Answer.the-type Laws.the-laws 𝓤 H A W tt; makes = Laws'7.makes Answer.the-type Laws.the-plain 𝓤 H A; in-mem = Local.mem-whole 𝓤 H A W (Declared.row Answer.the-type); of-mem = Local.whole-mem 𝓤 H A W (Declared.row Answer.the-type) }) List.[]
 
 abbrev pub r·5 : Kinds.RK 0
-r·5 = Value.rVal record { ty = Declared.row Received.the-type; one = Path'.refl; val = Laws'7.val Received.the-type Laws'6.the-laws; tells = Laws'7.tells Received.the-type Laws'6.the-laws; still = Laws'7.still Received.the-type Laws'6.the-copy Exit.yes; row = Rows'.whole (Declared.row Received.the-type); rd = λ x. x; mk = λ x. x } λ M 𝓤 H A W. record { copies = Laws'7.copy Received.the-type Laws'6.the-copy 𝓤 H A W; lawful = Laws'7.lawful Received.the-type Laws'6.the-laws 𝓤 H A W tt; makes = Laws'7.makes Received.the-type Laws'6.the-plain 𝓤 H A; in-mem = Local.mem-whole 𝓤 H A W (Declared.row Received.the-type); of-mem = Local.whole-mem 𝓤 H A W (Declared.row Received.the-type) }
+r·5 = Value.rVal record { ty = Declared.row Received.the-type; one = Path'.refl; val = Laws'7.val Received.the-type Laws'4.the-laws; tells = Laws'7.tells Received.the-type Laws'4.the-laws; still = Laws'7.still Received.the-type Laws'4.the-copy Exit.yes; row = Rows'.whole (Declared.row Received.the-type); rd = λ x. x; mk = λ x. x } λ M 𝓤 H A W. record { copies = Laws'7.copy Received.the-type Laws'4.the-copy 𝓤 H A W; lawful = Laws'7.lawful Received.the-type Laws'4.the-laws 𝓤 H A W tt; makes = Laws'7.makes Received.the-type Laws'4.the-plain 𝓤 H A; in-mem = Local.mem-whole 𝓤 H A W (Declared.row Received.the-type); of-mem = Local.whole-mem 𝓤 H A W (Declared.row Received.the-type) }
 
 abbrev pub hs : List.List Syntax.Home
 hs = List._∷_ Syntax.valueLocal (List._∷_ Syntax.valueLocal (List._∷_ Syntax.valueLocal (List._∷_ Syntax.valueLocal (List._∷_ Syntax.valueLocal (List._∷_ Syntax.valueLocal (List._∷_ Syntax.valueLocal (List._∷_ Syntax.valueLocal (List._∷_ Syntax.valueLocal (List._∷_ Syntax.valueLocal (List._∷_ Syntax.valueLocal (List._∷_ Syntax.valueLocal (List._∷_ Syntax.valueLocal (List._∷_ Syntax.valueLocal (List._∷_ Syntax.valueLocal (List._∷_ Syntax.valueLocal (List._∷_ Syntax.valueLocal (List._∷_ Syntax.valueLocal (List._∷_ Syntax.valueLocal (List._∷_ Syntax.valueLocal (List._∷_ Syntax.valueLocal (List._∷_ Syntax.valueLocal (List._∷_ Syntax.valueLocal (List._∷_ Syntax.valueLocal (List._∷_ Syntax.valueLocal (List._∷_ Syntax.valueLocal (List._∷_ Syntax.valueLocal List.[]))))))))))))))))))))))))))
@@ -258,148 +258,148 @@ abbrev pub Claims : Type 1
 Claims = Kinds.In 1 ps·0 × Kinds.Out 1 ps·0 r·0 × Kinds.In 0 ps·1 × Kinds.Out 0 ps·1 r·1 × Kinds.In 0 ps·2 × Kinds.Out 0 ps·2 r·2 × Kinds.In 1 ps·3 × Kinds.Out 1 ps·3 r·3 × Kinds.In 4 ps·4 × Kinds.Out 4 ps·4 r·4 × Kinds.In 0 ps·5 × Kinds.Out 0 ps·5 r·5
 
 abbrev pub t0 : List.List Row.Entry
-t0 = List._∷_ (0, Rows'.any-gone Laws'6.mir) (List._∷_ (1, Mut.mslice Client·T.the-row (Syntax.tyRef (Syntax.named 0) Syntax.mut (Memory·T.pointee (Client·T.the-row .written))) 0) (List._∷_ (2, Mut.mslice (Referent.rtF (Referent.fInt Syntax.w8)) (Syntax.tyRef (Syntax.named 1) Syntax.mut (Syntax.tyInt Syntax.w8)) 1) (List._∷_ (3, Rows'.sc-here (Row.sInt Syntax.w64)) (List._∷_ (4, Rows'.sc-here (Row.sInt Syntax.w64)) (List._∷_ (5, Rows.arrF (Referent.rtF (Referent.fInt Syntax.w8)) 4 0) (List._∷_ (6, Rows.arrF (Referent.rtF (Referent.fInt Syntax.w8)) 4 0) (List._∷_ (7, Rows'.sslice (Referent.rtF (Referent.fInt Syntax.w8)) (Syntax.tyRef (Syntax.named 2) Syntax.imm (Syntax.tyInt Syntax.w8)) 2) (List._∷_ (8, Mut.mslice (Referent.rtF (Referent.fInt Syntax.w8)) (Syntax.tyRef (Syntax.named 3) Syntax.mut (Syntax.tyInt Syntax.w8)) 3) (List._∷_ (9, Rows'.any-gone Laws.mir) (List._∷_ (10, Rows'.any-gone Laws'5.mir) (List._∷_ (11, Rows'.any-gone Laws''.mir) (List._∷_ (12, Rows'.any-gone Laws'4.mir) (List._∷_ (13, Rows'.any-gone (Syntax.tyInt Syntax.w64)) (List._∷_ (14, Rows'.any-gone (Syntax.tyInt Syntax.w64)) (List._∷_ (15, Rows'.any-gone Laws'3.mir) List.[])))))))))))))))
+t0 = List._∷_ (0, Rows'.any-gone Laws'4.mir) (List._∷_ (1, Mut.mslice Client·T.the-row (Syntax.tyRef (Syntax.named 0) Syntax.mut (Memory·T.pointee (Client·T.the-row .written))) 0) (List._∷_ (2, Mut.mslice (Referent.rtF (Referent.fInt Syntax.w8)) (Syntax.tyRef (Syntax.named 1) Syntax.mut (Syntax.tyInt Syntax.w8)) 1) (List._∷_ (3, Rows'.sc-here (Row.sInt Syntax.w64)) (List._∷_ (4, Rows'.sc-here (Row.sInt Syntax.w64)) (List._∷_ (5, Rows.arrF (Referent.rtF (Referent.fInt Syntax.w8)) 4 0) (List._∷_ (6, Rows.arrF (Referent.rtF (Referent.fInt Syntax.w8)) 4 0) (List._∷_ (7, Rows'.sslice (Referent.rtF (Referent.fInt Syntax.w8)) (Syntax.tyRef (Syntax.named 2) Syntax.imm (Syntax.tyInt Syntax.w8)) 2) (List._∷_ (8, Mut.mslice (Referent.rtF (Referent.fInt Syntax.w8)) (Syntax.tyRef (Syntax.named 3) Syntax.mut (Syntax.tyInt Syntax.w8)) 3) (List._∷_ (9, Rows'.any-gone Laws'6.mir) (List._∷_ (10, Rows'.any-gone Laws'3.mir) (List._∷_ (11, Rows'.any-gone Laws'5.mir) (List._∷_ (12, Rows'.any-gone Laws'.mir) (List._∷_ (13, Rows'.any-gone (Syntax.tyInt Syntax.w64)) (List._∷_ (14, Rows'.any-gone (Syntax.tyInt Syntax.w64)) (List._∷_ (15, Rows'.any-gone Laws.mir) List.[])))))))))))))))
 
 abbrev pub t1 : List.List Row.Entry
-t1 = List._∷_ (16, Rows'.any-gone Laws'6.mir) (List._∷_ (17, Rows'.any-gone (Syntax.tyRef Syntax.erased Syntax.mut (Memory·T.pointee (Client·T.the-row .written)))) (List._∷_ (18, Rows'.any-gone (Syntax.tyStruct (List._∷_ 38 (List._∷_ 91 (List._∷_ 93 List.[]))) (Syntax.tcons (Syntax.tyRef Syntax.erased Syntax.mut (Memory·T.pointee (Client·T.the-row .written))) (Syntax.tcons (Syntax.tyInt Syntax.w64) Syntax.tnil)))) (List._∷_ (19, Rows'.any-gone (Syntax.tyRef Syntax.erased Syntax.mut (Syntax.tyInt Syntax.w8))) (List._∷_ (20, Rows'.any-gone (Syntax.tyStruct (List._∷_ 38 (List._∷_ 91 (List._∷_ 93 List.[]))) (Syntax.tcons (Syntax.tyRef Syntax.erased Syntax.mut (Syntax.tyInt Syntax.w8)) (Syntax.tcons (Syntax.tyInt Syntax.w64) Syntax.tnil)))) (List._∷_ (21, Rows'.any-gone Syntax.tyPtr) (List._∷_ (22, Rows'.any-gone (Syntax.tyInt Syntax.w64)) (List._∷_ (23, Rows'.any-gone (Syntax.tyRef Syntax.erased Syntax.imm (Syntax.tyInt Syntax.w8))) (List._∷_ (24, Rows'.any-gone (Syntax.tyStruct (List._∷_ 38 (List._∷_ 91 (List._∷_ 93 List.[]))) (Syntax.tcons (Syntax.tyRef Syntax.erased Syntax.imm (Syntax.tyInt Syntax.w8)) (Syntax.tcons (Syntax.tyInt Syntax.w64) Syntax.tnil)))) (List._∷_ (25, Rows'.any-gone (Syntax.tyRef Syntax.erased Syntax.mut (Syntax.tyInt Syntax.w8))) (List._∷_ (26, Rows'.any-gone (Syntax.tyStruct (List._∷_ 38 (List._∷_ 91 (List._∷_ 93 List.[]))) (Syntax.tcons (Syntax.tyRef Syntax.erased Syntax.mut (Syntax.tyInt Syntax.w8)) (Syntax.tcons (Syntax.tyInt Syntax.w64) Syntax.tnil)))) List.[]))))))))))
+t1 = List._∷_ (16, Rows'.any-gone Laws'4.mir) (List._∷_ (17, Rows'.any-gone (Syntax.tyRef Syntax.erased Syntax.mut (Memory·T.pointee (Client·T.the-row .written)))) (List._∷_ (18, Rows'.any-gone (Syntax.tyStruct (List._∷_ 38 (List._∷_ 91 (List._∷_ 93 List.[]))) (Syntax.tcons (Syntax.tyRef Syntax.erased Syntax.mut (Memory·T.pointee (Client·T.the-row .written))) (Syntax.tcons (Syntax.tyInt Syntax.w64) Syntax.tnil)))) (List._∷_ (19, Rows'.any-gone (Syntax.tyRef Syntax.erased Syntax.mut (Syntax.tyInt Syntax.w8))) (List._∷_ (20, Rows'.any-gone (Syntax.tyStruct (List._∷_ 38 (List._∷_ 91 (List._∷_ 93 List.[]))) (Syntax.tcons (Syntax.tyRef Syntax.erased Syntax.mut (Syntax.tyInt Syntax.w8)) (Syntax.tcons (Syntax.tyInt Syntax.w64) Syntax.tnil)))) (List._∷_ (21, Rows'.any-gone Syntax.tyPtr) (List._∷_ (22, Rows'.any-gone (Syntax.tyInt Syntax.w64)) (List._∷_ (23, Rows'.any-gone (Syntax.tyRef Syntax.erased Syntax.imm (Syntax.tyInt Syntax.w8))) (List._∷_ (24, Rows'.any-gone (Syntax.tyStruct (List._∷_ 38 (List._∷_ 91 (List._∷_ 93 List.[]))) (Syntax.tcons (Syntax.tyRef Syntax.erased Syntax.imm (Syntax.tyInt Syntax.w8)) (Syntax.tcons (Syntax.tyInt Syntax.w64) Syntax.tnil)))) (List._∷_ (25, Rows'.any-gone (Syntax.tyRef Syntax.erased Syntax.mut (Syntax.tyInt Syntax.w8))) (List._∷_ (26, Rows'.any-gone (Syntax.tyStruct (List._∷_ 38 (List._∷_ 91 (List._∷_ 93 List.[]))) (Syntax.tcons (Syntax.tyRef Syntax.erased Syntax.mut (Syntax.tyInt Syntax.w8)) (Syntax.tcons (Syntax.tyInt Syntax.w64) Syntax.tnil)))) List.[]))))))))))
 
 abbrev pub t2 : List.List Row.Entry
-t2 = List._∷_ (0, Rows'.whole (Declared.row Received.the-type)) (List._∷_ (1, Mut.mslice Client·T.the-row (Syntax.tyRef (Syntax.named 0) Syntax.mut (Memory·T.pointee (Client·T.the-row .written))) 0) (List._∷_ (2, Mut.mslice (Referent.rtF (Referent.fInt Syntax.w8)) (Syntax.tyRef (Syntax.named 1) Syntax.mut (Syntax.tyInt Syntax.w8)) 1) (List._∷_ (3, Rows'.any-gone (Syntax.tyInt Syntax.w64)) (List._∷_ (4, Rows'.any-gone (Syntax.tyInt Syntax.w64)) (List._∷_ (5, Rows'.any-gone (Syntax.tyArray (Syntax.tyInt Syntax.w8) 4)) (List._∷_ (6, Rows'.any-gone (Syntax.tyArray (Syntax.tyInt Syntax.w8) 4)) (List._∷_ (7, Rows'.sslice (Referent.rtF (Referent.fInt Syntax.w8)) (Syntax.tyRef (Syntax.named 2) Syntax.imm (Syntax.tyInt Syntax.w8)) 2) (List._∷_ (8, Mut.mslice (Referent.rtF (Referent.fInt Syntax.w8)) (Syntax.tyRef (Syntax.named 3) Syntax.mut (Syntax.tyInt Syntax.w8)) 3) (List._∷_ (9, Rows'.any-gone Laws.mir) (List._∷_ (10, Rows'.any-gone Laws'5.mir) (List._∷_ (11, Rows'.any-gone Laws''.mir) (List._∷_ (12, Rows'.any-gone Laws'4.mir) (List._∷_ (13, Rows'.any-gone (Syntax.tyInt Syntax.w64)) (List._∷_ (14, Rows'.any-gone (Syntax.tyInt Syntax.w64)) (List._∷_ (15, Rows'.any-gone Laws'3.mir) List.[])))))))))))))))
+t2 = List._∷_ (0, Rows'.whole (Declared.row Received.the-type)) (List._∷_ (1, Mut.mslice Client·T.the-row (Syntax.tyRef (Syntax.named 0) Syntax.mut (Memory·T.pointee (Client·T.the-row .written))) 0) (List._∷_ (2, Mut.mslice (Referent.rtF (Referent.fInt Syntax.w8)) (Syntax.tyRef (Syntax.named 1) Syntax.mut (Syntax.tyInt Syntax.w8)) 1) (List._∷_ (3, Rows'.any-gone (Syntax.tyInt Syntax.w64)) (List._∷_ (4, Rows'.any-gone (Syntax.tyInt Syntax.w64)) (List._∷_ (5, Rows'.any-gone (Syntax.tyArray (Syntax.tyInt Syntax.w8) 4)) (List._∷_ (6, Rows'.any-gone (Syntax.tyArray (Syntax.tyInt Syntax.w8) 4)) (List._∷_ (7, Rows'.sslice (Referent.rtF (Referent.fInt Syntax.w8)) (Syntax.tyRef (Syntax.named 2) Syntax.imm (Syntax.tyInt Syntax.w8)) 2) (List._∷_ (8, Mut.mslice (Referent.rtF (Referent.fInt Syntax.w8)) (Syntax.tyRef (Syntax.named 3) Syntax.mut (Syntax.tyInt Syntax.w8)) 3) (List._∷_ (9, Rows'.any-gone Laws'6.mir) (List._∷_ (10, Rows'.any-gone Laws'3.mir) (List._∷_ (11, Rows'.any-gone Laws'5.mir) (List._∷_ (12, Rows'.any-gone Laws'.mir) (List._∷_ (13, Rows'.any-gone (Syntax.tyInt Syntax.w64)) (List._∷_ (14, Rows'.any-gone (Syntax.tyInt Syntax.w64)) (List._∷_ (15, Rows'.any-gone Laws.mir) List.[])))))))))))))))
 
 abbrev pub t3 : List.List Row.Entry
-t3 = List._∷_ (0, Rows'.any-gone Laws'6.mir) (List._∷_ (1, Mut.mslice Client·T.the-row (Syntax.tyRef (Syntax.named 0) Syntax.mut (Memory·T.pointee (Client·T.the-row .written))) 0) (List._∷_ (2, Mut.mslice (Referent.rtF (Referent.fInt Syntax.w8)) (Syntax.tyRef (Syntax.named 1) Syntax.mut (Syntax.tyInt Syntax.w8)) 1) (List._∷_ (3, Rows'.sc-here (Row.sInt Syntax.w64)) (List._∷_ (4, Rows'.sc-here (Row.sInt Syntax.w64)) (List._∷_ (5, Rows.arrF (Referent.rtF (Referent.fInt Syntax.w8)) 4 0) (List._∷_ (6, Rows.arrF (Referent.rtF (Referent.fInt Syntax.w8)) 4 0) (List._∷_ (7, Rows'.sslice (Referent.rtF (Referent.fInt Syntax.w8)) (Syntax.tyRef (Syntax.named 2) Syntax.imm (Syntax.tyInt Syntax.w8)) 2) (List._∷_ (8, Mut.mslice (Referent.rtF (Referent.fInt Syntax.w8)) (Syntax.tyRef (Syntax.named 3) Syntax.mut (Syntax.tyInt Syntax.w8)) 3) (List._∷_ (9, Rows'.whole (Declared.row Outcome.the-type)) (List._∷_ (10, Rows'.any-gone Laws'5.mir) (List._∷_ (11, Rows'.any-gone Laws''.mir) (List._∷_ (12, Rows'.any-gone Laws'4.mir) (List._∷_ (13, Rows'.any-gone (Syntax.tyInt Syntax.w64)) (List._∷_ (14, Rows'.any-gone (Syntax.tyInt Syntax.w64)) (List._∷_ (15, Rows'.any-gone Laws'3.mir) List.[])))))))))))))))
+t3 = List._∷_ (0, Rows'.any-gone Laws'4.mir) (List._∷_ (1, Mut.mslice Client·T.the-row (Syntax.tyRef (Syntax.named 0) Syntax.mut (Memory·T.pointee (Client·T.the-row .written))) 0) (List._∷_ (2, Mut.mslice (Referent.rtF (Referent.fInt Syntax.w8)) (Syntax.tyRef (Syntax.named 1) Syntax.mut (Syntax.tyInt Syntax.w8)) 1) (List._∷_ (3, Rows'.sc-here (Row.sInt Syntax.w64)) (List._∷_ (4, Rows'.sc-here (Row.sInt Syntax.w64)) (List._∷_ (5, Rows.arrF (Referent.rtF (Referent.fInt Syntax.w8)) 4 0) (List._∷_ (6, Rows.arrF (Referent.rtF (Referent.fInt Syntax.w8)) 4 0) (List._∷_ (7, Rows'.sslice (Referent.rtF (Referent.fInt Syntax.w8)) (Syntax.tyRef (Syntax.named 2) Syntax.imm (Syntax.tyInt Syntax.w8)) 2) (List._∷_ (8, Mut.mslice (Referent.rtF (Referent.fInt Syntax.w8)) (Syntax.tyRef (Syntax.named 3) Syntax.mut (Syntax.tyInt Syntax.w8)) 3) (List._∷_ (9, Rows'.whole (Declared.row Outcome.the-type)) (List._∷_ (10, Rows'.any-gone Laws'3.mir) (List._∷_ (11, Rows'.any-gone Laws'5.mir) (List._∷_ (12, Rows'.any-gone Laws'.mir) (List._∷_ (13, Rows'.any-gone (Syntax.tyInt Syntax.w64)) (List._∷_ (14, Rows'.any-gone (Syntax.tyInt Syntax.w64)) (List._∷_ (15, Rows'.any-gone Laws.mir) List.[])))))))))))))))
 
 abbrev pub t4 : List.List Row.Entry
-t4 = List._∷_ (0, Rows'.any-gone Laws'6.mir) (List._∷_ (1, Mut.mslice Client·T.the-row (Syntax.tyRef (Syntax.named 0) Syntax.mut (Memory·T.pointee (Client·T.the-row .written))) 0) (List._∷_ (2, Mut.mslice (Referent.rtF (Referent.fInt Syntax.w8)) (Syntax.tyRef (Syntax.named 1) Syntax.mut (Syntax.tyInt Syntax.w8)) 1) (List._∷_ (3, Rows'.sc-here (Row.sInt Syntax.w64)) (List._∷_ (4, Rows'.sc-here (Row.sInt Syntax.w64)) (List._∷_ (5, Rows.arrF (Referent.rtF (Referent.fInt Syntax.w8)) 4 0) (List._∷_ (6, Rows.arrF (Referent.rtF (Referent.fInt Syntax.w8)) 4 0) (List._∷_ (7, Rows'.sslice (Referent.rtF (Referent.fInt Syntax.w8)) (Syntax.tyRef (Syntax.named 2) Syntax.imm (Syntax.tyInt Syntax.w8)) 2) (List._∷_ (8, Mut.mslice (Referent.rtF (Referent.fInt Syntax.w8)) (Syntax.tyRef (Syntax.named 3) Syntax.mut (Syntax.tyInt Syntax.w8)) 3) (List._∷_ (9, Rows'.whole (Declared.row Outcome.the-type)) (List._∷_ (10, Rows'.whole (Declared.row Found.the-type)) (List._∷_ (11, Rows'.any-gone Laws''.mir) (List._∷_ (12, Rows'.any-gone Laws'4.mir) (List._∷_ (13, Rows'.any-gone (Syntax.tyInt Syntax.w64)) (List._∷_ (14, Rows'.any-gone (Syntax.tyInt Syntax.w64)) (List._∷_ (15, Rows'.any-gone Laws'3.mir) List.[])))))))))))))))
+t4 = List._∷_ (0, Rows'.any-gone Laws'4.mir) (List._∷_ (1, Mut.mslice Client·T.the-row (Syntax.tyRef (Syntax.named 0) Syntax.mut (Memory·T.pointee (Client·T.the-row .written))) 0) (List._∷_ (2, Mut.mslice (Referent.rtF (Referent.fInt Syntax.w8)) (Syntax.tyRef (Syntax.named 1) Syntax.mut (Syntax.tyInt Syntax.w8)) 1) (List._∷_ (3, Rows'.sc-here (Row.sInt Syntax.w64)) (List._∷_ (4, Rows'.sc-here (Row.sInt Syntax.w64)) (List._∷_ (5, Rows.arrF (Referent.rtF (Referent.fInt Syntax.w8)) 4 0) (List._∷_ (6, Rows.arrF (Referent.rtF (Referent.fInt Syntax.w8)) 4 0) (List._∷_ (7, Rows'.sslice (Referent.rtF (Referent.fInt Syntax.w8)) (Syntax.tyRef (Syntax.named 2) Syntax.imm (Syntax.tyInt Syntax.w8)) 2) (List._∷_ (8, Mut.mslice (Referent.rtF (Referent.fInt Syntax.w8)) (Syntax.tyRef (Syntax.named 3) Syntax.mut (Syntax.tyInt Syntax.w8)) 3) (List._∷_ (9, Rows'.whole (Declared.row Outcome.the-type)) (List._∷_ (10, Rows'.whole (Declared.row Found.the-type)) (List._∷_ (11, Rows'.any-gone Laws'5.mir) (List._∷_ (12, Rows'.any-gone Laws'.mir) (List._∷_ (13, Rows'.any-gone (Syntax.tyInt Syntax.w64)) (List._∷_ (14, Rows'.any-gone (Syntax.tyInt Syntax.w64)) (List._∷_ (15, Rows'.any-gone Laws.mir) List.[])))))))))))))))
 
 abbrev pub t5 : List.List Row.Entry
-t5 = List._∷_ (0, Rows'.any-gone Laws'6.mir) (List._∷_ (1, Mut.mslice Client·T.the-row (Syntax.tyRef (Syntax.named 0) Syntax.mut (Memory·T.pointee (Client·T.the-row .written))) 0) (List._∷_ (2, Mut.mslice (Referent.rtF (Referent.fInt Syntax.w8)) (Syntax.tyRef (Syntax.named 1) Syntax.mut (Syntax.tyInt Syntax.w8)) 1) (List._∷_ (3, Rows'.sc-here (Row.sInt Syntax.w64)) (List._∷_ (4, Rows'.sc-here (Row.sInt Syntax.w64)) (List._∷_ (5, Rows'.any-gone (Syntax.tyArray (Syntax.tyInt Syntax.w8) 4)) (List._∷_ (6, Rows'.any-gone (Syntax.tyArray (Syntax.tyInt Syntax.w8) 4)) (List._∷_ (7, Rows'.sslice (Referent.rtF (Referent.fInt Syntax.w8)) (Syntax.tyRef (Syntax.named 2) Syntax.imm (Syntax.tyInt Syntax.w8)) 2) (List._∷_ (8, Mut.mslice (Referent.rtF (Referent.fInt Syntax.w8)) (Syntax.tyRef (Syntax.named 3) Syntax.mut (Syntax.tyInt Syntax.w8)) 3) (List._∷_ (9, Rows'.any-gone Laws.mir) (List._∷_ (10, Rows'.any-gone Laws'5.mir) (List._∷_ (11, Rows'.any-gone Laws''.mir) (List._∷_ (12, Rows'.any-gone Laws'4.mir) (List._∷_ (13, Rows'.any-gone (Syntax.tyInt Syntax.w64)) (List._∷_ (14, Rows'.any-gone (Syntax.tyInt Syntax.w64)) (List._∷_ (15, Rows'.any-gone Laws'3.mir) List.[])))))))))))))))
+t5 = List._∷_ (0, Rows'.any-gone Laws'4.mir) (List._∷_ (1, Mut.mslice Client·T.the-row (Syntax.tyRef (Syntax.named 0) Syntax.mut (Memory·T.pointee (Client·T.the-row .written))) 0) (List._∷_ (2, Mut.mslice (Referent.rtF (Referent.fInt Syntax.w8)) (Syntax.tyRef (Syntax.named 1) Syntax.mut (Syntax.tyInt Syntax.w8)) 1) (List._∷_ (3, Rows'.sc-here (Row.sInt Syntax.w64)) (List._∷_ (4, Rows'.sc-here (Row.sInt Syntax.w64)) (List._∷_ (5, Rows'.any-gone (Syntax.tyArray (Syntax.tyInt Syntax.w8) 4)) (List._∷_ (6, Rows'.any-gone (Syntax.tyArray (Syntax.tyInt Syntax.w8) 4)) (List._∷_ (7, Rows'.sslice (Referent.rtF (Referent.fInt Syntax.w8)) (Syntax.tyRef (Syntax.named 2) Syntax.imm (Syntax.tyInt Syntax.w8)) 2) (List._∷_ (8, Mut.mslice (Referent.rtF (Referent.fInt Syntax.w8)) (Syntax.tyRef (Syntax.named 3) Syntax.mut (Syntax.tyInt Syntax.w8)) 3) (List._∷_ (9, Rows'.any-gone Laws'6.mir) (List._∷_ (10, Rows'.any-gone Laws'3.mir) (List._∷_ (11, Rows'.any-gone Laws'5.mir) (List._∷_ (12, Rows'.any-gone Laws'.mir) (List._∷_ (13, Rows'.any-gone (Syntax.tyInt Syntax.w64)) (List._∷_ (14, Rows'.any-gone (Syntax.tyInt Syntax.w64)) (List._∷_ (15, Rows'.any-gone Laws.mir) List.[])))))))))))))))
 
 abbrev pub t6 : List.List Row.Entry
 t6 = List._∷_ (16, Rows'.whole (Declared.row Received.the-type)) (List._∷_ (17, Rows'.any-gone (Syntax.tyRef Syntax.erased Syntax.mut (Memory·T.pointee (Client·T.the-row .written)))) (List._∷_ (18, Rows'.any-gone (Syntax.tyStruct (List._∷_ 38 (List._∷_ 91 (List._∷_ 93 List.[]))) (Syntax.tcons (Syntax.tyRef Syntax.erased Syntax.mut (Memory·T.pointee (Client·T.the-row .written))) (Syntax.tcons (Syntax.tyInt Syntax.w64) Syntax.tnil)))) (List._∷_ (19, Rows'.any-gone (Syntax.tyRef Syntax.erased Syntax.mut (Syntax.tyInt Syntax.w8))) (List._∷_ (20, Rows'.any-gone (Syntax.tyStruct (List._∷_ 38 (List._∷_ 91 (List._∷_ 93 List.[]))) (Syntax.tcons (Syntax.tyRef Syntax.erased Syntax.mut (Syntax.tyInt Syntax.w8)) (Syntax.tcons (Syntax.tyInt Syntax.w64) Syntax.tnil)))) (List._∷_ (21, Rows'.any-gone Syntax.tyPtr) (List._∷_ (22, Rows'.any-gone (Syntax.tyInt Syntax.w64)) (List._∷_ (23, Rows'.any-gone (Syntax.tyRef Syntax.erased Syntax.imm (Syntax.tyInt Syntax.w8))) (List._∷_ (24, Rows'.any-gone (Syntax.tyStruct (List._∷_ 38 (List._∷_ 91 (List._∷_ 93 List.[]))) (Syntax.tcons (Syntax.tyRef Syntax.erased Syntax.imm (Syntax.tyInt Syntax.w8)) (Syntax.tcons (Syntax.tyInt Syntax.w64) Syntax.tnil)))) (List._∷_ (25, Rows'.any-gone (Syntax.tyRef Syntax.erased Syntax.mut (Syntax.tyInt Syntax.w8))) (List._∷_ (26, Rows'.any-gone (Syntax.tyStruct (List._∷_ 38 (List._∷_ 91 (List._∷_ 93 List.[]))) (Syntax.tcons (Syntax.tyRef Syntax.erased Syntax.mut (Syntax.tyInt Syntax.w8)) (Syntax.tcons (Syntax.tyInt Syntax.w64) Syntax.tnil)))) List.[]))))))))))
 
 abbrev pub t7 : List.List Row.Entry
-t7 = List._∷_ (0, Rows'.any-gone Laws'6.mir) (List._∷_ (1, Mut.mslice Client·T.the-row (Syntax.tyRef (Syntax.named 0) Syntax.mut (Memory·T.pointee (Client·T.the-row .written))) 0) (List._∷_ (2, Mut.mslice (Referent.rtF (Referent.fInt Syntax.w8)) (Syntax.tyRef (Syntax.named 1) Syntax.mut (Syntax.tyInt Syntax.w8)) 1) (List._∷_ (3, Rows'.sc-here (Row.sInt Syntax.w64)) (List._∷_ (4, Rows'.sc-here (Row.sInt Syntax.w64)) (List._∷_ (5, Rows'.any-gone (Syntax.tyArray (Syntax.tyInt Syntax.w8) 4)) (List._∷_ (6, Rows.arrF (Referent.rtF (Referent.fInt Syntax.w8)) 4 0) (List._∷_ (7, Rows'.sslice (Referent.rtF (Referent.fInt Syntax.w8)) (Syntax.tyRef (Syntax.named 2) Syntax.imm (Syntax.tyInt Syntax.w8)) 2) (List._∷_ (8, Mut.mslice (Referent.rtF (Referent.fInt Syntax.w8)) (Syntax.tyRef (Syntax.named 3) Syntax.mut (Syntax.tyInt Syntax.w8)) 3) (List._∷_ (9, Rows'.whole (Declared.row Outcome.the-type)) (List._∷_ (10, Rows'.whole (Declared.row Found.the-type)) (List._∷_ (11, Rows'.any-gone Laws''.mir) (List._∷_ (12, Rows'.any-gone Laws'4.mir) (List._∷_ (13, Rows'.any-gone (Syntax.tyInt Syntax.w64)) (List._∷_ (14, Rows'.any-gone (Syntax.tyInt Syntax.w64)) (List._∷_ (15, Rows'.any-gone Laws'3.mir) List.[])))))))))))))))
+t7 = List._∷_ (0, Rows'.any-gone Laws'4.mir) (List._∷_ (1, Mut.mslice Client·T.the-row (Syntax.tyRef (Syntax.named 0) Syntax.mut (Memory·T.pointee (Client·T.the-row .written))) 0) (List._∷_ (2, Mut.mslice (Referent.rtF (Referent.fInt Syntax.w8)) (Syntax.tyRef (Syntax.named 1) Syntax.mut (Syntax.tyInt Syntax.w8)) 1) (List._∷_ (3, Rows'.sc-here (Row.sInt Syntax.w64)) (List._∷_ (4, Rows'.sc-here (Row.sInt Syntax.w64)) (List._∷_ (5, Rows'.any-gone (Syntax.tyArray (Syntax.tyInt Syntax.w8) 4)) (List._∷_ (6, Rows.arrF (Referent.rtF (Referent.fInt Syntax.w8)) 4 0) (List._∷_ (7, Rows'.sslice (Referent.rtF (Referent.fInt Syntax.w8)) (Syntax.tyRef (Syntax.named 2) Syntax.imm (Syntax.tyInt Syntax.w8)) 2) (List._∷_ (8, Mut.mslice (Referent.rtF (Referent.fInt Syntax.w8)) (Syntax.tyRef (Syntax.named 3) Syntax.mut (Syntax.tyInt Syntax.w8)) 3) (List._∷_ (9, Rows'.whole (Declared.row Outcome.the-type)) (List._∷_ (10, Rows'.whole (Declared.row Found.the-type)) (List._∷_ (11, Rows'.any-gone Laws'5.mir) (List._∷_ (12, Rows'.any-gone Laws'.mir) (List._∷_ (13, Rows'.any-gone (Syntax.tyInt Syntax.w64)) (List._∷_ (14, Rows'.any-gone (Syntax.tyInt Syntax.w64)) (List._∷_ (15, Rows'.any-gone Laws.mir) List.[])))))))))))))))
 
 abbrev pub t8 : List.List Row.Entry
-t8 = List._∷_ (0, Rows'.any-gone Laws'6.mir) (List._∷_ (1, Mut.mslice Client·T.the-row (Syntax.tyRef (Syntax.named 0) Syntax.mut (Memory·T.pointee (Client·T.the-row .written))) 0) (List._∷_ (2, Mut.mslice (Referent.rtF (Referent.fInt Syntax.w8)) (Syntax.tyRef (Syntax.named 1) Syntax.mut (Syntax.tyInt Syntax.w8)) 1) (List._∷_ (3, Rows'.sc-here (Row.sInt Syntax.w64)) (List._∷_ (4, Rows'.sc-here (Row.sInt Syntax.w64)) (List._∷_ (5, Rows'.any-gone (Syntax.tyArray (Syntax.tyInt Syntax.w8) 4)) (List._∷_ (6, Rows'.any-gone (Syntax.tyArray (Syntax.tyInt Syntax.w8) 4)) (List._∷_ (7, Rows'.sslice (Referent.rtF (Referent.fInt Syntax.w8)) (Syntax.tyRef (Syntax.named 2) Syntax.imm (Syntax.tyInt Syntax.w8)) 2) (List._∷_ (8, Mut.mslice (Referent.rtF (Referent.fInt Syntax.w8)) (Syntax.tyRef (Syntax.named 3) Syntax.mut (Syntax.tyInt Syntax.w8)) 3) (List._∷_ (9, Rows'.whole (Declared.row Outcome.the-type)) (List._∷_ (10, Rows'.whole (Declared.row Found.the-type)) (List._∷_ (11, Rows'.any-gone Laws''.mir) (List._∷_ (12, Rows'.any-gone Laws'4.mir) (List._∷_ (13, Rows'.any-gone (Syntax.tyInt Syntax.w64)) (List._∷_ (14, Rows'.any-gone (Syntax.tyInt Syntax.w64)) (List._∷_ (15, Rows'.any-gone Laws'3.mir) List.[])))))))))))))))
+t8 = List._∷_ (0, Rows'.any-gone Laws'4.mir) (List._∷_ (1, Mut.mslice Client·T.the-row (Syntax.tyRef (Syntax.named 0) Syntax.mut (Memory·T.pointee (Client·T.the-row .written))) 0) (List._∷_ (2, Mut.mslice (Referent.rtF (Referent.fInt Syntax.w8)) (Syntax.tyRef (Syntax.named 1) Syntax.mut (Syntax.tyInt Syntax.w8)) 1) (List._∷_ (3, Rows'.sc-here (Row.sInt Syntax.w64)) (List._∷_ (4, Rows'.sc-here (Row.sInt Syntax.w64)) (List._∷_ (5, Rows'.any-gone (Syntax.tyArray (Syntax.tyInt Syntax.w8) 4)) (List._∷_ (6, Rows'.any-gone (Syntax.tyArray (Syntax.tyInt Syntax.w8) 4)) (List._∷_ (7, Rows'.sslice (Referent.rtF (Referent.fInt Syntax.w8)) (Syntax.tyRef (Syntax.named 2) Syntax.imm (Syntax.tyInt Syntax.w8)) 2) (List._∷_ (8, Mut.mslice (Referent.rtF (Referent.fInt Syntax.w8)) (Syntax.tyRef (Syntax.named 3) Syntax.mut (Syntax.tyInt Syntax.w8)) 3) (List._∷_ (9, Rows'.whole (Declared.row Outcome.the-type)) (List._∷_ (10, Rows'.whole (Declared.row Found.the-type)) (List._∷_ (11, Rows'.any-gone Laws'5.mir) (List._∷_ (12, Rows'.any-gone Laws'.mir) (List._∷_ (13, Rows'.any-gone (Syntax.tyInt Syntax.w64)) (List._∷_ (14, Rows'.any-gone (Syntax.tyInt Syntax.w64)) (List._∷_ (15, Rows'.any-gone Laws.mir) List.[])))))))))))))))
 
 abbrev pub t9 : List.List Row.Entry
-t9 = List._∷_ (0, Rows'.any-gone Laws'6.mir) (List._∷_ (1, Mut.mslice Client·T.the-row (Syntax.tyRef (Syntax.named 0) Syntax.mut (Memory·T.pointee (Client·T.the-row .written))) 0) (List._∷_ (2, Mut.mslice (Referent.rtF (Referent.fInt Syntax.w8)) (Syntax.tyRef (Syntax.named 1) Syntax.mut (Syntax.tyInt Syntax.w8)) 1) (List._∷_ (3, Rows'.sc-here (Row.sInt Syntax.w64)) (List._∷_ (4, Rows'.sc-here (Row.sInt Syntax.w64)) (List._∷_ (5, Rows'.any-gone (Syntax.tyArray (Syntax.tyInt Syntax.w8) 4)) (List._∷_ (6, Rows'.any-gone (Syntax.tyArray (Syntax.tyInt Syntax.w8) 4)) (List._∷_ (7, Rows'.sslice (Referent.rtF (Referent.fInt Syntax.w8)) (Syntax.tyRef (Syntax.named 2) Syntax.imm (Syntax.tyInt Syntax.w8)) 2) (List._∷_ (8, Mut.mslice (Referent.rtF (Referent.fInt Syntax.w8)) (Syntax.tyRef (Syntax.named 3) Syntax.mut (Syntax.tyInt Syntax.w8)) 3) (List._∷_ (9, Rows'.whole (Declared.row Outcome.the-type)) (List._∷_ (10, Rows'.any-gone Laws'5.mir) (List._∷_ (11, Rows'.any-gone Laws''.mir) (List._∷_ (12, Rows'.any-gone Laws'4.mir) (List._∷_ (13, Rows'.any-gone (Syntax.tyInt Syntax.w64)) (List._∷_ (14, Rows'.any-gone (Syntax.tyInt Syntax.w64)) (List._∷_ (15, Rows'.any-gone Laws'3.mir) List.[])))))))))))))))
+t9 = List._∷_ (0, Rows'.any-gone Laws'4.mir) (List._∷_ (1, Mut.mslice Client·T.the-row (Syntax.tyRef (Syntax.named 0) Syntax.mut (Memory·T.pointee (Client·T.the-row .written))) 0) (List._∷_ (2, Mut.mslice (Referent.rtF (Referent.fInt Syntax.w8)) (Syntax.tyRef (Syntax.named 1) Syntax.mut (Syntax.tyInt Syntax.w8)) 1) (List._∷_ (3, Rows'.sc-here (Row.sInt Syntax.w64)) (List._∷_ (4, Rows'.sc-here (Row.sInt Syntax.w64)) (List._∷_ (5, Rows'.any-gone (Syntax.tyArray (Syntax.tyInt Syntax.w8) 4)) (List._∷_ (6, Rows'.any-gone (Syntax.tyArray (Syntax.tyInt Syntax.w8) 4)) (List._∷_ (7, Rows'.sslice (Referent.rtF (Referent.fInt Syntax.w8)) (Syntax.tyRef (Syntax.named 2) Syntax.imm (Syntax.tyInt Syntax.w8)) 2) (List._∷_ (8, Mut.mslice (Referent.rtF (Referent.fInt Syntax.w8)) (Syntax.tyRef (Syntax.named 3) Syntax.mut (Syntax.tyInt Syntax.w8)) 3) (List._∷_ (9, Rows'.whole (Declared.row Outcome.the-type)) (List._∷_ (10, Rows'.any-gone Laws'3.mir) (List._∷_ (11, Rows'.any-gone Laws'5.mir) (List._∷_ (12, Rows'.any-gone Laws'.mir) (List._∷_ (13, Rows'.any-gone (Syntax.tyInt Syntax.w64)) (List._∷_ (14, Rows'.any-gone (Syntax.tyInt Syntax.w64)) (List._∷_ (15, Rows'.any-gone Laws.mir) List.[])))))))))))))))
 
 abbrev pub t10 : List.List Row.Entry
-t10 = List._∷_ (0, Rows'.any-gone Laws'6.mir) (List._∷_ (1, Mut.mslice Client·T.the-row (Syntax.tyRef (Syntax.named 0) Syntax.mut (Memory·T.pointee (Client·T.the-row .written))) 0) (List._∷_ (2, Mut.mslice (Referent.rtF (Referent.fInt Syntax.w8)) (Syntax.tyRef (Syntax.named 1) Syntax.mut (Syntax.tyInt Syntax.w8)) 1) (List._∷_ (3, Rows'.sc-here (Row.sInt Syntax.w64)) (List._∷_ (4, Rows'.sc-here (Row.sInt Syntax.w64)) (List._∷_ (5, Rows.arrF (Referent.rtF (Referent.fInt Syntax.w8)) 4 0) (List._∷_ (6, Rows.arrF (Referent.rtF (Referent.fInt Syntax.w8)) 4 0) (List._∷_ (7, Rows'.sslice (Referent.rtF (Referent.fInt Syntax.w8)) (Syntax.tyRef (Syntax.named 2) Syntax.imm (Syntax.tyInt Syntax.w8)) 2) (List._∷_ (8, Mut.mslice (Referent.rtF (Referent.fInt Syntax.w8)) (Syntax.tyRef (Syntax.named 3) Syntax.mut (Syntax.tyInt Syntax.w8)) 3) (List._∷_ (9, Rows'.whole (Declared.row Outcome.the-type)) (List._∷_ (10, Rows'.whole (Known.Known Found.enum 1)) (List._∷_ (11, Rows'.any-gone Laws''.mir) (List._∷_ (12, Rows'.any-gone Laws'4.mir) (List._∷_ (13, Rows'.any-gone (Syntax.tyInt Syntax.w64)) (List._∷_ (14, Rows'.any-gone (Syntax.tyInt Syntax.w64)) (List._∷_ (15, Rows'.any-gone Laws'3.mir) List.[])))))))))))))))
+t10 = List._∷_ (0, Rows'.any-gone Laws'4.mir) (List._∷_ (1, Mut.mslice Client·T.the-row (Syntax.tyRef (Syntax.named 0) Syntax.mut (Memory·T.pointee (Client·T.the-row .written))) 0) (List._∷_ (2, Mut.mslice (Referent.rtF (Referent.fInt Syntax.w8)) (Syntax.tyRef (Syntax.named 1) Syntax.mut (Syntax.tyInt Syntax.w8)) 1) (List._∷_ (3, Rows'.sc-here (Row.sInt Syntax.w64)) (List._∷_ (4, Rows'.sc-here (Row.sInt Syntax.w64)) (List._∷_ (5, Rows.arrF (Referent.rtF (Referent.fInt Syntax.w8)) 4 0) (List._∷_ (6, Rows.arrF (Referent.rtF (Referent.fInt Syntax.w8)) 4 0) (List._∷_ (7, Rows'.sslice (Referent.rtF (Referent.fInt Syntax.w8)) (Syntax.tyRef (Syntax.named 2) Syntax.imm (Syntax.tyInt Syntax.w8)) 2) (List._∷_ (8, Mut.mslice (Referent.rtF (Referent.fInt Syntax.w8)) (Syntax.tyRef (Syntax.named 3) Syntax.mut (Syntax.tyInt Syntax.w8)) 3) (List._∷_ (9, Rows'.whole (Declared.row Outcome.the-type)) (List._∷_ (10, Rows'.whole (Known.Known Found.enum 1)) (List._∷_ (11, Rows'.any-gone Laws'5.mir) (List._∷_ (12, Rows'.any-gone Laws'.mir) (List._∷_ (13, Rows'.any-gone (Syntax.tyInt Syntax.w64)) (List._∷_ (14, Rows'.any-gone (Syntax.tyInt Syntax.w64)) (List._∷_ (15, Rows'.any-gone Laws.mir) List.[])))))))))))))))
 
 abbrev pub t11 : List.List Row.Entry
-t11 = List._∷_ (0, Rows'.any-gone Laws'6.mir) (List._∷_ (1, Mut.mslice Client·T.the-row (Syntax.tyRef (Syntax.named 0) Syntax.mut (Memory·T.pointee (Client·T.the-row .written))) 0) (List._∷_ (2, Mut.mslice (Referent.rtF (Referent.fInt Syntax.w8)) (Syntax.tyRef (Syntax.named 1) Syntax.mut (Syntax.tyInt Syntax.w8)) 1) (List._∷_ (3, Rows'.sc-here (Row.sInt Syntax.w64)) (List._∷_ (4, Rows'.sc-here (Row.sInt Syntax.w64)) (List._∷_ (5, Rows.arrF (Referent.rtF (Referent.fInt Syntax.w8)) 4 0) (List._∷_ (6, Rows.arrF (Referent.rtF (Referent.fInt Syntax.w8)) 4 0) (List._∷_ (7, Rows'.sslice (Referent.rtF (Referent.fInt Syntax.w8)) (Syntax.tyRef (Syntax.named 2) Syntax.imm (Syntax.tyInt Syntax.w8)) 2) (List._∷_ (8, Mut.mslice (Referent.rtF (Referent.fInt Syntax.w8)) (Syntax.tyRef (Syntax.named 3) Syntax.mut (Syntax.tyInt Syntax.w8)) 3) (List._∷_ (9, Rows'.any-gone Laws.mir) (List._∷_ (10, Rows'.whole (Known.Known Found.enum 1)) (List._∷_ (11, Rows'.any-gone Laws''.mir) (List._∷_ (12, Rows'.any-gone Laws'4.mir) (List._∷_ (13, Rows'.any-gone (Syntax.tyInt Syntax.w64)) (List._∷_ (14, Rows'.any-gone (Syntax.tyInt Syntax.w64)) (List._∷_ (15, Rows'.any-gone Laws'3.mir) List.[])))))))))))))))
+t11 = List._∷_ (0, Rows'.any-gone Laws'4.mir) (List._∷_ (1, Mut.mslice Client·T.the-row (Syntax.tyRef (Syntax.named 0) Syntax.mut (Memory·T.pointee (Client·T.the-row .written))) 0) (List._∷_ (2, Mut.mslice (Referent.rtF (Referent.fInt Syntax.w8)) (Syntax.tyRef (Syntax.named 1) Syntax.mut (Syntax.tyInt Syntax.w8)) 1) (List._∷_ (3, Rows'.sc-here (Row.sInt Syntax.w64)) (List._∷_ (4, Rows'.sc-here (Row.sInt Syntax.w64)) (List._∷_ (5, Rows.arrF (Referent.rtF (Referent.fInt Syntax.w8)) 4 0) (List._∷_ (6, Rows.arrF (Referent.rtF (Referent.fInt Syntax.w8)) 4 0) (List._∷_ (7, Rows'.sslice (Referent.rtF (Referent.fInt Syntax.w8)) (Syntax.tyRef (Syntax.named 2) Syntax.imm (Syntax.tyInt Syntax.w8)) 2) (List._∷_ (8, Mut.mslice (Referent.rtF (Referent.fInt Syntax.w8)) (Syntax.tyRef (Syntax.named 3) Syntax.mut (Syntax.tyInt Syntax.w8)) 3) (List._∷_ (9, Rows'.any-gone Laws'6.mir) (List._∷_ (10, Rows'.whole (Known.Known Found.enum 1)) (List._∷_ (11, Rows'.any-gone Laws'5.mir) (List._∷_ (12, Rows'.any-gone Laws'.mir) (List._∷_ (13, Rows'.any-gone (Syntax.tyInt Syntax.w64)) (List._∷_ (14, Rows'.any-gone (Syntax.tyInt Syntax.w64)) (List._∷_ (15, Rows'.any-gone Laws.mir) List.[])))))))))))))))
 
 abbrev pub t12 : List.List Row.Entry
-t12 = List._∷_ (0, Rows'.any-gone Laws'6.mir) (List._∷_ (1, Mut.mslice Client·T.the-row (Syntax.tyRef (Syntax.named 0) Syntax.mut (Memory·T.pointee (Client·T.the-row .written))) 0) (List._∷_ (2, Mut.mslice (Referent.rtF (Referent.fInt Syntax.w8)) (Syntax.tyRef (Syntax.named 1) Syntax.mut (Syntax.tyInt Syntax.w8)) 1) (List._∷_ (3, Rows'.sc-here (Row.sInt Syntax.w64)) (List._∷_ (4, Rows'.sc-here (Row.sInt Syntax.w64)) (List._∷_ (5, Rows.arrF (Referent.rtF (Referent.fInt Syntax.w8)) 4 0) (List._∷_ (6, Rows.arrF (Referent.rtF (Referent.fInt Syntax.w8)) 4 0) (List._∷_ (7, Rows'.sslice (Referent.rtF (Referent.fInt Syntax.w8)) (Syntax.tyRef (Syntax.named 2) Syntax.imm (Syntax.tyInt Syntax.w8)) 2) (List._∷_ (8, Mut.mslice (Referent.rtF (Referent.fInt Syntax.w8)) (Syntax.tyRef (Syntax.named 3) Syntax.mut (Syntax.tyInt Syntax.w8)) 3) (List._∷_ (9, Rows'.any-gone Laws.mir) (List._∷_ (10, Rows'.whole (Known.Known Found.enum 1)) (List._∷_ (11, Rows'.whole (Declared'.row Fragment.the-type)) (List._∷_ (12, Rows'.any-gone Laws'4.mir) (List._∷_ (13, Rows'.any-gone (Syntax.tyInt Syntax.w64)) (List._∷_ (14, Rows'.any-gone (Syntax.tyInt Syntax.w64)) (List._∷_ (15, Rows'.any-gone Laws'3.mir) List.[])))))))))))))))
+t12 = List._∷_ (0, Rows'.any-gone Laws'4.mir) (List._∷_ (1, Mut.mslice Client·T.the-row (Syntax.tyRef (Syntax.named 0) Syntax.mut (Memory·T.pointee (Client·T.the-row .written))) 0) (List._∷_ (2, Mut.mslice (Referent.rtF (Referent.fInt Syntax.w8)) (Syntax.tyRef (Syntax.named 1) Syntax.mut (Syntax.tyInt Syntax.w8)) 1) (List._∷_ (3, Rows'.sc-here (Row.sInt Syntax.w64)) (List._∷_ (4, Rows'.sc-here (Row.sInt Syntax.w64)) (List._∷_ (5, Rows.arrF (Referent.rtF (Referent.fInt Syntax.w8)) 4 0) (List._∷_ (6, Rows.arrF (Referent.rtF (Referent.fInt Syntax.w8)) 4 0) (List._∷_ (7, Rows'.sslice (Referent.rtF (Referent.fInt Syntax.w8)) (Syntax.tyRef (Syntax.named 2) Syntax.imm (Syntax.tyInt Syntax.w8)) 2) (List._∷_ (8, Mut.mslice (Referent.rtF (Referent.fInt Syntax.w8)) (Syntax.tyRef (Syntax.named 3) Syntax.mut (Syntax.tyInt Syntax.w8)) 3) (List._∷_ (9, Rows'.any-gone Laws'6.mir) (List._∷_ (10, Rows'.whole (Known.Known Found.enum 1)) (List._∷_ (11, Rows'.whole (Declared'.row Fragment.the-type)) (List._∷_ (12, Rows'.any-gone Laws'.mir) (List._∷_ (13, Rows'.any-gone (Syntax.tyInt Syntax.w64)) (List._∷_ (14, Rows'.any-gone (Syntax.tyInt Syntax.w64)) (List._∷_ (15, Rows'.any-gone Laws.mir) List.[])))))))))))))))
 
 abbrev pub t13 : List.List Row.Entry
-t13 = List._∷_ (0, Rows'.any-gone Laws'6.mir) (List._∷_ (1, Mut.mslice Client·T.the-row (Syntax.tyRef (Syntax.named 0) Syntax.mut (Memory·T.pointee (Client·T.the-row .written))) 0) (List._∷_ (2, Mut.mslice (Referent.rtF (Referent.fInt Syntax.w8)) (Syntax.tyRef (Syntax.named 1) Syntax.mut (Syntax.tyInt Syntax.w8)) 1) (List._∷_ (3, Rows'.sc-here (Row.sInt Syntax.w64)) (List._∷_ (4, Rows'.sc-here (Row.sInt Syntax.w64)) (List._∷_ (5, Rows.arrF (Referent.rtF (Referent.fInt Syntax.w8)) 4 0) (List._∷_ (6, Rows.arrF (Referent.rtF (Referent.fInt Syntax.w8)) 4 0) (List._∷_ (7, Rows'.sslice (Referent.rtF (Referent.fInt Syntax.w8)) (Syntax.tyRef (Syntax.named 2) Syntax.imm (Syntax.tyInt Syntax.w8)) 2) (List._∷_ (8, Mut.mslice (Referent.rtF (Referent.fInt Syntax.w8)) (Syntax.tyRef (Syntax.named 3) Syntax.mut (Syntax.tyInt Syntax.w8)) 3) (List._∷_ (9, Rows'.any-gone Laws.mir) (List._∷_ (10, Rows'.any-gone Laws'5.mir) (List._∷_ (11, Rows'.whole (Declared'.row Fragment.the-type)) (List._∷_ (12, Rows'.any-gone Laws'4.mir) (List._∷_ (13, Rows'.any-gone (Syntax.tyInt Syntax.w64)) (List._∷_ (14, Rows'.any-gone (Syntax.tyInt Syntax.w64)) (List._∷_ (15, Rows'.any-gone Laws'3.mir) List.[])))))))))))))))
+t13 = List._∷_ (0, Rows'.any-gone Laws'4.mir) (List._∷_ (1, Mut.mslice Client·T.the-row (Syntax.tyRef (Syntax.named 0) Syntax.mut (Memory·T.pointee (Client·T.the-row .written))) 0) (List._∷_ (2, Mut.mslice (Referent.rtF (Referent.fInt Syntax.w8)) (Syntax.tyRef (Syntax.named 1) Syntax.mut (Syntax.tyInt Syntax.w8)) 1) (List._∷_ (3, Rows'.sc-here (Row.sInt Syntax.w64)) (List._∷_ (4, Rows'.sc-here (Row.sInt Syntax.w64)) (List._∷_ (5, Rows.arrF (Referent.rtF (Referent.fInt Syntax.w8)) 4 0) (List._∷_ (6, Rows.arrF (Referent.rtF (Referent.fInt Syntax.w8)) 4 0) (List._∷_ (7, Rows'.sslice (Referent.rtF (Referent.fInt Syntax.w8)) (Syntax.tyRef (Syntax.named 2) Syntax.imm (Syntax.tyInt Syntax.w8)) 2) (List._∷_ (8, Mut.mslice (Referent.rtF (Referent.fInt Syntax.w8)) (Syntax.tyRef (Syntax.named 3) Syntax.mut (Syntax.tyInt Syntax.w8)) 3) (List._∷_ (9, Rows'.any-gone Laws'6.mir) (List._∷_ (10, Rows'.any-gone Laws'3.mir) (List._∷_ (11, Rows'.whole (Declared'.row Fragment.the-type)) (List._∷_ (12, Rows'.any-gone Laws'.mir) (List._∷_ (13, Rows'.any-gone (Syntax.tyInt Syntax.w64)) (List._∷_ (14, Rows'.any-gone (Syntax.tyInt Syntax.w64)) (List._∷_ (15, Rows'.any-gone Laws.mir) List.[])))))))))))))))
 
 abbrev pub t14 : List.List Row.Entry
-t14 = List._∷_ (0, Rows'.any-gone Laws'6.mir) (List._∷_ (1, Mut.mslice Client·T.the-row (Syntax.tyRef (Syntax.named 0) Syntax.mut (Memory·T.pointee (Client·T.the-row .written))) 0) (List._∷_ (2, Mut.mslice (Referent.rtF (Referent.fInt Syntax.w8)) (Syntax.tyRef (Syntax.named 1) Syntax.mut (Syntax.tyInt Syntax.w8)) 1) (List._∷_ (3, Rows'.sc-here (Row.sInt Syntax.w64)) (List._∷_ (4, Rows'.sc-here (Row.sInt Syntax.w64)) (List._∷_ (5, Rows.arrF (Referent.rtF (Referent.fInt Syntax.w8)) 4 0) (List._∷_ (6, Rows.arrF (Referent.rtF (Referent.fInt Syntax.w8)) 4 0) (List._∷_ (7, Rows'.sslice (Referent.rtF (Referent.fInt Syntax.w8)) (Syntax.tyRef (Syntax.named 2) Syntax.imm (Syntax.tyInt Syntax.w8)) 2) (List._∷_ (8, Mut.mslice (Referent.rtF (Referent.fInt Syntax.w8)) (Syntax.tyRef (Syntax.named 3) Syntax.mut (Syntax.tyInt Syntax.w8)) 3) (List._∷_ (9, Rows'.any-gone Laws.mir) (List._∷_ (10, Rows'.any-gone Laws'5.mir) (List._∷_ (11, Rows'.whole (Declared'.row Fragment.the-type)) (List._∷_ (12, Rows'.whole (Declared'.row Arrival.the-type)) (List._∷_ (13, Rows'.any-gone (Syntax.tyInt Syntax.w64)) (List._∷_ (14, Rows'.any-gone (Syntax.tyInt Syntax.w64)) (List._∷_ (15, Rows'.any-gone Laws'3.mir) List.[])))))))))))))))
+t14 = List._∷_ (0, Rows'.any-gone Laws'4.mir) (List._∷_ (1, Mut.mslice Client·T.the-row (Syntax.tyRef (Syntax.named 0) Syntax.mut (Memory·T.pointee (Client·T.the-row .written))) 0) (List._∷_ (2, Mut.mslice (Referent.rtF (Referent.fInt Syntax.w8)) (Syntax.tyRef (Syntax.named 1) Syntax.mut (Syntax.tyInt Syntax.w8)) 1) (List._∷_ (3, Rows'.sc-here (Row.sInt Syntax.w64)) (List._∷_ (4, Rows'.sc-here (Row.sInt Syntax.w64)) (List._∷_ (5, Rows.arrF (Referent.rtF (Referent.fInt Syntax.w8)) 4 0) (List._∷_ (6, Rows.arrF (Referent.rtF (Referent.fInt Syntax.w8)) 4 0) (List._∷_ (7, Rows'.sslice (Referent.rtF (Referent.fInt Syntax.w8)) (Syntax.tyRef (Syntax.named 2) Syntax.imm (Syntax.tyInt Syntax.w8)) 2) (List._∷_ (8, Mut.mslice (Referent.rtF (Referent.fInt Syntax.w8)) (Syntax.tyRef (Syntax.named 3) Syntax.mut (Syntax.tyInt Syntax.w8)) 3) (List._∷_ (9, Rows'.any-gone Laws'6.mir) (List._∷_ (10, Rows'.any-gone Laws'3.mir) (List._∷_ (11, Rows'.whole (Declared'.row Fragment.the-type)) (List._∷_ (12, Rows'.whole (Declared'.row Arrival.the-type)) (List._∷_ (13, Rows'.any-gone (Syntax.tyInt Syntax.w64)) (List._∷_ (14, Rows'.any-gone (Syntax.tyInt Syntax.w64)) (List._∷_ (15, Rows'.any-gone Laws.mir) List.[])))))))))))))))
 
 abbrev pub t15 : List.List Row.Entry
-t15 = List._∷_ (0, Rows'.any-gone Laws'6.mir) (List._∷_ (1, Mut.mslice Client·T.the-row (Syntax.tyRef (Syntax.named 0) Syntax.mut (Memory·T.pointee (Client·T.the-row .written))) 0) (List._∷_ (2, Mut.mslice (Referent.rtF (Referent.fInt Syntax.w8)) (Syntax.tyRef (Syntax.named 1) Syntax.mut (Syntax.tyInt Syntax.w8)) 1) (List._∷_ (3, Rows'.sc-here (Row.sInt Syntax.w64)) (List._∷_ (4, Rows'.sc-here (Row.sInt Syntax.w64)) (List._∷_ (5, Rows'.any-gone (Syntax.tyArray (Syntax.tyInt Syntax.w8) 4)) (List._∷_ (6, Rows.arrF (Referent.rtF (Referent.fInt Syntax.w8)) 4 0) (List._∷_ (7, Rows'.sslice (Referent.rtF (Referent.fInt Syntax.w8)) (Syntax.tyRef (Syntax.named 2) Syntax.imm (Syntax.tyInt Syntax.w8)) 2) (List._∷_ (8, Mut.mslice (Referent.rtF (Referent.fInt Syntax.w8)) (Syntax.tyRef (Syntax.named 3) Syntax.mut (Syntax.tyInt Syntax.w8)) 3) (List._∷_ (9, Rows'.any-gone Laws.mir) (List._∷_ (10, Rows'.any-gone Laws'5.mir) (List._∷_ (11, Rows'.whole (Declared'.row Fragment.the-type)) (List._∷_ (12, Rows'.whole (Declared'.row Arrival.the-type)) (List._∷_ (13, Rows'.any-gone (Syntax.tyInt Syntax.w64)) (List._∷_ (14, Rows'.any-gone (Syntax.tyInt Syntax.w64)) (List._∷_ (15, Rows'.any-gone Laws'3.mir) List.[])))))))))))))))
+t15 = List._∷_ (0, Rows'.any-gone Laws'4.mir) (List._∷_ (1, Mut.mslice Client·T.the-row (Syntax.tyRef (Syntax.named 0) Syntax.mut (Memory·T.pointee (Client·T.the-row .written))) 0) (List._∷_ (2, Mut.mslice (Referent.rtF (Referent.fInt Syntax.w8)) (Syntax.tyRef (Syntax.named 1) Syntax.mut (Syntax.tyInt Syntax.w8)) 1) (List._∷_ (3, Rows'.sc-here (Row.sInt Syntax.w64)) (List._∷_ (4, Rows'.sc-here (Row.sInt Syntax.w64)) (List._∷_ (5, Rows'.any-gone (Syntax.tyArray (Syntax.tyInt Syntax.w8) 4)) (List._∷_ (6, Rows.arrF (Referent.rtF (Referent.fInt Syntax.w8)) 4 0) (List._∷_ (7, Rows'.sslice (Referent.rtF (Referent.fInt Syntax.w8)) (Syntax.tyRef (Syntax.named 2) Syntax.imm (Syntax.tyInt Syntax.w8)) 2) (List._∷_ (8, Mut.mslice (Referent.rtF (Referent.fInt Syntax.w8)) (Syntax.tyRef (Syntax.named 3) Syntax.mut (Syntax.tyInt Syntax.w8)) 3) (List._∷_ (9, Rows'.any-gone Laws'6.mir) (List._∷_ (10, Rows'.any-gone Laws'3.mir) (List._∷_ (11, Rows'.whole (Declared'.row Fragment.the-type)) (List._∷_ (12, Rows'.whole (Declared'.row Arrival.the-type)) (List._∷_ (13, Rows'.any-gone (Syntax.tyInt Syntax.w64)) (List._∷_ (14, Rows'.any-gone (Syntax.tyInt Syntax.w64)) (List._∷_ (15, Rows'.any-gone Laws.mir) List.[])))))))))))))))
 
 abbrev pub t16 : List.List Row.Entry
-t16 = List._∷_ (0, Rows'.any-gone Laws'6.mir) (List._∷_ (1, Mut.mslice Client·T.the-row (Syntax.tyRef (Syntax.named 0) Syntax.mut (Memory·T.pointee (Client·T.the-row .written))) 0) (List._∷_ (2, Mut.mslice (Referent.rtF (Referent.fInt Syntax.w8)) (Syntax.tyRef (Syntax.named 1) Syntax.mut (Syntax.tyInt Syntax.w8)) 1) (List._∷_ (3, Rows'.sc-here (Row.sInt Syntax.w64)) (List._∷_ (4, Rows'.sc-here (Row.sInt Syntax.w64)) (List._∷_ (5, Rows'.any-gone (Syntax.tyArray (Syntax.tyInt Syntax.w8) 4)) (List._∷_ (6, Rows'.any-gone (Syntax.tyArray (Syntax.tyInt Syntax.w8) 4)) (List._∷_ (7, Rows'.sslice (Referent.rtF (Referent.fInt Syntax.w8)) (Syntax.tyRef (Syntax.named 2) Syntax.imm (Syntax.tyInt Syntax.w8)) 2) (List._∷_ (8, Mut.mslice (Referent.rtF (Referent.fInt Syntax.w8)) (Syntax.tyRef (Syntax.named 3) Syntax.mut (Syntax.tyInt Syntax.w8)) 3) (List._∷_ (9, Rows'.any-gone Laws.mir) (List._∷_ (10, Rows'.any-gone Laws'5.mir) (List._∷_ (11, Rows'.whole (Declared'.row Fragment.the-type)) (List._∷_ (12, Rows'.whole (Declared'.row Arrival.the-type)) (List._∷_ (13, Rows'.any-gone (Syntax.tyInt Syntax.w64)) (List._∷_ (14, Rows'.any-gone (Syntax.tyInt Syntax.w64)) (List._∷_ (15, Rows'.any-gone Laws'3.mir) List.[])))))))))))))))
+t16 = List._∷_ (0, Rows'.any-gone Laws'4.mir) (List._∷_ (1, Mut.mslice Client·T.the-row (Syntax.tyRef (Syntax.named 0) Syntax.mut (Memory·T.pointee (Client·T.the-row .written))) 0) (List._∷_ (2, Mut.mslice (Referent.rtF (Referent.fInt Syntax.w8)) (Syntax.tyRef (Syntax.named 1) Syntax.mut (Syntax.tyInt Syntax.w8)) 1) (List._∷_ (3, Rows'.sc-here (Row.sInt Syntax.w64)) (List._∷_ (4, Rows'.sc-here (Row.sInt Syntax.w64)) (List._∷_ (5, Rows'.any-gone (Syntax.tyArray (Syntax.tyInt Syntax.w8) 4)) (List._∷_ (6, Rows'.any-gone (Syntax.tyArray (Syntax.tyInt Syntax.w8) 4)) (List._∷_ (7, Rows'.sslice (Referent.rtF (Referent.fInt Syntax.w8)) (Syntax.tyRef (Syntax.named 2) Syntax.imm (Syntax.tyInt Syntax.w8)) 2) (List._∷_ (8, Mut.mslice (Referent.rtF (Referent.fInt Syntax.w8)) (Syntax.tyRef (Syntax.named 3) Syntax.mut (Syntax.tyInt Syntax.w8)) 3) (List._∷_ (9, Rows'.any-gone Laws'6.mir) (List._∷_ (10, Rows'.any-gone Laws'3.mir) (List._∷_ (11, Rows'.whole (Declared'.row Fragment.the-type)) (List._∷_ (12, Rows'.whole (Declared'.row Arrival.the-type)) (List._∷_ (13, Rows'.any-gone (Syntax.tyInt Syntax.w64)) (List._∷_ (14, Rows'.any-gone (Syntax.tyInt Syntax.w64)) (List._∷_ (15, Rows'.any-gone Laws.mir) List.[])))))))))))))))
 
 abbrev pub t17 : List.List Row.Entry
-t17 = List._∷_ (0, Rows'.any-gone Laws'6.mir) (List._∷_ (1, Mut.mslice Client·T.the-row (Syntax.tyRef (Syntax.named 0) Syntax.mut (Memory·T.pointee (Client·T.the-row .written))) 0) (List._∷_ (2, Mut.mslice (Referent.rtF (Referent.fInt Syntax.w8)) (Syntax.tyRef (Syntax.named 1) Syntax.mut (Syntax.tyInt Syntax.w8)) 1) (List._∷_ (3, Rows'.sc-here (Row.sInt Syntax.w64)) (List._∷_ (4, Rows'.sc-here (Row.sInt Syntax.w64)) (List._∷_ (5, Rows'.any-gone (Syntax.tyArray (Syntax.tyInt Syntax.w8) 4)) (List._∷_ (6, Rows'.any-gone (Syntax.tyArray (Syntax.tyInt Syntax.w8) 4)) (List._∷_ (7, Rows'.sslice (Referent.rtF (Referent.fInt Syntax.w8)) (Syntax.tyRef (Syntax.named 2) Syntax.imm (Syntax.tyInt Syntax.w8)) 2) (List._∷_ (8, Mut.mslice (Referent.rtF (Referent.fInt Syntax.w8)) (Syntax.tyRef (Syntax.named 3) Syntax.mut (Syntax.tyInt Syntax.w8)) 3) (List._∷_ (9, Rows'.any-gone Laws.mir) (List._∷_ (10, Rows'.any-gone Laws'5.mir) (List._∷_ (11, Rows'.whole (Declared'.row Fragment.the-type)) (List._∷_ (12, Rows'.whole (Declared'.row Arrival.the-type)) (List._∷_ (13, Rows'.sc-here (Row.sInt Syntax.w64)) (List._∷_ (14, Rows'.any-gone (Syntax.tyInt Syntax.w64)) (List._∷_ (15, Rows'.any-gone Laws'3.mir) List.[])))))))))))))))
+t17 = List._∷_ (0, Rows'.any-gone Laws'4.mir) (List._∷_ (1, Mut.mslice Client·T.the-row (Syntax.tyRef (Syntax.named 0) Syntax.mut (Memory·T.pointee (Client·T.the-row .written))) 0) (List._∷_ (2, Mut.mslice (Referent.rtF (Referent.fInt Syntax.w8)) (Syntax.tyRef (Syntax.named 1) Syntax.mut (Syntax.tyInt Syntax.w8)) 1) (List._∷_ (3, Rows'.sc-here (Row.sInt Syntax.w64)) (List._∷_ (4, Rows'.sc-here (Row.sInt Syntax.w64)) (List._∷_ (5, Rows'.any-gone (Syntax.tyArray (Syntax.tyInt Syntax.w8) 4)) (List._∷_ (6, Rows'.any-gone (Syntax.tyArray (Syntax.tyInt Syntax.w8) 4)) (List._∷_ (7, Rows'.sslice (Referent.rtF (Referent.fInt Syntax.w8)) (Syntax.tyRef (Syntax.named 2) Syntax.imm (Syntax.tyInt Syntax.w8)) 2) (List._∷_ (8, Mut.mslice (Referent.rtF (Referent.fInt Syntax.w8)) (Syntax.tyRef (Syntax.named 3) Syntax.mut (Syntax.tyInt Syntax.w8)) 3) (List._∷_ (9, Rows'.any-gone Laws'6.mir) (List._∷_ (10, Rows'.any-gone Laws'3.mir) (List._∷_ (11, Rows'.whole (Declared'.row Fragment.the-type)) (List._∷_ (12, Rows'.whole (Declared'.row Arrival.the-type)) (List._∷_ (13, Rows'.sc-here (Row.sInt Syntax.w64)) (List._∷_ (14, Rows'.any-gone (Syntax.tyInt Syntax.w64)) (List._∷_ (15, Rows'.any-gone Laws.mir) List.[])))))))))))))))
 
 abbrev pub t18 : List.List Row.Entry
-t18 = List._∷_ (0, Rows'.any-gone Laws'6.mir) (List._∷_ (1, Mut.mslice Client·T.the-row (Syntax.tyRef (Syntax.named 0) Syntax.mut (Memory·T.pointee (Client·T.the-row .written))) 0) (List._∷_ (2, Mut.mslice (Referent.rtF (Referent.fInt Syntax.w8)) (Syntax.tyRef (Syntax.named 1) Syntax.mut (Syntax.tyInt Syntax.w8)) 1) (List._∷_ (3, Rows'.sc-here (Row.sInt Syntax.w64)) (List._∷_ (4, Rows'.sc-here (Row.sInt Syntax.w64)) (List._∷_ (5, Rows'.any-gone (Syntax.tyArray (Syntax.tyInt Syntax.w8) 4)) (List._∷_ (6, Rows'.any-gone (Syntax.tyArray (Syntax.tyInt Syntax.w8) 4)) (List._∷_ (7, Rows'.sslice (Referent.rtF (Referent.fInt Syntax.w8)) (Syntax.tyRef (Syntax.named 2) Syntax.imm (Syntax.tyInt Syntax.w8)) 2) (List._∷_ (8, Mut.mslice (Referent.rtF (Referent.fInt Syntax.w8)) (Syntax.tyRef (Syntax.named 3) Syntax.mut (Syntax.tyInt Syntax.w8)) 3) (List._∷_ (9, Rows'.any-gone Laws.mir) (List._∷_ (10, Rows'.any-gone Laws'5.mir) (List._∷_ (11, Rows'.whole (Declared'.row Fragment.the-type)) (List._∷_ (12, Rows'.whole (Declared'.row Arrival.the-type)) (List._∷_ (13, Rows'.sc-here (Row.sInt Syntax.w64)) (List._∷_ (14, Rows'.sc-here (Row.sInt Syntax.w64)) (List._∷_ (15, Rows'.any-gone Laws'3.mir) List.[])))))))))))))))
+t18 = List._∷_ (0, Rows'.any-gone Laws'4.mir) (List._∷_ (1, Mut.mslice Client·T.the-row (Syntax.tyRef (Syntax.named 0) Syntax.mut (Memory·T.pointee (Client·T.the-row .written))) 0) (List._∷_ (2, Mut.mslice (Referent.rtF (Referent.fInt Syntax.w8)) (Syntax.tyRef (Syntax.named 1) Syntax.mut (Syntax.tyInt Syntax.w8)) 1) (List._∷_ (3, Rows'.sc-here (Row.sInt Syntax.w64)) (List._∷_ (4, Rows'.sc-here (Row.sInt Syntax.w64)) (List._∷_ (5, Rows'.any-gone (Syntax.tyArray (Syntax.tyInt Syntax.w8) 4)) (List._∷_ (6, Rows'.any-gone (Syntax.tyArray (Syntax.tyInt Syntax.w8) 4)) (List._∷_ (7, Rows'.sslice (Referent.rtF (Referent.fInt Syntax.w8)) (Syntax.tyRef (Syntax.named 2) Syntax.imm (Syntax.tyInt Syntax.w8)) 2) (List._∷_ (8, Mut.mslice (Referent.rtF (Referent.fInt Syntax.w8)) (Syntax.tyRef (Syntax.named 3) Syntax.mut (Syntax.tyInt Syntax.w8)) 3) (List._∷_ (9, Rows'.any-gone Laws'6.mir) (List._∷_ (10, Rows'.any-gone Laws'3.mir) (List._∷_ (11, Rows'.whole (Declared'.row Fragment.the-type)) (List._∷_ (12, Rows'.whole (Declared'.row Arrival.the-type)) (List._∷_ (13, Rows'.sc-here (Row.sInt Syntax.w64)) (List._∷_ (14, Rows'.sc-here (Row.sInt Syntax.w64)) (List._∷_ (15, Rows'.any-gone Laws.mir) List.[])))))))))))))))
 
 abbrev pub t19 : List.List Row.Entry
-t19 = List._∷_ (0, Rows'.any-gone Laws'6.mir) (List._∷_ (1, Mut.mslice Client·T.the-row (Syntax.tyRef (Syntax.named 0) Syntax.mut (Memory·T.pointee (Client·T.the-row .written))) 0) (List._∷_ (2, Mut.mslice (Referent.rtF (Referent.fInt Syntax.w8)) (Syntax.tyRef (Syntax.named 1) Syntax.mut (Syntax.tyInt Syntax.w8)) 1) (List._∷_ (3, Rows'.sc-here (Row.sInt Syntax.w64)) (List._∷_ (4, Rows'.sc-here (Row.sInt Syntax.w64)) (List._∷_ (5, Rows'.any-gone (Syntax.tyArray (Syntax.tyInt Syntax.w8) 4)) (List._∷_ (6, Rows'.any-gone (Syntax.tyArray (Syntax.tyInt Syntax.w8) 4)) (List._∷_ (7, Rows'.sslice (Referent.rtF (Referent.fInt Syntax.w8)) (Syntax.tyRef (Syntax.named 2) Syntax.imm (Syntax.tyInt Syntax.w8)) 2) (List._∷_ (8, Mut.mslice (Referent.rtF (Referent.fInt Syntax.w8)) (Syntax.tyRef (Syntax.named 3) Syntax.mut (Syntax.tyInt Syntax.w8)) 3) (List._∷_ (9, Rows'.any-gone Laws.mir) (List._∷_ (10, Rows'.any-gone Laws'5.mir) (List._∷_ (11, Rows'.any-gone Laws''.mir) (List._∷_ (12, Rows'.whole (Declared'.row Arrival.the-type)) (List._∷_ (13, Rows'.sc-here (Row.sInt Syntax.w64)) (List._∷_ (14, Rows'.sc-here (Row.sInt Syntax.w64)) (List._∷_ (15, Rows'.any-gone Laws'3.mir) List.[])))))))))))))))
+t19 = List._∷_ (0, Rows'.any-gone Laws'4.mir) (List._∷_ (1, Mut.mslice Client·T.the-row (Syntax.tyRef (Syntax.named 0) Syntax.mut (Memory·T.pointee (Client·T.the-row .written))) 0) (List._∷_ (2, Mut.mslice (Referent.rtF (Referent.fInt Syntax.w8)) (Syntax.tyRef (Syntax.named 1) Syntax.mut (Syntax.tyInt Syntax.w8)) 1) (List._∷_ (3, Rows'.sc-here (Row.sInt Syntax.w64)) (List._∷_ (4, Rows'.sc-here (Row.sInt Syntax.w64)) (List._∷_ (5, Rows'.any-gone (Syntax.tyArray (Syntax.tyInt Syntax.w8) 4)) (List._∷_ (6, Rows'.any-gone (Syntax.tyArray (Syntax.tyInt Syntax.w8) 4)) (List._∷_ (7, Rows'.sslice (Referent.rtF (Referent.fInt Syntax.w8)) (Syntax.tyRef (Syntax.named 2) Syntax.imm (Syntax.tyInt Syntax.w8)) 2) (List._∷_ (8, Mut.mslice (Referent.rtF (Referent.fInt Syntax.w8)) (Syntax.tyRef (Syntax.named 3) Syntax.mut (Syntax.tyInt Syntax.w8)) 3) (List._∷_ (9, Rows'.any-gone Laws'6.mir) (List._∷_ (10, Rows'.any-gone Laws'3.mir) (List._∷_ (11, Rows'.any-gone Laws'5.mir) (List._∷_ (12, Rows'.whole (Declared'.row Arrival.the-type)) (List._∷_ (13, Rows'.sc-here (Row.sInt Syntax.w64)) (List._∷_ (14, Rows'.sc-here (Row.sInt Syntax.w64)) (List._∷_ (15, Rows'.any-gone Laws.mir) List.[])))))))))))))))
 
 abbrev pub t20 : List.List Row.Entry
-t20 = List._∷_ (0, Rows'.any-gone Laws'6.mir) (List._∷_ (1, Relend.mslice-owed Client·T.the-row (Syntax.tyRef (Syntax.named 0) Syntax.mut (Memory·T.pointee (Client·T.the-row .written))) 0 4 Row.off) (List._∷_ (2, Mut.mslice (Referent.rtF (Referent.fInt Syntax.w8)) (Syntax.tyRef (Syntax.named 1) Syntax.mut (Syntax.tyInt Syntax.w8)) 1) (List._∷_ (3, Rows'.sc-here (Row.sInt Syntax.w64)) (List._∷_ (4, Rows'.sc-here (Row.sInt Syntax.w64)) (List._∷_ (5, Rows'.any-gone (Syntax.tyArray (Syntax.tyInt Syntax.w8) 4)) (List._∷_ (6, Rows'.any-gone (Syntax.tyArray (Syntax.tyInt Syntax.w8) 4)) (List._∷_ (7, Rows'.sslice (Referent.rtF (Referent.fInt Syntax.w8)) (Syntax.tyRef (Syntax.named 2) Syntax.imm (Syntax.tyInt Syntax.w8)) 2) (List._∷_ (8, Mut.mslice (Referent.rtF (Referent.fInt Syntax.w8)) (Syntax.tyRef (Syntax.named 3) Syntax.mut (Syntax.tyInt Syntax.w8)) 3) (List._∷_ (9, Rows'.any-gone Laws.mir) (List._∷_ (10, Rows'.any-gone Laws'5.mir) (List._∷_ (11, Rows'.any-gone Laws''.mir) (List._∷_ (12, Rows'.whole (Declared'.row Arrival.the-type)) (List._∷_ (13, Rows'.sc-here (Row.sInt Syntax.w64)) (List._∷_ (14, Rows'.sc-here (Row.sInt Syntax.w64)) (List._∷_ (15, Rows'.any-gone Laws'3.mir) List.[])))))))))))))))
+t20 = List._∷_ (0, Rows'.any-gone Laws'4.mir) (List._∷_ (1, Relend.mslice-owed Client·T.the-row (Syntax.tyRef (Syntax.named 0) Syntax.mut (Memory·T.pointee (Client·T.the-row .written))) 0 4 Row.off) (List._∷_ (2, Mut.mslice (Referent.rtF (Referent.fInt Syntax.w8)) (Syntax.tyRef (Syntax.named 1) Syntax.mut (Syntax.tyInt Syntax.w8)) 1) (List._∷_ (3, Rows'.sc-here (Row.sInt Syntax.w64)) (List._∷_ (4, Rows'.sc-here (Row.sInt Syntax.w64)) (List._∷_ (5, Rows'.any-gone (Syntax.tyArray (Syntax.tyInt Syntax.w8) 4)) (List._∷_ (6, Rows'.any-gone (Syntax.tyArray (Syntax.tyInt Syntax.w8) 4)) (List._∷_ (7, Rows'.sslice (Referent.rtF (Referent.fInt Syntax.w8)) (Syntax.tyRef (Syntax.named 2) Syntax.imm (Syntax.tyInt Syntax.w8)) 2) (List._∷_ (8, Mut.mslice (Referent.rtF (Referent.fInt Syntax.w8)) (Syntax.tyRef (Syntax.named 3) Syntax.mut (Syntax.tyInt Syntax.w8)) 3) (List._∷_ (9, Rows'.any-gone Laws'6.mir) (List._∷_ (10, Rows'.any-gone Laws'3.mir) (List._∷_ (11, Rows'.any-gone Laws'5.mir) (List._∷_ (12, Rows'.whole (Declared'.row Arrival.the-type)) (List._∷_ (13, Rows'.sc-here (Row.sInt Syntax.w64)) (List._∷_ (14, Rows'.sc-here (Row.sInt Syntax.w64)) (List._∷_ (15, Rows'.any-gone Laws.mir) List.[])))))))))))))))
 
 abbrev pub t21 : List.List Row.Entry
-t21 = List._∷_ (16, Rows'.any-gone Laws'6.mir) (List._∷_ (17, Relend.msptr Client·T.the-row (Syntax.tyRef Syntax.erased Syntax.mut (Memory·T.pointee (Client·T.the-row .written))) 4) (List._∷_ (18, Rows'.any-gone (Syntax.tyStruct (List._∷_ 38 (List._∷_ 91 (List._∷_ 93 List.[]))) (Syntax.tcons (Syntax.tyRef Syntax.erased Syntax.mut (Memory·T.pointee (Client·T.the-row .written))) (Syntax.tcons (Syntax.tyInt Syntax.w64) Syntax.tnil)))) (List._∷_ (19, Rows'.any-gone (Syntax.tyRef Syntax.erased Syntax.mut (Syntax.tyInt Syntax.w8))) (List._∷_ (20, Rows'.any-gone (Syntax.tyStruct (List._∷_ 38 (List._∷_ 91 (List._∷_ 93 List.[]))) (Syntax.tcons (Syntax.tyRef Syntax.erased Syntax.mut (Syntax.tyInt Syntax.w8)) (Syntax.tcons (Syntax.tyInt Syntax.w64) Syntax.tnil)))) (List._∷_ (21, Rows'.any-gone Syntax.tyPtr) (List._∷_ (22, Rows'.any-gone (Syntax.tyInt Syntax.w64)) (List._∷_ (23, Rows'.any-gone (Syntax.tyRef Syntax.erased Syntax.imm (Syntax.tyInt Syntax.w8))) (List._∷_ (24, Rows'.any-gone (Syntax.tyStruct (List._∷_ 38 (List._∷_ 91 (List._∷_ 93 List.[]))) (Syntax.tcons (Syntax.tyRef Syntax.erased Syntax.imm (Syntax.tyInt Syntax.w8)) (Syntax.tcons (Syntax.tyInt Syntax.w64) Syntax.tnil)))) (List._∷_ (25, Rows'.any-gone (Syntax.tyRef Syntax.erased Syntax.mut (Syntax.tyInt Syntax.w8))) (List._∷_ (26, Rows'.any-gone (Syntax.tyStruct (List._∷_ 38 (List._∷_ 91 (List._∷_ 93 List.[]))) (Syntax.tcons (Syntax.tyRef Syntax.erased Syntax.mut (Syntax.tyInt Syntax.w8)) (Syntax.tcons (Syntax.tyInt Syntax.w64) Syntax.tnil)))) List.[]))))))))))
+t21 = List._∷_ (16, Rows'.any-gone Laws'4.mir) (List._∷_ (17, Relend.msptr Client·T.the-row (Syntax.tyRef Syntax.erased Syntax.mut (Memory·T.pointee (Client·T.the-row .written))) 4) (List._∷_ (18, Rows'.any-gone (Syntax.tyStruct (List._∷_ 38 (List._∷_ 91 (List._∷_ 93 List.[]))) (Syntax.tcons (Syntax.tyRef Syntax.erased Syntax.mut (Memory·T.pointee (Client·T.the-row .written))) (Syntax.tcons (Syntax.tyInt Syntax.w64) Syntax.tnil)))) (List._∷_ (19, Rows'.any-gone (Syntax.tyRef Syntax.erased Syntax.mut (Syntax.tyInt Syntax.w8))) (List._∷_ (20, Rows'.any-gone (Syntax.tyStruct (List._∷_ 38 (List._∷_ 91 (List._∷_ 93 List.[]))) (Syntax.tcons (Syntax.tyRef Syntax.erased Syntax.mut (Syntax.tyInt Syntax.w8)) (Syntax.tcons (Syntax.tyInt Syntax.w64) Syntax.tnil)))) (List._∷_ (21, Rows'.any-gone Syntax.tyPtr) (List._∷_ (22, Rows'.any-gone (Syntax.tyInt Syntax.w64)) (List._∷_ (23, Rows'.any-gone (Syntax.tyRef Syntax.erased Syntax.imm (Syntax.tyInt Syntax.w8))) (List._∷_ (24, Rows'.any-gone (Syntax.tyStruct (List._∷_ 38 (List._∷_ 91 (List._∷_ 93 List.[]))) (Syntax.tcons (Syntax.tyRef Syntax.erased Syntax.imm (Syntax.tyInt Syntax.w8)) (Syntax.tcons (Syntax.tyInt Syntax.w64) Syntax.tnil)))) (List._∷_ (25, Rows'.any-gone (Syntax.tyRef Syntax.erased Syntax.mut (Syntax.tyInt Syntax.w8))) (List._∷_ (26, Rows'.any-gone (Syntax.tyStruct (List._∷_ 38 (List._∷_ 91 (List._∷_ 93 List.[]))) (Syntax.tcons (Syntax.tyRef Syntax.erased Syntax.mut (Syntax.tyInt Syntax.w8)) (Syntax.tcons (Syntax.tyInt Syntax.w64) Syntax.tnil)))) List.[]))))))))))
 
 abbrev pub t22 : List.List Row.Entry
-t22 = List._∷_ (16, Rows'.any-gone Laws'6.mir) (List._∷_ (17, Rows'.any-gone (Syntax.tyRef Syntax.erased Syntax.mut (Memory·T.pointee (Client·T.the-row .written)))) (List._∷_ (18, Mut.mslice Client·T.the-row (Syntax.tyRef Syntax.erased Syntax.mut (Memory·T.pointee (Client·T.the-row .written))) 4) (List._∷_ (19, Rows'.any-gone (Syntax.tyRef Syntax.erased Syntax.mut (Syntax.tyInt Syntax.w8))) (List._∷_ (20, Rows'.any-gone (Syntax.tyStruct (List._∷_ 38 (List._∷_ 91 (List._∷_ 93 List.[]))) (Syntax.tcons (Syntax.tyRef Syntax.erased Syntax.mut (Syntax.tyInt Syntax.w8)) (Syntax.tcons (Syntax.tyInt Syntax.w64) Syntax.tnil)))) (List._∷_ (21, Rows'.any-gone Syntax.tyPtr) (List._∷_ (22, Rows'.any-gone (Syntax.tyInt Syntax.w64)) (List._∷_ (23, Rows'.any-gone (Syntax.tyRef Syntax.erased Syntax.imm (Syntax.tyInt Syntax.w8))) (List._∷_ (24, Rows'.any-gone (Syntax.tyStruct (List._∷_ 38 (List._∷_ 91 (List._∷_ 93 List.[]))) (Syntax.tcons (Syntax.tyRef Syntax.erased Syntax.imm (Syntax.tyInt Syntax.w8)) (Syntax.tcons (Syntax.tyInt Syntax.w64) Syntax.tnil)))) (List._∷_ (25, Rows'.any-gone (Syntax.tyRef Syntax.erased Syntax.mut (Syntax.tyInt Syntax.w8))) (List._∷_ (26, Rows'.any-gone (Syntax.tyStruct (List._∷_ 38 (List._∷_ 91 (List._∷_ 93 List.[]))) (Syntax.tcons (Syntax.tyRef Syntax.erased Syntax.mut (Syntax.tyInt Syntax.w8)) (Syntax.tcons (Syntax.tyInt Syntax.w64) Syntax.tnil)))) List.[]))))))))))
+t22 = List._∷_ (16, Rows'.any-gone Laws'4.mir) (List._∷_ (17, Rows'.any-gone (Syntax.tyRef Syntax.erased Syntax.mut (Memory·T.pointee (Client·T.the-row .written)))) (List._∷_ (18, Mut.mslice Client·T.the-row (Syntax.tyRef Syntax.erased Syntax.mut (Memory·T.pointee (Client·T.the-row .written))) 4) (List._∷_ (19, Rows'.any-gone (Syntax.tyRef Syntax.erased Syntax.mut (Syntax.tyInt Syntax.w8))) (List._∷_ (20, Rows'.any-gone (Syntax.tyStruct (List._∷_ 38 (List._∷_ 91 (List._∷_ 93 List.[]))) (Syntax.tcons (Syntax.tyRef Syntax.erased Syntax.mut (Syntax.tyInt Syntax.w8)) (Syntax.tcons (Syntax.tyInt Syntax.w64) Syntax.tnil)))) (List._∷_ (21, Rows'.any-gone Syntax.tyPtr) (List._∷_ (22, Rows'.any-gone (Syntax.tyInt Syntax.w64)) (List._∷_ (23, Rows'.any-gone (Syntax.tyRef Syntax.erased Syntax.imm (Syntax.tyInt Syntax.w8))) (List._∷_ (24, Rows'.any-gone (Syntax.tyStruct (List._∷_ 38 (List._∷_ 91 (List._∷_ 93 List.[]))) (Syntax.tcons (Syntax.tyRef Syntax.erased Syntax.imm (Syntax.tyInt Syntax.w8)) (Syntax.tcons (Syntax.tyInt Syntax.w64) Syntax.tnil)))) (List._∷_ (25, Rows'.any-gone (Syntax.tyRef Syntax.erased Syntax.mut (Syntax.tyInt Syntax.w8))) (List._∷_ (26, Rows'.any-gone (Syntax.tyStruct (List._∷_ 38 (List._∷_ 91 (List._∷_ 93 List.[]))) (Syntax.tcons (Syntax.tyRef Syntax.erased Syntax.mut (Syntax.tyInt Syntax.w8)) (Syntax.tcons (Syntax.tyInt Syntax.w64) Syntax.tnil)))) List.[]))))))))))
 
 abbrev pub t23 : List.List Row.Entry
-t23 = List._∷_ (0, Rows'.any-gone Laws'6.mir) (List._∷_ (1, Relend.mslice-owed Client·T.the-row (Syntax.tyRef (Syntax.named 0) Syntax.mut (Memory·T.pointee (Client·T.the-row .written))) 0 4 Row.off) (List._∷_ (2, Relend.mslice-owed (Referent.rtF (Referent.fInt Syntax.w8)) (Syntax.tyRef (Syntax.named 1) Syntax.mut (Syntax.tyInt Syntax.w8)) 1 5 Row.off) (List._∷_ (3, Rows'.sc-here (Row.sInt Syntax.w64)) (List._∷_ (4, Rows'.sc-here (Row.sInt Syntax.w64)) (List._∷_ (5, Rows'.any-gone (Syntax.tyArray (Syntax.tyInt Syntax.w8) 4)) (List._∷_ (6, Rows'.any-gone (Syntax.tyArray (Syntax.tyInt Syntax.w8) 4)) (List._∷_ (7, Rows'.sslice (Referent.rtF (Referent.fInt Syntax.w8)) (Syntax.tyRef (Syntax.named 2) Syntax.imm (Syntax.tyInt Syntax.w8)) 2) (List._∷_ (8, Mut.mslice (Referent.rtF (Referent.fInt Syntax.w8)) (Syntax.tyRef (Syntax.named 3) Syntax.mut (Syntax.tyInt Syntax.w8)) 3) (List._∷_ (9, Rows'.any-gone Laws.mir) (List._∷_ (10, Rows'.any-gone Laws'5.mir) (List._∷_ (11, Rows'.any-gone Laws''.mir) (List._∷_ (12, Rows'.whole (Declared'.row Arrival.the-type)) (List._∷_ (13, Rows'.sc-here (Row.sInt Syntax.w64)) (List._∷_ (14, Rows'.sc-here (Row.sInt Syntax.w64)) (List._∷_ (15, Rows'.any-gone Laws'3.mir) List.[])))))))))))))))
+t23 = List._∷_ (0, Rows'.any-gone Laws'4.mir) (List._∷_ (1, Relend.mslice-owed Client·T.the-row (Syntax.tyRef (Syntax.named 0) Syntax.mut (Memory·T.pointee (Client·T.the-row .written))) 0 4 Row.off) (List._∷_ (2, Relend.mslice-owed (Referent.rtF (Referent.fInt Syntax.w8)) (Syntax.tyRef (Syntax.named 1) Syntax.mut (Syntax.tyInt Syntax.w8)) 1 5 Row.off) (List._∷_ (3, Rows'.sc-here (Row.sInt Syntax.w64)) (List._∷_ (4, Rows'.sc-here (Row.sInt Syntax.w64)) (List._∷_ (5, Rows'.any-gone (Syntax.tyArray (Syntax.tyInt Syntax.w8) 4)) (List._∷_ (6, Rows'.any-gone (Syntax.tyArray (Syntax.tyInt Syntax.w8) 4)) (List._∷_ (7, Rows'.sslice (Referent.rtF (Referent.fInt Syntax.w8)) (Syntax.tyRef (Syntax.named 2) Syntax.imm (Syntax.tyInt Syntax.w8)) 2) (List._∷_ (8, Mut.mslice (Referent.rtF (Referent.fInt Syntax.w8)) (Syntax.tyRef (Syntax.named 3) Syntax.mut (Syntax.tyInt Syntax.w8)) 3) (List._∷_ (9, Rows'.any-gone Laws'6.mir) (List._∷_ (10, Rows'.any-gone Laws'3.mir) (List._∷_ (11, Rows'.any-gone Laws'5.mir) (List._∷_ (12, Rows'.whole (Declared'.row Arrival.the-type)) (List._∷_ (13, Rows'.sc-here (Row.sInt Syntax.w64)) (List._∷_ (14, Rows'.sc-here (Row.sInt Syntax.w64)) (List._∷_ (15, Rows'.any-gone Laws.mir) List.[])))))))))))))))
 
 abbrev pub t24 : List.List Row.Entry
-t24 = List._∷_ (16, Rows'.any-gone Laws'6.mir) (List._∷_ (17, Rows'.any-gone (Syntax.tyRef Syntax.erased Syntax.mut (Memory·T.pointee (Client·T.the-row .written)))) (List._∷_ (18, Mut.mslice Client·T.the-row (Syntax.tyRef Syntax.erased Syntax.mut (Memory·T.pointee (Client·T.the-row .written))) 4) (List._∷_ (19, Relend.msptr (Referent.rtF (Referent.fInt Syntax.w8)) (Syntax.tyRef Syntax.erased Syntax.mut (Syntax.tyInt Syntax.w8)) 5) (List._∷_ (20, Rows'.any-gone (Syntax.tyStruct (List._∷_ 38 (List._∷_ 91 (List._∷_ 93 List.[]))) (Syntax.tcons (Syntax.tyRef Syntax.erased Syntax.mut (Syntax.tyInt Syntax.w8)) (Syntax.tcons (Syntax.tyInt Syntax.w64) Syntax.tnil)))) (List._∷_ (21, Rows'.any-gone Syntax.tyPtr) (List._∷_ (22, Rows'.any-gone (Syntax.tyInt Syntax.w64)) (List._∷_ (23, Rows'.any-gone (Syntax.tyRef Syntax.erased Syntax.imm (Syntax.tyInt Syntax.w8))) (List._∷_ (24, Rows'.any-gone (Syntax.tyStruct (List._∷_ 38 (List._∷_ 91 (List._∷_ 93 List.[]))) (Syntax.tcons (Syntax.tyRef Syntax.erased Syntax.imm (Syntax.tyInt Syntax.w8)) (Syntax.tcons (Syntax.tyInt Syntax.w64) Syntax.tnil)))) (List._∷_ (25, Rows'.any-gone (Syntax.tyRef Syntax.erased Syntax.mut (Syntax.tyInt Syntax.w8))) (List._∷_ (26, Rows'.any-gone (Syntax.tyStruct (List._∷_ 38 (List._∷_ 91 (List._∷_ 93 List.[]))) (Syntax.tcons (Syntax.tyRef Syntax.erased Syntax.mut (Syntax.tyInt Syntax.w8)) (Syntax.tcons (Syntax.tyInt Syntax.w64) Syntax.tnil)))) List.[]))))))))))
+t24 = List._∷_ (16, Rows'.any-gone Laws'4.mir) (List._∷_ (17, Rows'.any-gone (Syntax.tyRef Syntax.erased Syntax.mut (Memory·T.pointee (Client·T.the-row .written)))) (List._∷_ (18, Mut.mslice Client·T.the-row (Syntax.tyRef Syntax.erased Syntax.mut (Memory·T.pointee (Client·T.the-row .written))) 4) (List._∷_ (19, Relend.msptr (Referent.rtF (Referent.fInt Syntax.w8)) (Syntax.tyRef Syntax.erased Syntax.mut (Syntax.tyInt Syntax.w8)) 5) (List._∷_ (20, Rows'.any-gone (Syntax.tyStruct (List._∷_ 38 (List._∷_ 91 (List._∷_ 93 List.[]))) (Syntax.tcons (Syntax.tyRef Syntax.erased Syntax.mut (Syntax.tyInt Syntax.w8)) (Syntax.tcons (Syntax.tyInt Syntax.w64) Syntax.tnil)))) (List._∷_ (21, Rows'.any-gone Syntax.tyPtr) (List._∷_ (22, Rows'.any-gone (Syntax.tyInt Syntax.w64)) (List._∷_ (23, Rows'.any-gone (Syntax.tyRef Syntax.erased Syntax.imm (Syntax.tyInt Syntax.w8))) (List._∷_ (24, Rows'.any-gone (Syntax.tyStruct (List._∷_ 38 (List._∷_ 91 (List._∷_ 93 List.[]))) (Syntax.tcons (Syntax.tyRef Syntax.erased Syntax.imm (Syntax.tyInt Syntax.w8)) (Syntax.tcons (Syntax.tyInt Syntax.w64) Syntax.tnil)))) (List._∷_ (25, Rows'.any-gone (Syntax.tyRef Syntax.erased Syntax.mut (Syntax.tyInt Syntax.w8))) (List._∷_ (26, Rows'.any-gone (Syntax.tyStruct (List._∷_ 38 (List._∷_ 91 (List._∷_ 93 List.[]))) (Syntax.tcons (Syntax.tyRef Syntax.erased Syntax.mut (Syntax.tyInt Syntax.w8)) (Syntax.tcons (Syntax.tyInt Syntax.w64) Syntax.tnil)))) List.[]))))))))))
 
 abbrev pub t25 : List.List Row.Entry
-t25 = List._∷_ (16, Rows'.any-gone Laws'6.mir) (List._∷_ (17, Rows'.any-gone (Syntax.tyRef Syntax.erased Syntax.mut (Memory·T.pointee (Client·T.the-row .written)))) (List._∷_ (18, Mut.mslice Client·T.the-row (Syntax.tyRef Syntax.erased Syntax.mut (Memory·T.pointee (Client·T.the-row .written))) 4) (List._∷_ (19, Rows'.any-gone (Syntax.tyRef Syntax.erased Syntax.mut (Syntax.tyInt Syntax.w8))) (List._∷_ (20, Mut.mslice (Referent.rtF (Referent.fInt Syntax.w8)) (Syntax.tyRef Syntax.erased Syntax.mut (Syntax.tyInt Syntax.w8)) 5) (List._∷_ (21, Rows'.any-gone Syntax.tyPtr) (List._∷_ (22, Rows'.any-gone (Syntax.tyInt Syntax.w64)) (List._∷_ (23, Rows'.any-gone (Syntax.tyRef Syntax.erased Syntax.imm (Syntax.tyInt Syntax.w8))) (List._∷_ (24, Rows'.any-gone (Syntax.tyStruct (List._∷_ 38 (List._∷_ 91 (List._∷_ 93 List.[]))) (Syntax.tcons (Syntax.tyRef Syntax.erased Syntax.imm (Syntax.tyInt Syntax.w8)) (Syntax.tcons (Syntax.tyInt Syntax.w64) Syntax.tnil)))) (List._∷_ (25, Rows'.any-gone (Syntax.tyRef Syntax.erased Syntax.mut (Syntax.tyInt Syntax.w8))) (List._∷_ (26, Rows'.any-gone (Syntax.tyStruct (List._∷_ 38 (List._∷_ 91 (List._∷_ 93 List.[]))) (Syntax.tcons (Syntax.tyRef Syntax.erased Syntax.mut (Syntax.tyInt Syntax.w8)) (Syntax.tcons (Syntax.tyInt Syntax.w64) Syntax.tnil)))) List.[]))))))))))
+t25 = List._∷_ (16, Rows'.any-gone Laws'4.mir) (List._∷_ (17, Rows'.any-gone (Syntax.tyRef Syntax.erased Syntax.mut (Memory·T.pointee (Client·T.the-row .written)))) (List._∷_ (18, Mut.mslice Client·T.the-row (Syntax.tyRef Syntax.erased Syntax.mut (Memory·T.pointee (Client·T.the-row .written))) 4) (List._∷_ (19, Rows'.any-gone (Syntax.tyRef Syntax.erased Syntax.mut (Syntax.tyInt Syntax.w8))) (List._∷_ (20, Mut.mslice (Referent.rtF (Referent.fInt Syntax.w8)) (Syntax.tyRef Syntax.erased Syntax.mut (Syntax.tyInt Syntax.w8)) 5) (List._∷_ (21, Rows'.any-gone Syntax.tyPtr) (List._∷_ (22, Rows'.any-gone (Syntax.tyInt Syntax.w64)) (List._∷_ (23, Rows'.any-gone (Syntax.tyRef Syntax.erased Syntax.imm (Syntax.tyInt Syntax.w8))) (List._∷_ (24, Rows'.any-gone (Syntax.tyStruct (List._∷_ 38 (List._∷_ 91 (List._∷_ 93 List.[]))) (Syntax.tcons (Syntax.tyRef Syntax.erased Syntax.imm (Syntax.tyInt Syntax.w8)) (Syntax.tcons (Syntax.tyInt Syntax.w64) Syntax.tnil)))) (List._∷_ (25, Rows'.any-gone (Syntax.tyRef Syntax.erased Syntax.mut (Syntax.tyInt Syntax.w8))) (List._∷_ (26, Rows'.any-gone (Syntax.tyStruct (List._∷_ 38 (List._∷_ 91 (List._∷_ 93 List.[]))) (Syntax.tcons (Syntax.tyRef Syntax.erased Syntax.mut (Syntax.tyInt Syntax.w8)) (Syntax.tcons (Syntax.tyInt Syntax.w64) Syntax.tnil)))) List.[]))))))))))
 
 abbrev pub t26 : List.List Row.Entry
-t26 = List._∷_ (16, Rows'.any-gone Laws'6.mir) (List._∷_ (17, Rows'.any-gone (Syntax.tyRef Syntax.erased Syntax.mut (Memory·T.pointee (Client·T.the-row .written)))) (List._∷_ (18, Mut.mslice Client·T.the-row (Syntax.tyRef Syntax.erased Syntax.mut (Memory·T.pointee (Client·T.the-row .written))) 4) (List._∷_ (19, Rows'.any-gone (Syntax.tyRef Syntax.erased Syntax.mut (Syntax.tyInt Syntax.w8))) (List._∷_ (20, Mut.mslice (Referent.rtF (Referent.fInt Syntax.w8)) (Syntax.tyRef Syntax.erased Syntax.mut (Syntax.tyInt Syntax.w8)) 5) (List._∷_ (21, Rows'.sc-here Row.sPtr) (List._∷_ (22, Rows'.any-gone (Syntax.tyInt Syntax.w64)) (List._∷_ (23, Rows'.any-gone (Syntax.tyRef Syntax.erased Syntax.imm (Syntax.tyInt Syntax.w8))) (List._∷_ (24, Rows'.any-gone (Syntax.tyStruct (List._∷_ 38 (List._∷_ 91 (List._∷_ 93 List.[]))) (Syntax.tcons (Syntax.tyRef Syntax.erased Syntax.imm (Syntax.tyInt Syntax.w8)) (Syntax.tcons (Syntax.tyInt Syntax.w64) Syntax.tnil)))) (List._∷_ (25, Rows'.any-gone (Syntax.tyRef Syntax.erased Syntax.mut (Syntax.tyInt Syntax.w8))) (List._∷_ (26, Rows'.any-gone (Syntax.tyStruct (List._∷_ 38 (List._∷_ 91 (List._∷_ 93 List.[]))) (Syntax.tcons (Syntax.tyRef Syntax.erased Syntax.mut (Syntax.tyInt Syntax.w8)) (Syntax.tcons (Syntax.tyInt Syntax.w64) Syntax.tnil)))) List.[]))))))))))
+t26 = List._∷_ (16, Rows'.any-gone Laws'4.mir) (List._∷_ (17, Rows'.any-gone (Syntax.tyRef Syntax.erased Syntax.mut (Memory·T.pointee (Client·T.the-row .written)))) (List._∷_ (18, Mut.mslice Client·T.the-row (Syntax.tyRef Syntax.erased Syntax.mut (Memory·T.pointee (Client·T.the-row .written))) 4) (List._∷_ (19, Rows'.any-gone (Syntax.tyRef Syntax.erased Syntax.mut (Syntax.tyInt Syntax.w8))) (List._∷_ (20, Mut.mslice (Referent.rtF (Referent.fInt Syntax.w8)) (Syntax.tyRef Syntax.erased Syntax.mut (Syntax.tyInt Syntax.w8)) 5) (List._∷_ (21, Rows'.sc-here Row.sPtr) (List._∷_ (22, Rows'.any-gone (Syntax.tyInt Syntax.w64)) (List._∷_ (23, Rows'.any-gone (Syntax.tyRef Syntax.erased Syntax.imm (Syntax.tyInt Syntax.w8))) (List._∷_ (24, Rows'.any-gone (Syntax.tyStruct (List._∷_ 38 (List._∷_ 91 (List._∷_ 93 List.[]))) (Syntax.tcons (Syntax.tyRef Syntax.erased Syntax.imm (Syntax.tyInt Syntax.w8)) (Syntax.tcons (Syntax.tyInt Syntax.w64) Syntax.tnil)))) (List._∷_ (25, Rows'.any-gone (Syntax.tyRef Syntax.erased Syntax.mut (Syntax.tyInt Syntax.w8))) (List._∷_ (26, Rows'.any-gone (Syntax.tyStruct (List._∷_ 38 (List._∷_ 91 (List._∷_ 93 List.[]))) (Syntax.tcons (Syntax.tyRef Syntax.erased Syntax.mut (Syntax.tyInt Syntax.w8)) (Syntax.tcons (Syntax.tyInt Syntax.w64) Syntax.tnil)))) List.[]))))))))))
 
 abbrev pub t27 : List.List Row.Entry
-t27 = List._∷_ (16, Rows'.any-gone Laws'6.mir) (List._∷_ (17, Rows'.any-gone (Syntax.tyRef Syntax.erased Syntax.mut (Memory·T.pointee (Client·T.the-row .written)))) (List._∷_ (18, Mut.mslice Client·T.the-row (Syntax.tyRef Syntax.erased Syntax.mut (Memory·T.pointee (Client·T.the-row .written))) 4) (List._∷_ (19, Rows'.any-gone (Syntax.tyRef Syntax.erased Syntax.mut (Syntax.tyInt Syntax.w8))) (List._∷_ (20, Mut.mslice (Referent.rtF (Referent.fInt Syntax.w8)) (Syntax.tyRef Syntax.erased Syntax.mut (Syntax.tyInt Syntax.w8)) 5) (List._∷_ (21, Rows'.sc-here Row.sPtr) (List._∷_ (22, Rows'.sc-here (Row.sInt Syntax.w64)) (List._∷_ (23, Rows'.any-gone (Syntax.tyRef Syntax.erased Syntax.imm (Syntax.tyInt Syntax.w8))) (List._∷_ (24, Rows'.any-gone (Syntax.tyStruct (List._∷_ 38 (List._∷_ 91 (List._∷_ 93 List.[]))) (Syntax.tcons (Syntax.tyRef Syntax.erased Syntax.imm (Syntax.tyInt Syntax.w8)) (Syntax.tcons (Syntax.tyInt Syntax.w64) Syntax.tnil)))) (List._∷_ (25, Rows'.any-gone (Syntax.tyRef Syntax.erased Syntax.mut (Syntax.tyInt Syntax.w8))) (List._∷_ (26, Rows'.any-gone (Syntax.tyStruct (List._∷_ 38 (List._∷_ 91 (List._∷_ 93 List.[]))) (Syntax.tcons (Syntax.tyRef Syntax.erased Syntax.mut (Syntax.tyInt Syntax.w8)) (Syntax.tcons (Syntax.tyInt Syntax.w64) Syntax.tnil)))) List.[]))))))))))
+t27 = List._∷_ (16, Rows'.any-gone Laws'4.mir) (List._∷_ (17, Rows'.any-gone (Syntax.tyRef Syntax.erased Syntax.mut (Memory·T.pointee (Client·T.the-row .written)))) (List._∷_ (18, Mut.mslice Client·T.the-row (Syntax.tyRef Syntax.erased Syntax.mut (Memory·T.pointee (Client·T.the-row .written))) 4) (List._∷_ (19, Rows'.any-gone (Syntax.tyRef Syntax.erased Syntax.mut (Syntax.tyInt Syntax.w8))) (List._∷_ (20, Mut.mslice (Referent.rtF (Referent.fInt Syntax.w8)) (Syntax.tyRef Syntax.erased Syntax.mut (Syntax.tyInt Syntax.w8)) 5) (List._∷_ (21, Rows'.sc-here Row.sPtr) (List._∷_ (22, Rows'.sc-here (Row.sInt Syntax.w64)) (List._∷_ (23, Rows'.any-gone (Syntax.tyRef Syntax.erased Syntax.imm (Syntax.tyInt Syntax.w8))) (List._∷_ (24, Rows'.any-gone (Syntax.tyStruct (List._∷_ 38 (List._∷_ 91 (List._∷_ 93 List.[]))) (Syntax.tcons (Syntax.tyRef Syntax.erased Syntax.imm (Syntax.tyInt Syntax.w8)) (Syntax.tcons (Syntax.tyInt Syntax.w64) Syntax.tnil)))) (List._∷_ (25, Rows'.any-gone (Syntax.tyRef Syntax.erased Syntax.mut (Syntax.tyInt Syntax.w8))) (List._∷_ (26, Rows'.any-gone (Syntax.tyStruct (List._∷_ 38 (List._∷_ 91 (List._∷_ 93 List.[]))) (Syntax.tcons (Syntax.tyRef Syntax.erased Syntax.mut (Syntax.tyInt Syntax.w8)) (Syntax.tcons (Syntax.tyInt Syntax.w64) Syntax.tnil)))) List.[]))))))))))
 
 abbrev pub t28 : List.List Row.Entry
-t28 = List._∷_ (16, Rows'.any-gone Laws'6.mir) (List._∷_ (17, Rows'.any-gone (Syntax.tyRef Syntax.erased Syntax.mut (Memory·T.pointee (Client·T.the-row .written)))) (List._∷_ (18, Mut.mslice Client·T.the-row (Syntax.tyRef Syntax.erased Syntax.mut (Memory·T.pointee (Client·T.the-row .written))) 4) (List._∷_ (19, Rows'.any-gone (Syntax.tyRef Syntax.erased Syntax.mut (Syntax.tyInt Syntax.w8))) (List._∷_ (20, Mut.mslice (Referent.rtF (Referent.fInt Syntax.w8)) (Syntax.tyRef Syntax.erased Syntax.mut (Syntax.tyInt Syntax.w8)) 5) (List._∷_ (21, Rows'.sc-here Row.sPtr) (List._∷_ (22, Rows'.sc-here (Row.sInt Syntax.w64)) (List._∷_ (23, Relend.ssptr (Referent.rtF (Referent.fInt Syntax.w8)) (Syntax.tyRef Syntax.erased Syntax.imm (Syntax.tyInt Syntax.w8)) 2) (List._∷_ (24, Rows'.any-gone (Syntax.tyStruct (List._∷_ 38 (List._∷_ 91 (List._∷_ 93 List.[]))) (Syntax.tcons (Syntax.tyRef Syntax.erased Syntax.imm (Syntax.tyInt Syntax.w8)) (Syntax.tcons (Syntax.tyInt Syntax.w64) Syntax.tnil)))) (List._∷_ (25, Rows'.any-gone (Syntax.tyRef Syntax.erased Syntax.mut (Syntax.tyInt Syntax.w8))) (List._∷_ (26, Rows'.any-gone (Syntax.tyStruct (List._∷_ 38 (List._∷_ 91 (List._∷_ 93 List.[]))) (Syntax.tcons (Syntax.tyRef Syntax.erased Syntax.mut (Syntax.tyInt Syntax.w8)) (Syntax.tcons (Syntax.tyInt Syntax.w64) Syntax.tnil)))) List.[]))))))))))
+t28 = List._∷_ (16, Rows'.any-gone Laws'4.mir) (List._∷_ (17, Rows'.any-gone (Syntax.tyRef Syntax.erased Syntax.mut (Memory·T.pointee (Client·T.the-row .written)))) (List._∷_ (18, Mut.mslice Client·T.the-row (Syntax.tyRef Syntax.erased Syntax.mut (Memory·T.pointee (Client·T.the-row .written))) 4) (List._∷_ (19, Rows'.any-gone (Syntax.tyRef Syntax.erased Syntax.mut (Syntax.tyInt Syntax.w8))) (List._∷_ (20, Mut.mslice (Referent.rtF (Referent.fInt Syntax.w8)) (Syntax.tyRef Syntax.erased Syntax.mut (Syntax.tyInt Syntax.w8)) 5) (List._∷_ (21, Rows'.sc-here Row.sPtr) (List._∷_ (22, Rows'.sc-here (Row.sInt Syntax.w64)) (List._∷_ (23, Relend.ssptr (Referent.rtF (Referent.fInt Syntax.w8)) (Syntax.tyRef Syntax.erased Syntax.imm (Syntax.tyInt Syntax.w8)) 2) (List._∷_ (24, Rows'.any-gone (Syntax.tyStruct (List._∷_ 38 (List._∷_ 91 (List._∷_ 93 List.[]))) (Syntax.tcons (Syntax.tyRef Syntax.erased Syntax.imm (Syntax.tyInt Syntax.w8)) (Syntax.tcons (Syntax.tyInt Syntax.w64) Syntax.tnil)))) (List._∷_ (25, Rows'.any-gone (Syntax.tyRef Syntax.erased Syntax.mut (Syntax.tyInt Syntax.w8))) (List._∷_ (26, Rows'.any-gone (Syntax.tyStruct (List._∷_ 38 (List._∷_ 91 (List._∷_ 93 List.[]))) (Syntax.tcons (Syntax.tyRef Syntax.erased Syntax.mut (Syntax.tyInt Syntax.w8)) (Syntax.tcons (Syntax.tyInt Syntax.w64) Syntax.tnil)))) List.[]))))))))))
 
 abbrev pub t29 : List.List Row.Entry
-t29 = List._∷_ (16, Rows'.any-gone Laws'6.mir) (List._∷_ (17, Rows'.any-gone (Syntax.tyRef Syntax.erased Syntax.mut (Memory·T.pointee (Client·T.the-row .written)))) (List._∷_ (18, Mut.mslice Client·T.the-row (Syntax.tyRef Syntax.erased Syntax.mut (Memory·T.pointee (Client·T.the-row .written))) 4) (List._∷_ (19, Rows'.any-gone (Syntax.tyRef Syntax.erased Syntax.mut (Syntax.tyInt Syntax.w8))) (List._∷_ (20, Mut.mslice (Referent.rtF (Referent.fInt Syntax.w8)) (Syntax.tyRef Syntax.erased Syntax.mut (Syntax.tyInt Syntax.w8)) 5) (List._∷_ (21, Rows'.any-gone Syntax.tyPtr) (List._∷_ (22, Rows'.sc-here (Row.sInt Syntax.w64)) (List._∷_ (23, Relend.ssptr (Referent.rtF (Referent.fInt Syntax.w8)) (Syntax.tyRef Syntax.erased Syntax.imm (Syntax.tyInt Syntax.w8)) 2) (List._∷_ (24, Rows'.any-gone (Syntax.tyStruct (List._∷_ 38 (List._∷_ 91 (List._∷_ 93 List.[]))) (Syntax.tcons (Syntax.tyRef Syntax.erased Syntax.imm (Syntax.tyInt Syntax.w8)) (Syntax.tcons (Syntax.tyInt Syntax.w64) Syntax.tnil)))) (List._∷_ (25, Rows'.any-gone (Syntax.tyRef Syntax.erased Syntax.mut (Syntax.tyInt Syntax.w8))) (List._∷_ (26, Rows'.any-gone (Syntax.tyStruct (List._∷_ 38 (List._∷_ 91 (List._∷_ 93 List.[]))) (Syntax.tcons (Syntax.tyRef Syntax.erased Syntax.mut (Syntax.tyInt Syntax.w8)) (Syntax.tcons (Syntax.tyInt Syntax.w64) Syntax.tnil)))) List.[]))))))))))
+t29 = List._∷_ (16, Rows'.any-gone Laws'4.mir) (List._∷_ (17, Rows'.any-gone (Syntax.tyRef Syntax.erased Syntax.mut (Memory·T.pointee (Client·T.the-row .written)))) (List._∷_ (18, Mut.mslice Client·T.the-row (Syntax.tyRef Syntax.erased Syntax.mut (Memory·T.pointee (Client·T.the-row .written))) 4) (List._∷_ (19, Rows'.any-gone (Syntax.tyRef Syntax.erased Syntax.mut (Syntax.tyInt Syntax.w8))) (List._∷_ (20, Mut.mslice (Referent.rtF (Referent.fInt Syntax.w8)) (Syntax.tyRef Syntax.erased Syntax.mut (Syntax.tyInt Syntax.w8)) 5) (List._∷_ (21, Rows'.any-gone Syntax.tyPtr) (List._∷_ (22, Rows'.sc-here (Row.sInt Syntax.w64)) (List._∷_ (23, Relend.ssptr (Referent.rtF (Referent.fInt Syntax.w8)) (Syntax.tyRef Syntax.erased Syntax.imm (Syntax.tyInt Syntax.w8)) 2) (List._∷_ (24, Rows'.any-gone (Syntax.tyStruct (List._∷_ 38 (List._∷_ 91 (List._∷_ 93 List.[]))) (Syntax.tcons (Syntax.tyRef Syntax.erased Syntax.imm (Syntax.tyInt Syntax.w8)) (Syntax.tcons (Syntax.tyInt Syntax.w64) Syntax.tnil)))) (List._∷_ (25, Rows'.any-gone (Syntax.tyRef Syntax.erased Syntax.mut (Syntax.tyInt Syntax.w8))) (List._∷_ (26, Rows'.any-gone (Syntax.tyStruct (List._∷_ 38 (List._∷_ 91 (List._∷_ 93 List.[]))) (Syntax.tcons (Syntax.tyRef Syntax.erased Syntax.mut (Syntax.tyInt Syntax.w8)) (Syntax.tcons (Syntax.tyInt Syntax.w64) Syntax.tnil)))) List.[]))))))))))
 
 abbrev pub t30 : List.List Row.Entry
-t30 = List._∷_ (16, Rows'.any-gone Laws'6.mir) (List._∷_ (17, Rows'.any-gone (Syntax.tyRef Syntax.erased Syntax.mut (Memory·T.pointee (Client·T.the-row .written)))) (List._∷_ (18, Mut.mslice Client·T.the-row (Syntax.tyRef Syntax.erased Syntax.mut (Memory·T.pointee (Client·T.the-row .written))) 4) (List._∷_ (19, Rows'.any-gone (Syntax.tyRef Syntax.erased Syntax.mut (Syntax.tyInt Syntax.w8))) (List._∷_ (20, Mut.mslice (Referent.rtF (Referent.fInt Syntax.w8)) (Syntax.tyRef Syntax.erased Syntax.mut (Syntax.tyInt Syntax.w8)) 5) (List._∷_ (21, Rows'.any-gone Syntax.tyPtr) (List._∷_ (22, Rows'.sc-here (Row.sInt Syntax.w64)) (List._∷_ (23, Rows'.any-gone (Syntax.tyRef Syntax.erased Syntax.imm (Syntax.tyInt Syntax.w8))) (List._∷_ (24, Rows'.sslice (Referent.rtF (Referent.fInt Syntax.w8)) (Syntax.tyRef Syntax.erased Syntax.imm (Syntax.tyInt Syntax.w8)) 2) (List._∷_ (25, Rows'.any-gone (Syntax.tyRef Syntax.erased Syntax.mut (Syntax.tyInt Syntax.w8))) (List._∷_ (26, Rows'.any-gone (Syntax.tyStruct (List._∷_ 38 (List._∷_ 91 (List._∷_ 93 List.[]))) (Syntax.tcons (Syntax.tyRef Syntax.erased Syntax.mut (Syntax.tyInt Syntax.w8)) (Syntax.tcons (Syntax.tyInt Syntax.w64) Syntax.tnil)))) List.[]))))))))))
+t30 = List._∷_ (16, Rows'.any-gone Laws'4.mir) (List._∷_ (17, Rows'.any-gone (Syntax.tyRef Syntax.erased Syntax.mut (Memory·T.pointee (Client·T.the-row .written)))) (List._∷_ (18, Mut.mslice Client·T.the-row (Syntax.tyRef Syntax.erased Syntax.mut (Memory·T.pointee (Client·T.the-row .written))) 4) (List._∷_ (19, Rows'.any-gone (Syntax.tyRef Syntax.erased Syntax.mut (Syntax.tyInt Syntax.w8))) (List._∷_ (20, Mut.mslice (Referent.rtF (Referent.fInt Syntax.w8)) (Syntax.tyRef Syntax.erased Syntax.mut (Syntax.tyInt Syntax.w8)) 5) (List._∷_ (21, Rows'.any-gone Syntax.tyPtr) (List._∷_ (22, Rows'.sc-here (Row.sInt Syntax.w64)) (List._∷_ (23, Rows'.any-gone (Syntax.tyRef Syntax.erased Syntax.imm (Syntax.tyInt Syntax.w8))) (List._∷_ (24, Rows'.sslice (Referent.rtF (Referent.fInt Syntax.w8)) (Syntax.tyRef Syntax.erased Syntax.imm (Syntax.tyInt Syntax.w8)) 2) (List._∷_ (25, Rows'.any-gone (Syntax.tyRef Syntax.erased Syntax.mut (Syntax.tyInt Syntax.w8))) (List._∷_ (26, Rows'.any-gone (Syntax.tyStruct (List._∷_ 38 (List._∷_ 91 (List._∷_ 93 List.[]))) (Syntax.tcons (Syntax.tyRef Syntax.erased Syntax.mut (Syntax.tyInt Syntax.w8)) (Syntax.tcons (Syntax.tyInt Syntax.w64) Syntax.tnil)))) List.[]))))))))))
 
 abbrev pub t31 : List.List Row.Entry
-t31 = List._∷_ (16, Rows'.any-gone Laws'6.mir) (List._∷_ (17, Rows'.any-gone (Syntax.tyRef Syntax.erased Syntax.mut (Memory·T.pointee (Client·T.the-row .written)))) (List._∷_ (18, Mut.mslice Client·T.the-row (Syntax.tyRef Syntax.erased Syntax.mut (Memory·T.pointee (Client·T.the-row .written))) 4) (List._∷_ (19, Rows'.any-gone (Syntax.tyRef Syntax.erased Syntax.mut (Syntax.tyInt Syntax.w8))) (List._∷_ (20, Mut.mslice (Referent.rtF (Referent.fInt Syntax.w8)) (Syntax.tyRef Syntax.erased Syntax.mut (Syntax.tyInt Syntax.w8)) 5) (List._∷_ (21, Rows'.any-gone Syntax.tyPtr) (List._∷_ (22, Rows'.any-gone (Syntax.tyInt Syntax.w64)) (List._∷_ (23, Rows'.any-gone (Syntax.tyRef Syntax.erased Syntax.imm (Syntax.tyInt Syntax.w8))) (List._∷_ (24, Rows'.sslice (Referent.rtF (Referent.fInt Syntax.w8)) (Syntax.tyRef Syntax.erased Syntax.imm (Syntax.tyInt Syntax.w8)) 2) (List._∷_ (25, Rows'.any-gone (Syntax.tyRef Syntax.erased Syntax.mut (Syntax.tyInt Syntax.w8))) (List._∷_ (26, Rows'.any-gone (Syntax.tyStruct (List._∷_ 38 (List._∷_ 91 (List._∷_ 93 List.[]))) (Syntax.tcons (Syntax.tyRef Syntax.erased Syntax.mut (Syntax.tyInt Syntax.w8)) (Syntax.tcons (Syntax.tyInt Syntax.w64) Syntax.tnil)))) List.[]))))))))))
+t31 = List._∷_ (16, Rows'.any-gone Laws'4.mir) (List._∷_ (17, Rows'.any-gone (Syntax.tyRef Syntax.erased Syntax.mut (Memory·T.pointee (Client·T.the-row .written)))) (List._∷_ (18, Mut.mslice Client·T.the-row (Syntax.tyRef Syntax.erased Syntax.mut (Memory·T.pointee (Client·T.the-row .written))) 4) (List._∷_ (19, Rows'.any-gone (Syntax.tyRef Syntax.erased Syntax.mut (Syntax.tyInt Syntax.w8))) (List._∷_ (20, Mut.mslice (Referent.rtF (Referent.fInt Syntax.w8)) (Syntax.tyRef Syntax.erased Syntax.mut (Syntax.tyInt Syntax.w8)) 5) (List._∷_ (21, Rows'.any-gone Syntax.tyPtr) (List._∷_ (22, Rows'.any-gone (Syntax.tyInt Syntax.w64)) (List._∷_ (23, Rows'.any-gone (Syntax.tyRef Syntax.erased Syntax.imm (Syntax.tyInt Syntax.w8))) (List._∷_ (24, Rows'.sslice (Referent.rtF (Referent.fInt Syntax.w8)) (Syntax.tyRef Syntax.erased Syntax.imm (Syntax.tyInt Syntax.w8)) 2) (List._∷_ (25, Rows'.any-gone (Syntax.tyRef Syntax.erased Syntax.mut (Syntax.tyInt Syntax.w8))) (List._∷_ (26, Rows'.any-gone (Syntax.tyStruct (List._∷_ 38 (List._∷_ 91 (List._∷_ 93 List.[]))) (Syntax.tcons (Syntax.tyRef Syntax.erased Syntax.mut (Syntax.tyInt Syntax.w8)) (Syntax.tcons (Syntax.tyInt Syntax.w64) Syntax.tnil)))) List.[]))))))))))
 
 abbrev pub t32 : List.List Row.Entry
-t32 = List._∷_ (0, Rows'.any-gone Laws'6.mir) (List._∷_ (1, Relend.mslice-owed Client·T.the-row (Syntax.tyRef (Syntax.named 0) Syntax.mut (Memory·T.pointee (Client·T.the-row .written))) 0 4 Row.off) (List._∷_ (2, Relend.mslice-owed (Referent.rtF (Referent.fInt Syntax.w8)) (Syntax.tyRef (Syntax.named 1) Syntax.mut (Syntax.tyInt Syntax.w8)) 1 5 Row.off) (List._∷_ (3, Rows'.sc-here (Row.sInt Syntax.w64)) (List._∷_ (4, Rows'.sc-here (Row.sInt Syntax.w64)) (List._∷_ (5, Rows'.any-gone (Syntax.tyArray (Syntax.tyInt Syntax.w8) 4)) (List._∷_ (6, Rows'.any-gone (Syntax.tyArray (Syntax.tyInt Syntax.w8) 4)) (List._∷_ (7, Rows'.sslice (Referent.rtF (Referent.fInt Syntax.w8)) (Syntax.tyRef (Syntax.named 2) Syntax.imm (Syntax.tyInt Syntax.w8)) 2) (List._∷_ (8, Relend.mslice-owed (Referent.rtF (Referent.fInt Syntax.w8)) (Syntax.tyRef (Syntax.named 3) Syntax.mut (Syntax.tyInt Syntax.w8)) 3 6 Row.off) (List._∷_ (9, Rows'.any-gone Laws.mir) (List._∷_ (10, Rows'.any-gone Laws'5.mir) (List._∷_ (11, Rows'.any-gone Laws''.mir) (List._∷_ (12, Rows'.whole (Declared'.row Arrival.the-type)) (List._∷_ (13, Rows'.sc-here (Row.sInt Syntax.w64)) (List._∷_ (14, Rows'.sc-here (Row.sInt Syntax.w64)) (List._∷_ (15, Rows'.any-gone Laws'3.mir) List.[])))))))))))))))
+t32 = List._∷_ (0, Rows'.any-gone Laws'4.mir) (List._∷_ (1, Relend.mslice-owed Client·T.the-row (Syntax.tyRef (Syntax.named 0) Syntax.mut (Memory·T.pointee (Client·T.the-row .written))) 0 4 Row.off) (List._∷_ (2, Relend.mslice-owed (Referent.rtF (Referent.fInt Syntax.w8)) (Syntax.tyRef (Syntax.named 1) Syntax.mut (Syntax.tyInt Syntax.w8)) 1 5 Row.off) (List._∷_ (3, Rows'.sc-here (Row.sInt Syntax.w64)) (List._∷_ (4, Rows'.sc-here (Row.sInt Syntax.w64)) (List._∷_ (5, Rows'.any-gone (Syntax.tyArray (Syntax.tyInt Syntax.w8) 4)) (List._∷_ (6, Rows'.any-gone (Syntax.tyArray (Syntax.tyInt Syntax.w8) 4)) (List._∷_ (7, Rows'.sslice (Referent.rtF (Referent.fInt Syntax.w8)) (Syntax.tyRef (Syntax.named 2) Syntax.imm (Syntax.tyInt Syntax.w8)) 2) (List._∷_ (8, Relend.mslice-owed (Referent.rtF (Referent.fInt Syntax.w8)) (Syntax.tyRef (Syntax.named 3) Syntax.mut (Syntax.tyInt Syntax.w8)) 3 6 Row.off) (List._∷_ (9, Rows'.any-gone Laws'6.mir) (List._∷_ (10, Rows'.any-gone Laws'3.mir) (List._∷_ (11, Rows'.any-gone Laws'5.mir) (List._∷_ (12, Rows'.whole (Declared'.row Arrival.the-type)) (List._∷_ (13, Rows'.sc-here (Row.sInt Syntax.w64)) (List._∷_ (14, Rows'.sc-here (Row.sInt Syntax.w64)) (List._∷_ (15, Rows'.any-gone Laws.mir) List.[])))))))))))))))
 
 abbrev pub t33 : List.List Row.Entry
-t33 = List._∷_ (16, Rows'.any-gone Laws'6.mir) (List._∷_ (17, Rows'.any-gone (Syntax.tyRef Syntax.erased Syntax.mut (Memory·T.pointee (Client·T.the-row .written)))) (List._∷_ (18, Mut.mslice Client·T.the-row (Syntax.tyRef Syntax.erased Syntax.mut (Memory·T.pointee (Client·T.the-row .written))) 4) (List._∷_ (19, Rows'.any-gone (Syntax.tyRef Syntax.erased Syntax.mut (Syntax.tyInt Syntax.w8))) (List._∷_ (20, Mut.mslice (Referent.rtF (Referent.fInt Syntax.w8)) (Syntax.tyRef Syntax.erased Syntax.mut (Syntax.tyInt Syntax.w8)) 5) (List._∷_ (21, Rows'.any-gone Syntax.tyPtr) (List._∷_ (22, Rows'.any-gone (Syntax.tyInt Syntax.w64)) (List._∷_ (23, Rows'.any-gone (Syntax.tyRef Syntax.erased Syntax.imm (Syntax.tyInt Syntax.w8))) (List._∷_ (24, Rows'.sslice (Referent.rtF (Referent.fInt Syntax.w8)) (Syntax.tyRef Syntax.erased Syntax.imm (Syntax.tyInt Syntax.w8)) 2) (List._∷_ (25, Relend.msptr (Referent.rtF (Referent.fInt Syntax.w8)) (Syntax.tyRef Syntax.erased Syntax.mut (Syntax.tyInt Syntax.w8)) 6) (List._∷_ (26, Rows'.any-gone (Syntax.tyStruct (List._∷_ 38 (List._∷_ 91 (List._∷_ 93 List.[]))) (Syntax.tcons (Syntax.tyRef Syntax.erased Syntax.mut (Syntax.tyInt Syntax.w8)) (Syntax.tcons (Syntax.tyInt Syntax.w64) Syntax.tnil)))) List.[]))))))))))
+t33 = List._∷_ (16, Rows'.any-gone Laws'4.mir) (List._∷_ (17, Rows'.any-gone (Syntax.tyRef Syntax.erased Syntax.mut (Memory·T.pointee (Client·T.the-row .written)))) (List._∷_ (18, Mut.mslice Client·T.the-row (Syntax.tyRef Syntax.erased Syntax.mut (Memory·T.pointee (Client·T.the-row .written))) 4) (List._∷_ (19, Rows'.any-gone (Syntax.tyRef Syntax.erased Syntax.mut (Syntax.tyInt Syntax.w8))) (List._∷_ (20, Mut.mslice (Referent.rtF (Referent.fInt Syntax.w8)) (Syntax.tyRef Syntax.erased Syntax.mut (Syntax.tyInt Syntax.w8)) 5) (List._∷_ (21, Rows'.any-gone Syntax.tyPtr) (List._∷_ (22, Rows'.any-gone (Syntax.tyInt Syntax.w64)) (List._∷_ (23, Rows'.any-gone (Syntax.tyRef Syntax.erased Syntax.imm (Syntax.tyInt Syntax.w8))) (List._∷_ (24, Rows'.sslice (Referent.rtF (Referent.fInt Syntax.w8)) (Syntax.tyRef Syntax.erased Syntax.imm (Syntax.tyInt Syntax.w8)) 2) (List._∷_ (25, Relend.msptr (Referent.rtF (Referent.fInt Syntax.w8)) (Syntax.tyRef Syntax.erased Syntax.mut (Syntax.tyInt Syntax.w8)) 6) (List._∷_ (26, Rows'.any-gone (Syntax.tyStruct (List._∷_ 38 (List._∷_ 91 (List._∷_ 93 List.[]))) (Syntax.tcons (Syntax.tyRef Syntax.erased Syntax.mut (Syntax.tyInt Syntax.w8)) (Syntax.tcons (Syntax.tyInt Syntax.w64) Syntax.tnil)))) List.[]))))))))))
 
 abbrev pub t34 : List.List Row.Entry
-t34 = List._∷_ (16, Rows'.any-gone Laws'6.mir) (List._∷_ (17, Rows'.any-gone (Syntax.tyRef Syntax.erased Syntax.mut (Memory·T.pointee (Client·T.the-row .written)))) (List._∷_ (18, Mut.mslice Client·T.the-row (Syntax.tyRef Syntax.erased Syntax.mut (Memory·T.pointee (Client·T.the-row .written))) 4) (List._∷_ (19, Rows'.any-gone (Syntax.tyRef Syntax.erased Syntax.mut (Syntax.tyInt Syntax.w8))) (List._∷_ (20, Mut.mslice (Referent.rtF (Referent.fInt Syntax.w8)) (Syntax.tyRef Syntax.erased Syntax.mut (Syntax.tyInt Syntax.w8)) 5) (List._∷_ (21, Rows'.any-gone Syntax.tyPtr) (List._∷_ (22, Rows'.any-gone (Syntax.tyInt Syntax.w64)) (List._∷_ (23, Rows'.any-gone (Syntax.tyRef Syntax.erased Syntax.imm (Syntax.tyInt Syntax.w8))) (List._∷_ (24, Rows'.sslice (Referent.rtF (Referent.fInt Syntax.w8)) (Syntax.tyRef Syntax.erased Syntax.imm (Syntax.tyInt Syntax.w8)) 2) (List._∷_ (25, Rows'.any-gone (Syntax.tyRef Syntax.erased Syntax.mut (Syntax.tyInt Syntax.w8))) (List._∷_ (26, Mut.mslice (Referent.rtF (Referent.fInt Syntax.w8)) (Syntax.tyRef Syntax.erased Syntax.mut (Syntax.tyInt Syntax.w8)) 6) List.[]))))))))))
+t34 = List._∷_ (16, Rows'.any-gone Laws'4.mir) (List._∷_ (17, Rows'.any-gone (Syntax.tyRef Syntax.erased Syntax.mut (Memory·T.pointee (Client·T.the-row .written)))) (List._∷_ (18, Mut.mslice Client·T.the-row (Syntax.tyRef Syntax.erased Syntax.mut (Memory·T.pointee (Client·T.the-row .written))) 4) (List._∷_ (19, Rows'.any-gone (Syntax.tyRef Syntax.erased Syntax.mut (Syntax.tyInt Syntax.w8))) (List._∷_ (20, Mut.mslice (Referent.rtF (Referent.fInt Syntax.w8)) (Syntax.tyRef Syntax.erased Syntax.mut (Syntax.tyInt Syntax.w8)) 5) (List._∷_ (21, Rows'.any-gone Syntax.tyPtr) (List._∷_ (22, Rows'.any-gone (Syntax.tyInt Syntax.w64)) (List._∷_ (23, Rows'.any-gone (Syntax.tyRef Syntax.erased Syntax.imm (Syntax.tyInt Syntax.w8))) (List._∷_ (24, Rows'.sslice (Referent.rtF (Referent.fInt Syntax.w8)) (Syntax.tyRef Syntax.erased Syntax.imm (Syntax.tyInt Syntax.w8)) 2) (List._∷_ (25, Rows'.any-gone (Syntax.tyRef Syntax.erased Syntax.mut (Syntax.tyInt Syntax.w8))) (List._∷_ (26, Mut.mslice (Referent.rtF (Referent.fInt Syntax.w8)) (Syntax.tyRef Syntax.erased Syntax.mut (Syntax.tyInt Syntax.w8)) 6) List.[]))))))))))
 
 abbrev pub t35 : List.List Row.Entry
-t35 = List._∷_ (0, Rows'.any-gone Laws'6.mir) (List._∷_ (1, Relend.mslice-owed Client·T.the-row (Syntax.tyRef (Syntax.named 0) Syntax.mut (Memory·T.pointee (Client·T.the-row .written))) 0 4 Row.off) (List._∷_ (2, Relend.mslice-owed (Referent.rtF (Referent.fInt Syntax.w8)) (Syntax.tyRef (Syntax.named 1) Syntax.mut (Syntax.tyInt Syntax.w8)) 1 5 Row.off) (List._∷_ (3, Rows'.sc-here (Row.sInt Syntax.w64)) (List._∷_ (4, Rows'.sc-here (Row.sInt Syntax.w64)) (List._∷_ (5, Rows'.any-gone (Syntax.tyArray (Syntax.tyInt Syntax.w8) 4)) (List._∷_ (6, Rows'.any-gone (Syntax.tyArray (Syntax.tyInt Syntax.w8) 4)) (List._∷_ (7, Rows'.sslice (Referent.rtF (Referent.fInt Syntax.w8)) (Syntax.tyRef (Syntax.named 2) Syntax.imm (Syntax.tyInt Syntax.w8)) 2) (List._∷_ (8, Relend.mslice-owed (Referent.rtF (Referent.fInt Syntax.w8)) (Syntax.tyRef (Syntax.named 3) Syntax.mut (Syntax.tyInt Syntax.w8)) 3 6 Row.off) (List._∷_ (9, Rows'.any-gone Laws.mir) (List._∷_ (10, Rows'.any-gone Laws'5.mir) (List._∷_ (11, Rows'.any-gone Laws''.mir) (List._∷_ (12, Rows'.whole (Declared'.row Arrival.the-type)) (List._∷_ (13, Rows'.sc-here (Row.sInt Syntax.w64)) (List._∷_ (14, Rows'.sc-here (Row.sInt Syntax.w64)) (List._∷_ (15, Rows'.whole (Declared.row Answer.the-type)) List.[])))))))))))))))
+t35 = List._∷_ (0, Rows'.any-gone Laws'4.mir) (List._∷_ (1, Relend.mslice-owed Client·T.the-row (Syntax.tyRef (Syntax.named 0) Syntax.mut (Memory·T.pointee (Client·T.the-row .written))) 0 4 Row.off) (List._∷_ (2, Relend.mslice-owed (Referent.rtF (Referent.fInt Syntax.w8)) (Syntax.tyRef (Syntax.named 1) Syntax.mut (Syntax.tyInt Syntax.w8)) 1 5 Row.off) (List._∷_ (3, Rows'.sc-here (Row.sInt Syntax.w64)) (List._∷_ (4, Rows'.sc-here (Row.sInt Syntax.w64)) (List._∷_ (5, Rows'.any-gone (Syntax.tyArray (Syntax.tyInt Syntax.w8) 4)) (List._∷_ (6, Rows'.any-gone (Syntax.tyArray (Syntax.tyInt Syntax.w8) 4)) (List._∷_ (7, Rows'.sslice (Referent.rtF (Referent.fInt Syntax.w8)) (Syntax.tyRef (Syntax.named 2) Syntax.imm (Syntax.tyInt Syntax.w8)) 2) (List._∷_ (8, Relend.mslice-owed (Referent.rtF (Referent.fInt Syntax.w8)) (Syntax.tyRef (Syntax.named 3) Syntax.mut (Syntax.tyInt Syntax.w8)) 3 6 Row.off) (List._∷_ (9, Rows'.any-gone Laws'6.mir) (List._∷_ (10, Rows'.any-gone Laws'3.mir) (List._∷_ (11, Rows'.any-gone Laws'5.mir) (List._∷_ (12, Rows'.whole (Declared'.row Arrival.the-type)) (List._∷_ (13, Rows'.sc-here (Row.sInt Syntax.w64)) (List._∷_ (14, Rows'.sc-here (Row.sInt Syntax.w64)) (List._∷_ (15, Rows'.whole (Declared.row Answer.the-type)) List.[])))))))))))))))
 
 abbrev pub t36 : List.List Row.Entry
-t36 = List._∷_ (16, Rows'.any-gone Laws'6.mir) (List._∷_ (17, Rows'.any-gone (Syntax.tyRef Syntax.erased Syntax.mut (Memory·T.pointee (Client·T.the-row .written)))) (List._∷_ (18, Mut.msleft Client·T.the-row (Syntax.tyRef Syntax.erased Syntax.mut (Memory·T.pointee (Client·T.the-row .written)))) (List._∷_ (19, Rows'.any-gone (Syntax.tyRef Syntax.erased Syntax.mut (Syntax.tyInt Syntax.w8))) (List._∷_ (20, Mut.msleft (Referent.rtF (Referent.fInt Syntax.w8)) (Syntax.tyRef Syntax.erased Syntax.mut (Syntax.tyInt Syntax.w8))) (List._∷_ (21, Rows'.any-gone Syntax.tyPtr) (List._∷_ (22, Rows'.any-gone (Syntax.tyInt Syntax.w64)) (List._∷_ (23, Rows'.any-gone (Syntax.tyRef Syntax.erased Syntax.imm (Syntax.tyInt Syntax.w8))) (List._∷_ (24, Rows'.sslice (Referent.rtF (Referent.fInt Syntax.w8)) (Syntax.tyRef Syntax.erased Syntax.imm (Syntax.tyInt Syntax.w8)) 2) (List._∷_ (25, Rows'.any-gone (Syntax.tyRef Syntax.erased Syntax.mut (Syntax.tyInt Syntax.w8))) (List._∷_ (26, Mut.msleft (Referent.rtF (Referent.fInt Syntax.w8)) (Syntax.tyRef Syntax.erased Syntax.mut (Syntax.tyInt Syntax.w8))) List.[]))))))))))
+t36 = List._∷_ (16, Rows'.any-gone Laws'4.mir) (List._∷_ (17, Rows'.any-gone (Syntax.tyRef Syntax.erased Syntax.mut (Memory·T.pointee (Client·T.the-row .written)))) (List._∷_ (18, Mut.msleft Client·T.the-row (Syntax.tyRef Syntax.erased Syntax.mut (Memory·T.pointee (Client·T.the-row .written)))) (List._∷_ (19, Rows'.any-gone (Syntax.tyRef Syntax.erased Syntax.mut (Syntax.tyInt Syntax.w8))) (List._∷_ (20, Mut.msleft (Referent.rtF (Referent.fInt Syntax.w8)) (Syntax.tyRef Syntax.erased Syntax.mut (Syntax.tyInt Syntax.w8))) (List._∷_ (21, Rows'.any-gone Syntax.tyPtr) (List._∷_ (22, Rows'.any-gone (Syntax.tyInt Syntax.w64)) (List._∷_ (23, Rows'.any-gone (Syntax.tyRef Syntax.erased Syntax.imm (Syntax.tyInt Syntax.w8))) (List._∷_ (24, Rows'.sslice (Referent.rtF (Referent.fInt Syntax.w8)) (Syntax.tyRef Syntax.erased Syntax.imm (Syntax.tyInt Syntax.w8)) 2) (List._∷_ (25, Rows'.any-gone (Syntax.tyRef Syntax.erased Syntax.mut (Syntax.tyInt Syntax.w8))) (List._∷_ (26, Mut.msleft (Referent.rtF (Referent.fInt Syntax.w8)) (Syntax.tyRef Syntax.erased Syntax.mut (Syntax.tyInt Syntax.w8))) List.[]))))))))))
 
 abbrev pub t37 : List.List Row.Entry
-t37 = List._∷_ (16, Rows'.any-gone Laws'6.mir) (List._∷_ (17, Rows'.any-gone (Syntax.tyRef Syntax.erased Syntax.mut (Memory·T.pointee (Client·T.the-row .written)))) (List._∷_ (18, Mut.msleft Client·T.the-row (Syntax.tyRef Syntax.erased Syntax.mut (Memory·T.pointee (Client·T.the-row .written)))) (List._∷_ (19, Rows'.any-gone (Syntax.tyRef Syntax.erased Syntax.mut (Syntax.tyInt Syntax.w8))) (List._∷_ (20, Mut.msleft (Referent.rtF (Referent.fInt Syntax.w8)) (Syntax.tyRef Syntax.erased Syntax.mut (Syntax.tyInt Syntax.w8))) (List._∷_ (21, Rows'.any-gone Syntax.tyPtr) (List._∷_ (22, Rows'.any-gone (Syntax.tyInt Syntax.w64)) (List._∷_ (23, Rows'.any-gone (Syntax.tyRef Syntax.erased Syntax.imm (Syntax.tyInt Syntax.w8))) (List._∷_ (24, Rows'.any-gone (Syntax.tyStruct (List._∷_ 38 (List._∷_ 91 (List._∷_ 93 List.[]))) (Syntax.tcons (Syntax.tyRef Syntax.erased Syntax.imm (Syntax.tyInt Syntax.w8)) (Syntax.tcons (Syntax.tyInt Syntax.w64) Syntax.tnil)))) (List._∷_ (25, Rows'.any-gone (Syntax.tyRef Syntax.erased Syntax.mut (Syntax.tyInt Syntax.w8))) (List._∷_ (26, Mut.msleft (Referent.rtF (Referent.fInt Syntax.w8)) (Syntax.tyRef Syntax.erased Syntax.mut (Syntax.tyInt Syntax.w8))) List.[]))))))))))
+t37 = List._∷_ (16, Rows'.any-gone Laws'4.mir) (List._∷_ (17, Rows'.any-gone (Syntax.tyRef Syntax.erased Syntax.mut (Memory·T.pointee (Client·T.the-row .written)))) (List._∷_ (18, Mut.msleft Client·T.the-row (Syntax.tyRef Syntax.erased Syntax.mut (Memory·T.pointee (Client·T.the-row .written)))) (List._∷_ (19, Rows'.any-gone (Syntax.tyRef Syntax.erased Syntax.mut (Syntax.tyInt Syntax.w8))) (List._∷_ (20, Mut.msleft (Referent.rtF (Referent.fInt Syntax.w8)) (Syntax.tyRef Syntax.erased Syntax.mut (Syntax.tyInt Syntax.w8))) (List._∷_ (21, Rows'.any-gone Syntax.tyPtr) (List._∷_ (22, Rows'.any-gone (Syntax.tyInt Syntax.w64)) (List._∷_ (23, Rows'.any-gone (Syntax.tyRef Syntax.erased Syntax.imm (Syntax.tyInt Syntax.w8))) (List._∷_ (24, Rows'.any-gone (Syntax.tyStruct (List._∷_ 38 (List._∷_ 91 (List._∷_ 93 List.[]))) (Syntax.tcons (Syntax.tyRef Syntax.erased Syntax.imm (Syntax.tyInt Syntax.w8)) (Syntax.tcons (Syntax.tyInt Syntax.w64) Syntax.tnil)))) (List._∷_ (25, Rows'.any-gone (Syntax.tyRef Syntax.erased Syntax.mut (Syntax.tyInt Syntax.w8))) (List._∷_ (26, Mut.msleft (Referent.rtF (Referent.fInt Syntax.w8)) (Syntax.tyRef Syntax.erased Syntax.mut (Syntax.tyInt Syntax.w8))) List.[]))))))))))
 
 abbrev pub t38 : List.List Row.Entry
-t38 = List._∷_ (0, Rows'.any-gone Laws'6.mir) (List._∷_ (1, Relend.mslice-owed Client·T.the-row (Syntax.tyRef (Syntax.named 0) Syntax.mut (Memory·T.pointee (Client·T.the-row .written))) 0 4 Row.off) (List._∷_ (2, Relend.mslice-owed (Referent.rtF (Referent.fInt Syntax.w8)) (Syntax.tyRef (Syntax.named 1) Syntax.mut (Syntax.tyInt Syntax.w8)) 1 5 Row.off) (List._∷_ (3, Rows'.sc-here (Row.sInt Syntax.w64)) (List._∷_ (4, Rows'.sc-here (Row.sInt Syntax.w64)) (List._∷_ (5, Rows'.any-gone (Syntax.tyArray (Syntax.tyInt Syntax.w8) 4)) (List._∷_ (6, Rows'.any-gone (Syntax.tyArray (Syntax.tyInt Syntax.w8) 4)) (List._∷_ (7, Rows'.sslice (Referent.rtF (Referent.fInt Syntax.w8)) (Syntax.tyRef (Syntax.named 2) Syntax.imm (Syntax.tyInt Syntax.w8)) 2) (List._∷_ (8, Relend.mslice-owed (Referent.rtF (Referent.fInt Syntax.w8)) (Syntax.tyRef (Syntax.named 3) Syntax.mut (Syntax.tyInt Syntax.w8)) 3 6 Row.off) (List._∷_ (9, Rows'.any-gone Laws.mir) (List._∷_ (10, Rows'.any-gone Laws'5.mir) (List._∷_ (11, Rows'.any-gone Laws''.mir) (List._∷_ (12, Rows'.any-gone Laws'4.mir) (List._∷_ (13, Rows'.sc-here (Row.sInt Syntax.w64)) (List._∷_ (14, Rows'.sc-here (Row.sInt Syntax.w64)) (List._∷_ (15, Rows'.whole (Declared.row Answer.the-type)) List.[])))))))))))))))
+t38 = List._∷_ (0, Rows'.any-gone Laws'4.mir) (List._∷_ (1, Relend.mslice-owed Client·T.the-row (Syntax.tyRef (Syntax.named 0) Syntax.mut (Memory·T.pointee (Client·T.the-row .written))) 0 4 Row.off) (List._∷_ (2, Relend.mslice-owed (Referent.rtF (Referent.fInt Syntax.w8)) (Syntax.tyRef (Syntax.named 1) Syntax.mut (Syntax.tyInt Syntax.w8)) 1 5 Row.off) (List._∷_ (3, Rows'.sc-here (Row.sInt Syntax.w64)) (List._∷_ (4, Rows'.sc-here (Row.sInt Syntax.w64)) (List._∷_ (5, Rows'.any-gone (Syntax.tyArray (Syntax.tyInt Syntax.w8) 4)) (List._∷_ (6, Rows'.any-gone (Syntax.tyArray (Syntax.tyInt Syntax.w8) 4)) (List._∷_ (7, Rows'.sslice (Referent.rtF (Referent.fInt Syntax.w8)) (Syntax.tyRef (Syntax.named 2) Syntax.imm (Syntax.tyInt Syntax.w8)) 2) (List._∷_ (8, Relend.mslice-owed (Referent.rtF (Referent.fInt Syntax.w8)) (Syntax.tyRef (Syntax.named 3) Syntax.mut (Syntax.tyInt Syntax.w8)) 3 6 Row.off) (List._∷_ (9, Rows'.any-gone Laws'6.mir) (List._∷_ (10, Rows'.any-gone Laws'3.mir) (List._∷_ (11, Rows'.any-gone Laws'5.mir) (List._∷_ (12, Rows'.any-gone Laws'.mir) (List._∷_ (13, Rows'.sc-here (Row.sInt Syntax.w64)) (List._∷_ (14, Rows'.sc-here (Row.sInt Syntax.w64)) (List._∷_ (15, Rows'.whole (Declared.row Answer.the-type)) List.[])))))))))))))))
 
 abbrev pub t39 : List.List Row.Entry
-t39 = List._∷_ (0, Rows'.any-gone Laws'6.mir) (List._∷_ (1, Mut.mslice Client·T.the-row (Syntax.tyRef (Syntax.named 0) Syntax.mut (Memory·T.pointee (Client·T.the-row .written))) 0) (List._∷_ (2, Relend.mslice-owed (Referent.rtF (Referent.fInt Syntax.w8)) (Syntax.tyRef (Syntax.named 1) Syntax.mut (Syntax.tyInt Syntax.w8)) 1 5 Row.off) (List._∷_ (3, Rows'.sc-here (Row.sInt Syntax.w64)) (List._∷_ (4, Rows'.sc-here (Row.sInt Syntax.w64)) (List._∷_ (5, Rows'.any-gone (Syntax.tyArray (Syntax.tyInt Syntax.w8) 4)) (List._∷_ (6, Rows'.any-gone (Syntax.tyArray (Syntax.tyInt Syntax.w8) 4)) (List._∷_ (7, Rows'.sslice (Referent.rtF (Referent.fInt Syntax.w8)) (Syntax.tyRef (Syntax.named 2) Syntax.imm (Syntax.tyInt Syntax.w8)) 2) (List._∷_ (8, Relend.mslice-owed (Referent.rtF (Referent.fInt Syntax.w8)) (Syntax.tyRef (Syntax.named 3) Syntax.mut (Syntax.tyInt Syntax.w8)) 3 6 Row.off) (List._∷_ (9, Rows'.any-gone Laws.mir) (List._∷_ (10, Rows'.any-gone Laws'5.mir) (List._∷_ (11, Rows'.any-gone Laws''.mir) (List._∷_ (12, Rows'.any-gone Laws'4.mir) (List._∷_ (13, Rows'.sc-here (Row.sInt Syntax.w64)) (List._∷_ (14, Rows'.sc-here (Row.sInt Syntax.w64)) (List._∷_ (15, Rows'.whole (Declared.row Answer.the-type)) List.[])))))))))))))))
+t39 = List._∷_ (0, Rows'.any-gone Laws'4.mir) (List._∷_ (1, Mut.mslice Client·T.the-row (Syntax.tyRef (Syntax.named 0) Syntax.mut (Memory·T.pointee (Client·T.the-row .written))) 0) (List._∷_ (2, Relend.mslice-owed (Referent.rtF (Referent.fInt Syntax.w8)) (Syntax.tyRef (Syntax.named 1) Syntax.mut (Syntax.tyInt Syntax.w8)) 1 5 Row.off) (List._∷_ (3, Rows'.sc-here (Row.sInt Syntax.w64)) (List._∷_ (4, Rows'.sc-here (Row.sInt Syntax.w64)) (List._∷_ (5, Rows'.any-gone (Syntax.tyArray (Syntax.tyInt Syntax.w8) 4)) (List._∷_ (6, Rows'.any-gone (Syntax.tyArray (Syntax.tyInt Syntax.w8) 4)) (List._∷_ (7, Rows'.sslice (Referent.rtF (Referent.fInt Syntax.w8)) (Syntax.tyRef (Syntax.named 2) Syntax.imm (Syntax.tyInt Syntax.w8)) 2) (List._∷_ (8, Relend.mslice-owed (Referent.rtF (Referent.fInt Syntax.w8)) (Syntax.tyRef (Syntax.named 3) Syntax.mut (Syntax.tyInt Syntax.w8)) 3 6 Row.off) (List._∷_ (9, Rows'.any-gone Laws'6.mir) (List._∷_ (10, Rows'.any-gone Laws'3.mir) (List._∷_ (11, Rows'.any-gone Laws'5.mir) (List._∷_ (12, Rows'.any-gone Laws'.mir) (List._∷_ (13, Rows'.sc-here (Row.sInt Syntax.w64)) (List._∷_ (14, Rows'.sc-here (Row.sInt Syntax.w64)) (List._∷_ (15, Rows'.whole (Declared.row Answer.the-type)) List.[])))))))))))))))
 
 abbrev pub t40 : List.List Row.Entry
-t40 = List._∷_ (16, Rows'.any-gone Laws'6.mir) (List._∷_ (17, Rows'.any-gone (Syntax.tyRef Syntax.erased Syntax.mut (Memory·T.pointee (Client·T.the-row .written)))) (List._∷_ (18, Rows'.any-gone (Syntax.tyStruct (List._∷_ 38 (List._∷_ 91 (List._∷_ 93 List.[]))) (Syntax.tcons (Syntax.tyRef Syntax.erased Syntax.mut (Memory·T.pointee (Client·T.the-row .written))) (Syntax.tcons (Syntax.tyInt Syntax.w64) Syntax.tnil)))) (List._∷_ (19, Rows'.any-gone (Syntax.tyRef Syntax.erased Syntax.mut (Syntax.tyInt Syntax.w8))) (List._∷_ (20, Mut.msleft (Referent.rtF (Referent.fInt Syntax.w8)) (Syntax.tyRef Syntax.erased Syntax.mut (Syntax.tyInt Syntax.w8))) (List._∷_ (21, Rows'.any-gone Syntax.tyPtr) (List._∷_ (22, Rows'.any-gone (Syntax.tyInt Syntax.w64)) (List._∷_ (23, Rows'.any-gone (Syntax.tyRef Syntax.erased Syntax.imm (Syntax.tyInt Syntax.w8))) (List._∷_ (24, Rows'.any-gone (Syntax.tyStruct (List._∷_ 38 (List._∷_ 91 (List._∷_ 93 List.[]))) (Syntax.tcons (Syntax.tyRef Syntax.erased Syntax.imm (Syntax.tyInt Syntax.w8)) (Syntax.tcons (Syntax.tyInt Syntax.w64) Syntax.tnil)))) (List._∷_ (25, Rows'.any-gone (Syntax.tyRef Syntax.erased Syntax.mut (Syntax.tyInt Syntax.w8))) (List._∷_ (26, Mut.msleft (Referent.rtF (Referent.fInt Syntax.w8)) (Syntax.tyRef Syntax.erased Syntax.mut (Syntax.tyInt Syntax.w8))) List.[]))))))))))
+t40 = List._∷_ (16, Rows'.any-gone Laws'4.mir) (List._∷_ (17, Rows'.any-gone (Syntax.tyRef Syntax.erased Syntax.mut (Memory·T.pointee (Client·T.the-row .written)))) (List._∷_ (18, Rows'.any-gone (Syntax.tyStruct (List._∷_ 38 (List._∷_ 91 (List._∷_ 93 List.[]))) (Syntax.tcons (Syntax.tyRef Syntax.erased Syntax.mut (Memory·T.pointee (Client·T.the-row .written))) (Syntax.tcons (Syntax.tyInt Syntax.w64) Syntax.tnil)))) (List._∷_ (19, Rows'.any-gone (Syntax.tyRef Syntax.erased Syntax.mut (Syntax.tyInt Syntax.w8))) (List._∷_ (20, Mut.msleft (Referent.rtF (Referent.fInt Syntax.w8)) (Syntax.tyRef Syntax.erased Syntax.mut (Syntax.tyInt Syntax.w8))) (List._∷_ (21, Rows'.any-gone Syntax.tyPtr) (List._∷_ (22, Rows'.any-gone (Syntax.tyInt Syntax.w64)) (List._∷_ (23, Rows'.any-gone (Syntax.tyRef Syntax.erased Syntax.imm (Syntax.tyInt Syntax.w8))) (List._∷_ (24, Rows'.any-gone (Syntax.tyStruct (List._∷_ 38 (List._∷_ 91 (List._∷_ 93 List.[]))) (Syntax.tcons (Syntax.tyRef Syntax.erased Syntax.imm (Syntax.tyInt Syntax.w8)) (Syntax.tcons (Syntax.tyInt Syntax.w64) Syntax.tnil)))) (List._∷_ (25, Rows'.any-gone (Syntax.tyRef Syntax.erased Syntax.mut (Syntax.tyInt Syntax.w8))) (List._∷_ (26, Mut.msleft (Referent.rtF (Referent.fInt Syntax.w8)) (Syntax.tyRef Syntax.erased Syntax.mut (Syntax.tyInt Syntax.w8))) List.[]))))))))))
 
 abbrev pub t41 : List.List Row.Entry
-t41 = List._∷_ (0, Rows'.any-gone Laws'6.mir) (List._∷_ (1, Mut.mslice Client·T.the-row (Syntax.tyRef (Syntax.named 0) Syntax.mut (Memory·T.pointee (Client·T.the-row .written))) 0) (List._∷_ (2, Mut.mslice (Referent.rtF (Referent.fInt Syntax.w8)) (Syntax.tyRef (Syntax.named 1) Syntax.mut (Syntax.tyInt Syntax.w8)) 1) (List._∷_ (3, Rows'.sc-here (Row.sInt Syntax.w64)) (List._∷_ (4, Rows'.sc-here (Row.sInt Syntax.w64)) (List._∷_ (5, Rows'.any-gone (Syntax.tyArray (Syntax.tyInt Syntax.w8) 4)) (List._∷_ (6, Rows'.any-gone (Syntax.tyArray (Syntax.tyInt Syntax.w8) 4)) (List._∷_ (7, Rows'.sslice (Referent.rtF (Referent.fInt Syntax.w8)) (Syntax.tyRef (Syntax.named 2) Syntax.imm (Syntax.tyInt Syntax.w8)) 2) (List._∷_ (8, Relend.mslice-owed (Referent.rtF (Referent.fInt Syntax.w8)) (Syntax.tyRef (Syntax.named 3) Syntax.mut (Syntax.tyInt Syntax.w8)) 3 6 Row.off) (List._∷_ (9, Rows'.any-gone Laws.mir) (List._∷_ (10, Rows'.any-gone Laws'5.mir) (List._∷_ (11, Rows'.any-gone Laws''.mir) (List._∷_ (12, Rows'.any-gone Laws'4.mir) (List._∷_ (13, Rows'.sc-here (Row.sInt Syntax.w64)) (List._∷_ (14, Rows'.sc-here (Row.sInt Syntax.w64)) (List._∷_ (15, Rows'.whole (Declared.row Answer.the-type)) List.[])))))))))))))))
+t41 = List._∷_ (0, Rows'.any-gone Laws'4.mir) (List._∷_ (1, Mut.mslice Client·T.the-row (Syntax.tyRef (Syntax.named 0) Syntax.mut (Memory·T.pointee (Client·T.the-row .written))) 0) (List._∷_ (2, Mut.mslice (Referent.rtF (Referent.fInt Syntax.w8)) (Syntax.tyRef (Syntax.named 1) Syntax.mut (Syntax.tyInt Syntax.w8)) 1) (List._∷_ (3, Rows'.sc-here (Row.sInt Syntax.w64)) (List._∷_ (4, Rows'.sc-here (Row.sInt Syntax.w64)) (List._∷_ (5, Rows'.any-gone (Syntax.tyArray (Syntax.tyInt Syntax.w8) 4)) (List._∷_ (6, Rows'.any-gone (Syntax.tyArray (Syntax.tyInt Syntax.w8) 4)) (List._∷_ (7, Rows'.sslice (Referent.rtF (Referent.fInt Syntax.w8)) (Syntax.tyRef (Syntax.named 2) Syntax.imm (Syntax.tyInt Syntax.w8)) 2) (List._∷_ (8, Relend.mslice-owed (Referent.rtF (Referent.fInt Syntax.w8)) (Syntax.tyRef (Syntax.named 3) Syntax.mut (Syntax.tyInt Syntax.w8)) 3 6 Row.off) (List._∷_ (9, Rows'.any-gone Laws'6.mir) (List._∷_ (10, Rows'.any-gone Laws'3.mir) (List._∷_ (11, Rows'.any-gone Laws'5.mir) (List._∷_ (12, Rows'.any-gone Laws'.mir) (List._∷_ (13, Rows'.sc-here (Row.sInt Syntax.w64)) (List._∷_ (14, Rows'.sc-here (Row.sInt Syntax.w64)) (List._∷_ (15, Rows'.whole (Declared.row Answer.the-type)) List.[])))))))))))))))
 
 abbrev pub t42 : List.List Row.Entry
-t42 = List._∷_ (16, Rows'.any-gone Laws'6.mir) (List._∷_ (17, Rows'.any-gone (Syntax.tyRef Syntax.erased Syntax.mut (Memory·T.pointee (Client·T.the-row .written)))) (List._∷_ (18, Rows'.any-gone (Syntax.tyStruct (List._∷_ 38 (List._∷_ 91 (List._∷_ 93 List.[]))) (Syntax.tcons (Syntax.tyRef Syntax.erased Syntax.mut (Memory·T.pointee (Client·T.the-row .written))) (Syntax.tcons (Syntax.tyInt Syntax.w64) Syntax.tnil)))) (List._∷_ (19, Rows'.any-gone (Syntax.tyRef Syntax.erased Syntax.mut (Syntax.tyInt Syntax.w8))) (List._∷_ (20, Rows'.any-gone (Syntax.tyStruct (List._∷_ 38 (List._∷_ 91 (List._∷_ 93 List.[]))) (Syntax.tcons (Syntax.tyRef Syntax.erased Syntax.mut (Syntax.tyInt Syntax.w8)) (Syntax.tcons (Syntax.tyInt Syntax.w64) Syntax.tnil)))) (List._∷_ (21, Rows'.any-gone Syntax.tyPtr) (List._∷_ (22, Rows'.any-gone (Syntax.tyInt Syntax.w64)) (List._∷_ (23, Rows'.any-gone (Syntax.tyRef Syntax.erased Syntax.imm (Syntax.tyInt Syntax.w8))) (List._∷_ (24, Rows'.any-gone (Syntax.tyStruct (List._∷_ 38 (List._∷_ 91 (List._∷_ 93 List.[]))) (Syntax.tcons (Syntax.tyRef Syntax.erased Syntax.imm (Syntax.tyInt Syntax.w8)) (Syntax.tcons (Syntax.tyInt Syntax.w64) Syntax.tnil)))) (List._∷_ (25, Rows'.any-gone (Syntax.tyRef Syntax.erased Syntax.mut (Syntax.tyInt Syntax.w8))) (List._∷_ (26, Mut.msleft (Referent.rtF (Referent.fInt Syntax.w8)) (Syntax.tyRef Syntax.erased Syntax.mut (Syntax.tyInt Syntax.w8))) List.[]))))))))))
+t42 = List._∷_ (16, Rows'.any-gone Laws'4.mir) (List._∷_ (17, Rows'.any-gone (Syntax.tyRef Syntax.erased Syntax.mut (Memory·T.pointee (Client·T.the-row .written)))) (List._∷_ (18, Rows'.any-gone (Syntax.tyStruct (List._∷_ 38 (List._∷_ 91 (List._∷_ 93 List.[]))) (Syntax.tcons (Syntax.tyRef Syntax.erased Syntax.mut (Memory·T.pointee (Client·T.the-row .written))) (Syntax.tcons (Syntax.tyInt Syntax.w64) Syntax.tnil)))) (List._∷_ (19, Rows'.any-gone (Syntax.tyRef Syntax.erased Syntax.mut (Syntax.tyInt Syntax.w8))) (List._∷_ (20, Rows'.any-gone (Syntax.tyStruct (List._∷_ 38 (List._∷_ 91 (List._∷_ 93 List.[]))) (Syntax.tcons (Syntax.tyRef Syntax.erased Syntax.mut (Syntax.tyInt Syntax.w8)) (Syntax.tcons (Syntax.tyInt Syntax.w64) Syntax.tnil)))) (List._∷_ (21, Rows'.any-gone Syntax.tyPtr) (List._∷_ (22, Rows'.any-gone (Syntax.tyInt Syntax.w64)) (List._∷_ (23, Rows'.any-gone (Syntax.tyRef Syntax.erased Syntax.imm (Syntax.tyInt Syntax.w8))) (List._∷_ (24, Rows'.any-gone (Syntax.tyStruct (List._∷_ 38 (List._∷_ 91 (List._∷_ 93 List.[]))) (Syntax.tcons (Syntax.tyRef Syntax.erased Syntax.imm (Syntax.tyInt Syntax.w8)) (Syntax.tcons (Syntax.tyInt Syntax.w64) Syntax.tnil)))) (List._∷_ (25, Rows'.any-gone (Syntax.tyRef Syntax.erased Syntax.mut (Syntax.tyInt Syntax.w8))) (List._∷_ (26, Mut.msleft (Referent.rtF (Referent.fInt Syntax.w8)) (Syntax.tyRef Syntax.erased Syntax.mut (Syntax.tyInt Syntax.w8))) List.[]))))))))))
 
 abbrev pub t43 : List.List Row.Entry
-t43 = List._∷_ (0, Rows'.any-gone Laws'6.mir) (List._∷_ (1, Mut.mslice Client·T.the-row (Syntax.tyRef (Syntax.named 0) Syntax.mut (Memory·T.pointee (Client·T.the-row .written))) 0) (List._∷_ (2, Mut.mslice (Referent.rtF (Referent.fInt Syntax.w8)) (Syntax.tyRef (Syntax.named 1) Syntax.mut (Syntax.tyInt Syntax.w8)) 1) (List._∷_ (3, Rows'.sc-here (Row.sInt Syntax.w64)) (List._∷_ (4, Rows'.sc-here (Row.sInt Syntax.w64)) (List._∷_ (5, Rows'.any-gone (Syntax.tyArray (Syntax.tyInt Syntax.w8) 4)) (List._∷_ (6, Rows'.any-gone (Syntax.tyArray (Syntax.tyInt Syntax.w8) 4)) (List._∷_ (7, Rows'.sslice (Referent.rtF (Referent.fInt Syntax.w8)) (Syntax.tyRef (Syntax.named 2) Syntax.imm (Syntax.tyInt Syntax.w8)) 2) (List._∷_ (8, Mut.mslice (Referent.rtF (Referent.fInt Syntax.w8)) (Syntax.tyRef (Syntax.named 3) Syntax.mut (Syntax.tyInt Syntax.w8)) 3) (List._∷_ (9, Rows'.any-gone Laws.mir) (List._∷_ (10, Rows'.any-gone Laws'5.mir) (List._∷_ (11, Rows'.any-gone Laws''.mir) (List._∷_ (12, Rows'.any-gone Laws'4.mir) (List._∷_ (13, Rows'.sc-here (Row.sInt Syntax.w64)) (List._∷_ (14, Rows'.sc-here (Row.sInt Syntax.w64)) (List._∷_ (15, Rows'.whole (Declared.row Answer.the-type)) List.[])))))))))))))))
+t43 = List._∷_ (0, Rows'.any-gone Laws'4.mir) (List._∷_ (1, Mut.mslice Client·T.the-row (Syntax.tyRef (Syntax.named 0) Syntax.mut (Memory·T.pointee (Client·T.the-row .written))) 0) (List._∷_ (2, Mut.mslice (Referent.rtF (Referent.fInt Syntax.w8)) (Syntax.tyRef (Syntax.named 1) Syntax.mut (Syntax.tyInt Syntax.w8)) 1) (List._∷_ (3, Rows'.sc-here (Row.sInt Syntax.w64)) (List._∷_ (4, Rows'.sc-here (Row.sInt Syntax.w64)) (List._∷_ (5, Rows'.any-gone (Syntax.tyArray (Syntax.tyInt Syntax.w8) 4)) (List._∷_ (6, Rows'.any-gone (Syntax.tyArray (Syntax.tyInt Syntax.w8) 4)) (List._∷_ (7, Rows'.sslice (Referent.rtF (Referent.fInt Syntax.w8)) (Syntax.tyRef (Syntax.named 2) Syntax.imm (Syntax.tyInt Syntax.w8)) 2) (List._∷_ (8, Mut.mslice (Referent.rtF (Referent.fInt Syntax.w8)) (Syntax.tyRef (Syntax.named 3) Syntax.mut (Syntax.tyInt Syntax.w8)) 3) (List._∷_ (9, Rows'.any-gone Laws'6.mir) (List._∷_ (10, Rows'.any-gone Laws'3.mir) (List._∷_ (11, Rows'.any-gone Laws'5.mir) (List._∷_ (12, Rows'.any-gone Laws'.mir) (List._∷_ (13, Rows'.sc-here (Row.sInt Syntax.w64)) (List._∷_ (14, Rows'.sc-here (Row.sInt Syntax.w64)) (List._∷_ (15, Rows'.whole (Declared.row Answer.the-type)) List.[])))))))))))))))
 
 abbrev pub t44 : List.List Row.Entry
-t44 = List._∷_ (0, Rows'.any-gone Laws'6.mir) (List._∷_ (1, Mut.mslice Client·T.the-row (Syntax.tyRef (Syntax.named 0) Syntax.mut (Memory·T.pointee (Client·T.the-row .written))) 0) (List._∷_ (2, Mut.mslice (Referent.rtF (Referent.fInt Syntax.w8)) (Syntax.tyRef (Syntax.named 1) Syntax.mut (Syntax.tyInt Syntax.w8)) 1) (List._∷_ (3, Rows'.sc-here (Row.sInt Syntax.w64)) (List._∷_ (4, Rows'.sc-here (Row.sInt Syntax.w64)) (List._∷_ (5, Rows'.any-gone (Syntax.tyArray (Syntax.tyInt Syntax.w8) 4)) (List._∷_ (6, Rows'.any-gone (Syntax.tyArray (Syntax.tyInt Syntax.w8) 4)) (List._∷_ (7, Rows'.sslice (Referent.rtF (Referent.fInt Syntax.w8)) (Syntax.tyRef (Syntax.named 2) Syntax.imm (Syntax.tyInt Syntax.w8)) 2) (List._∷_ (8, Mut.mslice (Referent.rtF (Referent.fInt Syntax.w8)) (Syntax.tyRef (Syntax.named 3) Syntax.mut (Syntax.tyInt Syntax.w8)) 3) (List._∷_ (9, Rows'.any-gone Laws.mir) (List._∷_ (10, Rows'.any-gone Laws'5.mir) (List._∷_ (11, Rows'.any-gone Laws''.mir) (List._∷_ (12, Rows'.any-gone Laws'4.mir) (List._∷_ (13, Rows'.any-gone (Syntax.tyInt Syntax.w64)) (List._∷_ (14, Rows'.sc-here (Row.sInt Syntax.w64)) (List._∷_ (15, Rows'.whole (Declared.row Answer.the-type)) List.[])))))))))))))))
+t44 = List._∷_ (0, Rows'.any-gone Laws'4.mir) (List._∷_ (1, Mut.mslice Client·T.the-row (Syntax.tyRef (Syntax.named 0) Syntax.mut (Memory·T.pointee (Client·T.the-row .written))) 0) (List._∷_ (2, Mut.mslice (Referent.rtF (Referent.fInt Syntax.w8)) (Syntax.tyRef (Syntax.named 1) Syntax.mut (Syntax.tyInt Syntax.w8)) 1) (List._∷_ (3, Rows'.sc-here (Row.sInt Syntax.w64)) (List._∷_ (4, Rows'.sc-here (Row.sInt Syntax.w64)) (List._∷_ (5, Rows'.any-gone (Syntax.tyArray (Syntax.tyInt Syntax.w8) 4)) (List._∷_ (6, Rows'.any-gone (Syntax.tyArray (Syntax.tyInt Syntax.w8) 4)) (List._∷_ (7, Rows'.sslice (Referent.rtF (Referent.fInt Syntax.w8)) (Syntax.tyRef (Syntax.named 2) Syntax.imm (Syntax.tyInt Syntax.w8)) 2) (List._∷_ (8, Mut.mslice (Referent.rtF (Referent.fInt Syntax.w8)) (Syntax.tyRef (Syntax.named 3) Syntax.mut (Syntax.tyInt Syntax.w8)) 3) (List._∷_ (9, Rows'.any-gone Laws'6.mir) (List._∷_ (10, Rows'.any-gone Laws'3.mir) (List._∷_ (11, Rows'.any-gone Laws'5.mir) (List._∷_ (12, Rows'.any-gone Laws'.mir) (List._∷_ (13, Rows'.any-gone (Syntax.tyInt Syntax.w64)) (List._∷_ (14, Rows'.sc-here (Row.sInt Syntax.w64)) (List._∷_ (15, Rows'.whole (Declared.row Answer.the-type)) List.[])))))))))))))))
 
 abbrev pub t45 : List.List Row.Entry
-t45 = List._∷_ (0, Rows'.any-gone Laws'6.mir) (List._∷_ (1, Mut.mslice Client·T.the-row (Syntax.tyRef (Syntax.named 0) Syntax.mut (Memory·T.pointee (Client·T.the-row .written))) 0) (List._∷_ (2, Mut.mslice (Referent.rtF (Referent.fInt Syntax.w8)) (Syntax.tyRef (Syntax.named 1) Syntax.mut (Syntax.tyInt Syntax.w8)) 1) (List._∷_ (3, Rows'.sc-here (Row.sInt Syntax.w64)) (List._∷_ (4, Rows'.sc-here (Row.sInt Syntax.w64)) (List._∷_ (5, Rows'.any-gone (Syntax.tyArray (Syntax.tyInt Syntax.w8) 4)) (List._∷_ (6, Rows'.any-gone (Syntax.tyArray (Syntax.tyInt Syntax.w8) 4)) (List._∷_ (7, Rows'.sslice (Referent.rtF (Referent.fInt Syntax.w8)) (Syntax.tyRef (Syntax.named 2) Syntax.imm (Syntax.tyInt Syntax.w8)) 2) (List._∷_ (8, Mut.mslice (Referent.rtF (Referent.fInt Syntax.w8)) (Syntax.tyRef (Syntax.named 3) Syntax.mut (Syntax.tyInt Syntax.w8)) 3) (List._∷_ (9, Rows'.any-gone Laws.mir) (List._∷_ (10, Rows'.any-gone Laws'5.mir) (List._∷_ (11, Rows'.any-gone Laws''.mir) (List._∷_ (12, Rows'.any-gone Laws'4.mir) (List._∷_ (13, Rows'.any-gone (Syntax.tyInt Syntax.w64)) (List._∷_ (14, Rows'.any-gone (Syntax.tyInt Syntax.w64)) (List._∷_ (15, Rows'.whole (Declared.row Answer.the-type)) List.[])))))))))))))))
+t45 = List._∷_ (0, Rows'.any-gone Laws'4.mir) (List._∷_ (1, Mut.mslice Client·T.the-row (Syntax.tyRef (Syntax.named 0) Syntax.mut (Memory·T.pointee (Client·T.the-row .written))) 0) (List._∷_ (2, Mut.mslice (Referent.rtF (Referent.fInt Syntax.w8)) (Syntax.tyRef (Syntax.named 1) Syntax.mut (Syntax.tyInt Syntax.w8)) 1) (List._∷_ (3, Rows'.sc-here (Row.sInt Syntax.w64)) (List._∷_ (4, Rows'.sc-here (Row.sInt Syntax.w64)) (List._∷_ (5, Rows'.any-gone (Syntax.tyArray (Syntax.tyInt Syntax.w8) 4)) (List._∷_ (6, Rows'.any-gone (Syntax.tyArray (Syntax.tyInt Syntax.w8) 4)) (List._∷_ (7, Rows'.sslice (Referent.rtF (Referent.fInt Syntax.w8)) (Syntax.tyRef (Syntax.named 2) Syntax.imm (Syntax.tyInt Syntax.w8)) 2) (List._∷_ (8, Mut.mslice (Referent.rtF (Referent.fInt Syntax.w8)) (Syntax.tyRef (Syntax.named 3) Syntax.mut (Syntax.tyInt Syntax.w8)) 3) (List._∷_ (9, Rows'.any-gone Laws'6.mir) (List._∷_ (10, Rows'.any-gone Laws'3.mir) (List._∷_ (11, Rows'.any-gone Laws'5.mir) (List._∷_ (12, Rows'.any-gone Laws'.mir) (List._∷_ (13, Rows'.any-gone (Syntax.tyInt Syntax.w64)) (List._∷_ (14, Rows'.any-gone (Syntax.tyInt Syntax.w64)) (List._∷_ (15, Rows'.whole (Declared.row Answer.the-type)) List.[])))))))))))))))
 
 abbrev pub t46 : List.List Row.Entry
-t46 = List._∷_ (0, Rows'.whole (Declared.row Received.the-type)) (List._∷_ (1, Mut.mslice Client·T.the-row (Syntax.tyRef (Syntax.named 0) Syntax.mut (Memory·T.pointee (Client·T.the-row .written))) 0) (List._∷_ (2, Mut.mslice (Referent.rtF (Referent.fInt Syntax.w8)) (Syntax.tyRef (Syntax.named 1) Syntax.mut (Syntax.tyInt Syntax.w8)) 1) (List._∷_ (3, Rows'.sc-here (Row.sInt Syntax.w64)) (List._∷_ (4, Rows'.sc-here (Row.sInt Syntax.w64)) (List._∷_ (5, Rows'.any-gone (Syntax.tyArray (Syntax.tyInt Syntax.w8) 4)) (List._∷_ (6, Rows'.any-gone (Syntax.tyArray (Syntax.tyInt Syntax.w8) 4)) (List._∷_ (7, Rows'.sslice (Referent.rtF (Referent.fInt Syntax.w8)) (Syntax.tyRef (Syntax.named 2) Syntax.imm (Syntax.tyInt Syntax.w8)) 2) (List._∷_ (8, Mut.mslice (Referent.rtF (Referent.fInt Syntax.w8)) (Syntax.tyRef (Syntax.named 3) Syntax.mut (Syntax.tyInt Syntax.w8)) 3) (List._∷_ (9, Rows'.any-gone Laws.mir) (List._∷_ (10, Rows'.any-gone Laws'5.mir) (List._∷_ (11, Rows'.any-gone Laws''.mir) (List._∷_ (12, Rows'.any-gone Laws'4.mir) (List._∷_ (13, Rows'.any-gone (Syntax.tyInt Syntax.w64)) (List._∷_ (14, Rows'.any-gone (Syntax.tyInt Syntax.w64)) (List._∷_ (15, Rows'.any-gone Laws'3.mir) List.[])))))))))))))))
+t46 = List._∷_ (0, Rows'.whole (Declared.row Received.the-type)) (List._∷_ (1, Mut.mslice Client·T.the-row (Syntax.tyRef (Syntax.named 0) Syntax.mut (Memory·T.pointee (Client·T.the-row .written))) 0) (List._∷_ (2, Mut.mslice (Referent.rtF (Referent.fInt Syntax.w8)) (Syntax.tyRef (Syntax.named 1) Syntax.mut (Syntax.tyInt Syntax.w8)) 1) (List._∷_ (3, Rows'.sc-here (Row.sInt Syntax.w64)) (List._∷_ (4, Rows'.sc-here (Row.sInt Syntax.w64)) (List._∷_ (5, Rows'.any-gone (Syntax.tyArray (Syntax.tyInt Syntax.w8) 4)) (List._∷_ (6, Rows'.any-gone (Syntax.tyArray (Syntax.tyInt Syntax.w8) 4)) (List._∷_ (7, Rows'.sslice (Referent.rtF (Referent.fInt Syntax.w8)) (Syntax.tyRef (Syntax.named 2) Syntax.imm (Syntax.tyInt Syntax.w8)) 2) (List._∷_ (8, Mut.mslice (Referent.rtF (Referent.fInt Syntax.w8)) (Syntax.tyRef (Syntax.named 3) Syntax.mut (Syntax.tyInt Syntax.w8)) 3) (List._∷_ (9, Rows'.any-gone Laws'6.mir) (List._∷_ (10, Rows'.any-gone Laws'3.mir) (List._∷_ (11, Rows'.any-gone Laws'5.mir) (List._∷_ (12, Rows'.any-gone Laws'.mir) (List._∷_ (13, Rows'.any-gone (Syntax.tyInt Syntax.w64)) (List._∷_ (14, Rows'.any-gone (Syntax.tyInt Syntax.w64)) (List._∷_ (15, Rows'.any-gone Laws.mir) List.[])))))))))))))))
 
 abbrev pub t47 : List.List Row.Entry
-t47 = List._∷_ (0, Rows'.whole (Declared.row Received.the-type)) (List._∷_ (1, Mut.mslice Client·T.the-row (Syntax.tyRef (Syntax.named 0) Syntax.mut (Memory·T.pointee (Client·T.the-row .written))) 0) (List._∷_ (2, Mut.mslice (Referent.rtF (Referent.fInt Syntax.w8)) (Syntax.tyRef (Syntax.named 1) Syntax.mut (Syntax.tyInt Syntax.w8)) 1) (List._∷_ (3, Rows'.any-gone (Syntax.tyInt Syntax.w64)) (List._∷_ (4, Rows'.sc-here (Row.sInt Syntax.w64)) (List._∷_ (5, Rows'.any-gone (Syntax.tyArray (Syntax.tyInt Syntax.w8) 4)) (List._∷_ (6, Rows'.any-gone (Syntax.tyArray (Syntax.tyInt Syntax.w8) 4)) (List._∷_ (7, Rows'.sslice (Referent.rtF (Referent.fInt Syntax.w8)) (Syntax.tyRef (Syntax.named 2) Syntax.imm (Syntax.tyInt Syntax.w8)) 2) (List._∷_ (8, Mut.mslice (Referent.rtF (Referent.fInt Syntax.w8)) (Syntax.tyRef (Syntax.named 3) Syntax.mut (Syntax.tyInt Syntax.w8)) 3) (List._∷_ (9, Rows'.any-gone Laws.mir) (List._∷_ (10, Rows'.any-gone Laws'5.mir) (List._∷_ (11, Rows'.any-gone Laws''.mir) (List._∷_ (12, Rows'.any-gone Laws'4.mir) (List._∷_ (13, Rows'.any-gone (Syntax.tyInt Syntax.w64)) (List._∷_ (14, Rows'.any-gone (Syntax.tyInt Syntax.w64)) (List._∷_ (15, Rows'.any-gone Laws'3.mir) List.[])))))))))))))))
+t47 = List._∷_ (0, Rows'.whole (Declared.row Received.the-type)) (List._∷_ (1, Mut.mslice Client·T.the-row (Syntax.tyRef (Syntax.named 0) Syntax.mut (Memory·T.pointee (Client·T.the-row .written))) 0) (List._∷_ (2, Mut.mslice (Referent.rtF (Referent.fInt Syntax.w8)) (Syntax.tyRef (Syntax.named 1) Syntax.mut (Syntax.tyInt Syntax.w8)) 1) (List._∷_ (3, Rows'.any-gone (Syntax.tyInt Syntax.w64)) (List._∷_ (4, Rows'.sc-here (Row.sInt Syntax.w64)) (List._∷_ (5, Rows'.any-gone (Syntax.tyArray (Syntax.tyInt Syntax.w8) 4)) (List._∷_ (6, Rows'.any-gone (Syntax.tyArray (Syntax.tyInt Syntax.w8) 4)) (List._∷_ (7, Rows'.sslice (Referent.rtF (Referent.fInt Syntax.w8)) (Syntax.tyRef (Syntax.named 2) Syntax.imm (Syntax.tyInt Syntax.w8)) 2) (List._∷_ (8, Mut.mslice (Referent.rtF (Referent.fInt Syntax.w8)) (Syntax.tyRef (Syntax.named 3) Syntax.mut (Syntax.tyInt Syntax.w8)) 3) (List._∷_ (9, Rows'.any-gone Laws'6.mir) (List._∷_ (10, Rows'.any-gone Laws'3.mir) (List._∷_ (11, Rows'.any-gone Laws'5.mir) (List._∷_ (12, Rows'.any-gone Laws'.mir) (List._∷_ (13, Rows'.any-gone (Syntax.tyInt Syntax.w64)) (List._∷_ (14, Rows'.any-gone (Syntax.tyInt Syntax.w64)) (List._∷_ (15, Rows'.any-gone Laws.mir) List.[])))))))))))))))
 
 abbrev pub T0 : Row.Cx
 T0 = record { locals = List._++_ t0 t1; slots = List.[] }
@@ -577,10 +577,10 @@ module _ (claims· : Claims) where
   s2 = Know.k-sl-known (Referent.fInt Syntax.w8) T3 8 3 (Syntax.tyRef (Syntax.named 3) Syntax.mut (Syntax.tyInt Syntax.w8)) Row.off 0 λ x. x
 
   abbrev s3 : Typed.Both T4 T5
-  s3 = Call.callB ps·0 r·0 (claims· .0) (claims· .1) T4 (record { pos = 7; ty = Syntax.tyRef (Syntax.named 2) Syntax.imm (Syntax.tyInt Syntax.w8); ref = λ x. x }, (record { pos = 5; st = List.[]; d = 0; at = λ x. x }, (record { pos = 6; st = List.[]; d = 0; at = λ x. x }, tt))) 9 (List._∷_ 2 List.[]) Laws.mir
+  s3 = Call.callB ps·0 r·0 (claims· .0) (claims· .1) T4 (record { pos = 7; ty = Syntax.tyRef (Syntax.named 2) Syntax.imm (Syntax.tyInt Syntax.w8); ref = λ x. x }, (record { pos = 5; st = List.[]; d = 0; at = λ x. x }, (record { pos = 6; st = List.[]; d = 0; at = λ x. x }, tt))) 9 (List._∷_ 2 List.[]) Laws'6.mir
 
   abbrev s4 : Typed.Both T5 T6
-  s4 = Call.callB ps·1 r·1 (claims· .2) (claims· .3) T5 (record { pos = 9; st = List.[]; d = 0; at = λ x. x }, tt) 10 List.[] Laws'5.mir
+  s4 = Call.callB ps·1 r·1 (claims· .2) (claims· .3) T5 (record { pos = 9; st = List.[]; d = 0; at = λ x. x }, tt) 10 List.[] Laws'3.mir
 
   abbrev s5 : Typed.Both T6 T8
   s5 = Known.k-enum-told Found.enum 0 T6 10 λ x. x
@@ -592,31 +592,31 @@ module _ (claims· : Claims) where
   s7 = Scalar.n-room T9 6 (Syntax.tyArray (Syntax.tyInt Syntax.w8) 4)
 
   abbrev s8 : Typed.Mo T10 → Typed.Mo T11
-  s8 = Scalar.n-room T10 10 Laws'5.mir
+  s8 = Scalar.n-room T10 10 Laws'3.mir
 
   abbrev s9 : Typed.Both T11 T12
-  s9 = Call.callB ps·2 r·2 (claims· .4) (claims· .5) T11 (record { pos = 9; st = List.[]; d = 0; at = λ x. x }, tt) 16 List.[] Laws'6.mir
+  s9 = Call.callB ps·2 r·2 (claims· .4) (claims· .5) T11 (record { pos = 9; st = List.[]; d = 0; at = λ x. x }, tt) 16 List.[] Laws'4.mir
 
   abbrev s10 : Typed.Mo T12 → Typed.Mo T13
-  s10 = Scalar.n-room T12 9 Laws.mir
+  s10 = Scalar.n-room T12 9 Laws'6.mir
 
   abbrev s11 : Typed.Both T6 T14
   s11 = Known.k-enum-known Found.enum 1 T6 10 λ x. x
 
   abbrev s12 : Typed.Gives T14 T15
-  s12 = Known.k-known-told Found.enum Laws'5.the-laws 1 T14 10 λ x. x
+  s12 = Known.k-known-told Found.enum Laws'3.the-laws 1 T14 10 λ x. x
 
   abbrev s13 : Typed.Mo T15 → Typed.Mo T16
-  s13 = Scalar.n-room T15 9 Laws.mir
+  s13 = Scalar.n-room T15 9 Laws'6.mir
 
   abbrev s14 : Typed.Mo T16 → Typed.Mo T17
   s14 = Make.n-make (Declared'.row Fragment.the-type) T16 11 λ m. m .1 .1 .1 .1 .1 .1 .1 .1 .1 .1 .0 .0
 
   abbrev s15 : Typed.Mo T17 → Typed.Mo T18
-  s15 = Scalar.n-room T17 10 Laws'5.mir
+  s15 = Scalar.n-room T17 10 Laws'3.mir
 
   abbrev s16 : Typed.Both T18 T19
-  s16 = Call.callB ps·3 r·3 (claims· .6) (claims· .7) T18 (record { pos = 7; ty = Syntax.tyRef (Syntax.named 2) Syntax.imm (Syntax.tyInt Syntax.w8); ref = λ x. x }, (record { pos = 5; st = List.[]; d = 0; at = λ x. x }, (record { pos = 6; st = List.[]; d = 0; at = λ x. x }, (Num.vAt 4 λ x. x, (record { pos = 11; st = List.[]; d = 0; at = λ x. x }, tt))))) 12 (List._∷_ 2 List.[]) Laws'4.mir
+  s16 = Call.callB ps·3 r·3 (claims· .6) (claims· .7) T18 (record { pos = 7; ty = Syntax.tyRef (Syntax.named 2) Syntax.imm (Syntax.tyInt Syntax.w8); ref = λ x. x }, (record { pos = 5; st = List.[]; d = 0; at = λ x. x }, (record { pos = 6; st = List.[]; d = 0; at = λ x. x }, (Num.vAt 4 λ x. x, (record { pos = 11; st = List.[]; d = 0; at = λ x. x }, tt))))) 12 (List._∷_ 2 List.[]) Laws'.mir
 
   abbrev s17 : Typed.Mo T19 → Typed.Mo T20
   s17 = Scalar.n-room T19 5 (Syntax.tyArray (Syntax.tyInt Syntax.w8) 4)
@@ -625,13 +625,13 @@ module _ (claims· : Claims) where
   s18 = Scalar.n-room T20 6 (Syntax.tyArray (Syntax.tyInt Syntax.w8) 4)
 
   abbrev s19 : Typed.Mo T21 → Typed.Mo T22
-  s19 = Scalar.n-use T21 (Scalar.oFld 11 (List._∷_ (Syntax.field 2) (List._∷_ (Syntax.field 0) List.[])) (Syntax.tyInt Syntax.w64) 16 λ x. Reads.fieldV PacketOffset.the-type Laws'.the-laws 0 (Fragment.struct .as-values x .1 .1 .0)) 13 (Rows'.sc-here (Row.sInt Syntax.w64)) (Row.sInt Syntax.w64 .of)
+  s19 = Scalar.n-use T21 (Scalar.oFld 11 (List._∷_ (Syntax.field 2) (List._∷_ (Syntax.field 0) List.[])) (Syntax.tyInt Syntax.w64) 16 λ x. Reads.fieldV PacketOffset.the-type Laws''.the-laws 0 (Fragment.struct .as-values x .1 .1 .0)) 13 (Rows'.sc-here (Row.sInt Syntax.w64)) (Row.sInt Syntax.w64 .of)
 
   abbrev s20 : Typed.Mo T22 → Typed.Mo T23
-  s20 = Scalar.n-use T22 (Scalar.oFld 11 (List._∷_ (Syntax.field 3) (List._∷_ (Syntax.field 0) List.[])) (Syntax.tyInt Syntax.w64) 24 λ x. Reads.fieldV PacketOffset.the-type Laws'.the-laws 0 (Fragment.struct .as-values x .1 .1 .1 .0)) 14 (Rows'.sc-here (Row.sInt Syntax.w64)) (Row.sInt Syntax.w64 .of)
+  s20 = Scalar.n-use T22 (Scalar.oFld 11 (List._∷_ (Syntax.field 3) (List._∷_ (Syntax.field 0) List.[])) (Syntax.tyInt Syntax.w64) 24 λ x. Reads.fieldV PacketOffset.the-type Laws''.the-laws 0 (Fragment.struct .as-values x .1 .1 .1 .0)) 14 (Rows'.sc-here (Row.sInt Syntax.w64)) (Row.sInt Syntax.w64 .of)
 
   abbrev s21 : Typed.Mo T23 → Typed.Mo T24
-  s21 = Scalar.n-room T23 11 Laws''.mir
+  s21 = Scalar.n-room T23 11 Laws'5.mir
 
   abbrev s23 : Typed.Gives T24 T26
   s23 = Relend.k-sl-relend Client·T.the-row T24 1 17 0 4 (Syntax.tyRef (Syntax.named 0) Syntax.mut (Memory·T.pointee (Client·T.the-row .written))) (Syntax.tyRef Syntax.erased Syntax.mut (Memory·T.pointee (Client·T.the-row .written))) Row.off λ x. x
@@ -670,13 +670,13 @@ module _ (claims· : Claims) where
   s36 = Relend.k-sl-aggregate (Referent.rtF (Referent.fInt Syntax.w8)) (Relend.asMut (Referent.rtF (Referent.fInt Syntax.w8))) T38 25 26 6 (Syntax.tyRef Syntax.erased Syntax.mut (Syntax.tyInt Syntax.w8)) (Syntax.tyRef Syntax.erased Syntax.mut (Syntax.tyInt Syntax.w8)) (λ x. x) (Scalar.oFld 8 (List._∷_ (Syntax.field 1) List.[]) (Syntax.tyInt Syntax.w64) 8 λ v. Shared.lenV (v .0))
 
   abbrev s37 : Typed.Both T39 T40
-  s37 = Call.callB ps·4 r·4 (claims· .8) (claims· .9) T39 (record { pos = 18; ty = Syntax.tyRef Syntax.erased Syntax.mut (Memory·T.pointee (Client·T.the-row .written)); ref = λ x. x }, (record { pos = 20; ty = Syntax.tyRef Syntax.erased Syntax.mut (Syntax.tyInt Syntax.w8); ref = λ x. x }, (Num.vAt 3 λ x. x, (record { pos = 12; st = List.[]; d = 0; at = λ x. x }, (record { pos = 24; ty = Syntax.tyRef Syntax.erased Syntax.imm (Syntax.tyInt Syntax.w8); ref = λ x. x }, (record { pos = 26; ty = Syntax.tyRef Syntax.erased Syntax.mut (Syntax.tyInt Syntax.w8); ref = λ x. x }, tt)))))) 15 (List._∷_ 4 (List._∷_ 5 (List._∷_ 2 (List._∷_ 6 List.[])))) Laws'3.mir
+  s37 = Call.callB ps·4 r·4 (claims· .8) (claims· .9) T39 (record { pos = 18; ty = Syntax.tyRef Syntax.erased Syntax.mut (Memory·T.pointee (Client·T.the-row .written)); ref = λ x. x }, (record { pos = 20; ty = Syntax.tyRef Syntax.erased Syntax.mut (Syntax.tyInt Syntax.w8); ref = λ x. x }, (Num.vAt 3 λ x. x, (record { pos = 12; st = List.[]; d = 0; at = λ x. x }, (record { pos = 24; ty = Syntax.tyRef Syntax.erased Syntax.imm (Syntax.tyInt Syntax.w8); ref = λ x. x }, (record { pos = 26; ty = Syntax.tyRef Syntax.erased Syntax.mut (Syntax.tyInt Syntax.w8); ref = λ x. x }, tt)))))) 15 (List._∷_ 4 (List._∷_ 5 (List._∷_ 2 (List._∷_ 6 List.[])))) Laws.mir
 
   abbrev s38 : Typed.Mo T40 → Typed.Mo T41
   s38 = Scalar.n-room T40 24 (Syntax.tyStruct (List._∷_ 38 (List._∷_ 91 (List._∷_ 93 List.[]))) (Syntax.tcons (Syntax.tyRef Syntax.erased Syntax.imm (Syntax.tyInt Syntax.w8)) (Syntax.tcons (Syntax.tyInt Syntax.w64) Syntax.tnil)))
 
   abbrev s39 : Typed.Mo T41 → Typed.Mo T42
-  s39 = Scalar.n-room T41 12 Laws'4.mir
+  s39 = Scalar.n-room T41 12 Laws'.mir
 
   abbrev s41 : Typed.Both T42 T44
   s41 = Relend.k-back-sl Client·T.the-row T42 18 1 0 4 (Syntax.tyRef (Syntax.named 0) Syntax.mut (Memory·T.pointee (Client·T.the-row .written))) (Syntax.tyRef Syntax.erased Syntax.mut (Memory·T.pointee (Client·T.the-row .written))) Row.off (λ x. x) λ x. x
@@ -694,7 +694,7 @@ module _ (claims· : Claims) where
   s49 = Know.k-sl-known (Referent.fInt Syntax.w8) T51 8 3 (Syntax.tyRef (Syntax.named 3) Syntax.mut (Syntax.tyInt Syntax.w8)) Row.off 0 λ x. x
 
   abbrev s51 : Typed.Both T52 T54
-  s51 = Call.callB ps·5 r·5 (claims· .10) (claims· .11) T52 (record { pos = 15; st = List.[]; d = 0; at = λ x. x }, tt) 16 List.[] Laws'6.mir
+  s51 = Call.callB ps·5 r·5 (claims· .10) (claims· .11) T52 (record { pos = 15; st = List.[]; d = 0; at = λ x. x }, tt) 16 List.[] Laws'4.mir
 
   abbrev s52 : Typed.Mo T54 → Typed.Mo T55
   s52 = Scalar.n-room T54 13 (Syntax.tyInt Syntax.w64)
@@ -703,13 +703,13 @@ module _ (claims· : Claims) where
   s53 = Scalar.n-room T55 14 (Syntax.tyInt Syntax.w64)
 
   abbrev s54 : Typed.Mo T56 → Typed.Mo T57
-  s54 = Scalar.n-room T56 15 Laws'3.mir
+  s54 = Scalar.n-room T56 15 Laws.mir
 
   abbrev s55 : Typed.Mo T7 → Typed.Mo T58
   s55 = LocalCopy.n-val-copy T7 16 0 (Declared.row Received.the-type) (Rows'.whole (Declared.row Received.the-type)) (Rows'.whole (Declared.row Received.the-type)) (λ x. x) (λ x. x) λ x. x
 
   abbrev s56 : Typed.Mo T58 → Typed.Mo T59
-  s56 = Scalar.n-room T58 16 Laws'6.mir
+  s56 = Scalar.n-room T58 16 Laws'4.mir
 
   abbrev s57 : Typed.Mo T59 → Typed.Mo T60
   s57 = Scalar.n-room T59 3 (Syntax.tyInt Syntax.w64)
@@ -906,25 +906,25 @@ module _ (claims· : Claims) where
 
       module _ (κs : Lifetimes.Lfts 4) (qs : Lifetimes.Shares 4) where
         abbrev g20 : List.List Row.Entry
-        g20 = List._∷_ (0, Rows'.any-gone Laws'6.mir) (List._∷_ (1, Relend.mslice-owed Client·T.the-row (Syntax.tyRef (Syntax.named 0) Syntax.mut (Memory·T.pointee (Client·T.the-row .written))) 0 4 (Row.lease (κs .0) (qs .0))) (List._∷_ (2, Mut.mslice (Referent.rtF (Referent.fInt Syntax.w8)) (Syntax.tyRef (Syntax.named 1) Syntax.mut (Syntax.tyInt Syntax.w8)) 1) (List._∷_ (3, Rows'.sc-here (Row.sInt Syntax.w64)) (List._∷_ (4, Rows'.sc-here (Row.sInt Syntax.w64)) (List._∷_ (5, Rows'.any-gone (Syntax.tyArray (Syntax.tyInt Syntax.w8) 4)) (List._∷_ (6, Rows'.any-gone (Syntax.tyArray (Syntax.tyInt Syntax.w8) 4)) (List._∷_ (7, Rows'.sslice (Referent.rtF (Referent.fInt Syntax.w8)) (Syntax.tyRef (Syntax.named 2) Syntax.imm (Syntax.tyInt Syntax.w8)) 2) (List._∷_ (8, Mut.mslice (Referent.rtF (Referent.fInt Syntax.w8)) (Syntax.tyRef (Syntax.named 3) Syntax.mut (Syntax.tyInt Syntax.w8)) 3) (List._∷_ (9, Rows'.any-gone Laws.mir) (List._∷_ (10, Rows'.any-gone Laws'5.mir) (List._∷_ (11, Rows'.any-gone Laws''.mir) (List._∷_ (12, Rows'.whole (Declared'.row Arrival.the-type)) (List._∷_ (13, Rows'.sc-here (Row.sInt Syntax.w64)) (List._∷_ (14, Rows'.sc-here (Row.sInt Syntax.w64)) (List._∷_ (15, Rows'.any-gone Laws'3.mir) List.[])))))))))))))))
+        g20 = List._∷_ (0, Rows'.any-gone Laws'4.mir) (List._∷_ (1, Relend.mslice-owed Client·T.the-row (Syntax.tyRef (Syntax.named 0) Syntax.mut (Memory·T.pointee (Client·T.the-row .written))) 0 4 (Row.lease (κs .0) (qs .0))) (List._∷_ (2, Mut.mslice (Referent.rtF (Referent.fInt Syntax.w8)) (Syntax.tyRef (Syntax.named 1) Syntax.mut (Syntax.tyInt Syntax.w8)) 1) (List._∷_ (3, Rows'.sc-here (Row.sInt Syntax.w64)) (List._∷_ (4, Rows'.sc-here (Row.sInt Syntax.w64)) (List._∷_ (5, Rows'.any-gone (Syntax.tyArray (Syntax.tyInt Syntax.w8) 4)) (List._∷_ (6, Rows'.any-gone (Syntax.tyArray (Syntax.tyInt Syntax.w8) 4)) (List._∷_ (7, Rows'.sslice (Referent.rtF (Referent.fInt Syntax.w8)) (Syntax.tyRef (Syntax.named 2) Syntax.imm (Syntax.tyInt Syntax.w8)) 2) (List._∷_ (8, Mut.mslice (Referent.rtF (Referent.fInt Syntax.w8)) (Syntax.tyRef (Syntax.named 3) Syntax.mut (Syntax.tyInt Syntax.w8)) 3) (List._∷_ (9, Rows'.any-gone Laws'6.mir) (List._∷_ (10, Rows'.any-gone Laws'3.mir) (List._∷_ (11, Rows'.any-gone Laws'5.mir) (List._∷_ (12, Rows'.whole (Declared'.row Arrival.the-type)) (List._∷_ (13, Rows'.sc-here (Row.sInt Syntax.w64)) (List._∷_ (14, Rows'.sc-here (Row.sInt Syntax.w64)) (List._∷_ (15, Rows'.any-gone Laws.mir) List.[])))))))))))))))
 
         abbrev g23 : List.List Row.Entry
-        g23 = List._∷_ (0, Rows'.any-gone Laws'6.mir) (List._∷_ (1, Relend.mslice-owed Client·T.the-row (Syntax.tyRef (Syntax.named 0) Syntax.mut (Memory·T.pointee (Client·T.the-row .written))) 0 4 (Row.lease (κs .0) (qs .0))) (List._∷_ (2, Relend.mslice-owed (Referent.rtF (Referent.fInt Syntax.w8)) (Syntax.tyRef (Syntax.named 1) Syntax.mut (Syntax.tyInt Syntax.w8)) 1 5 (Row.lease (κs .1 .0) (qs .1 .0))) (List._∷_ (3, Rows'.sc-here (Row.sInt Syntax.w64)) (List._∷_ (4, Rows'.sc-here (Row.sInt Syntax.w64)) (List._∷_ (5, Rows'.any-gone (Syntax.tyArray (Syntax.tyInt Syntax.w8) 4)) (List._∷_ (6, Rows'.any-gone (Syntax.tyArray (Syntax.tyInt Syntax.w8) 4)) (List._∷_ (7, Rows'.sslice (Referent.rtF (Referent.fInt Syntax.w8)) (Syntax.tyRef (Syntax.named 2) Syntax.imm (Syntax.tyInt Syntax.w8)) 2) (List._∷_ (8, Mut.mslice (Referent.rtF (Referent.fInt Syntax.w8)) (Syntax.tyRef (Syntax.named 3) Syntax.mut (Syntax.tyInt Syntax.w8)) 3) (List._∷_ (9, Rows'.any-gone Laws.mir) (List._∷_ (10, Rows'.any-gone Laws'5.mir) (List._∷_ (11, Rows'.any-gone Laws''.mir) (List._∷_ (12, Rows'.whole (Declared'.row Arrival.the-type)) (List._∷_ (13, Rows'.sc-here (Row.sInt Syntax.w64)) (List._∷_ (14, Rows'.sc-here (Row.sInt Syntax.w64)) (List._∷_ (15, Rows'.any-gone Laws'3.mir) List.[])))))))))))))))
+        g23 = List._∷_ (0, Rows'.any-gone Laws'4.mir) (List._∷_ (1, Relend.mslice-owed Client·T.the-row (Syntax.tyRef (Syntax.named 0) Syntax.mut (Memory·T.pointee (Client·T.the-row .written))) 0 4 (Row.lease (κs .0) (qs .0))) (List._∷_ (2, Relend.mslice-owed (Referent.rtF (Referent.fInt Syntax.w8)) (Syntax.tyRef (Syntax.named 1) Syntax.mut (Syntax.tyInt Syntax.w8)) 1 5 (Row.lease (κs .1 .0) (qs .1 .0))) (List._∷_ (3, Rows'.sc-here (Row.sInt Syntax.w64)) (List._∷_ (4, Rows'.sc-here (Row.sInt Syntax.w64)) (List._∷_ (5, Rows'.any-gone (Syntax.tyArray (Syntax.tyInt Syntax.w8) 4)) (List._∷_ (6, Rows'.any-gone (Syntax.tyArray (Syntax.tyInt Syntax.w8) 4)) (List._∷_ (7, Rows'.sslice (Referent.rtF (Referent.fInt Syntax.w8)) (Syntax.tyRef (Syntax.named 2) Syntax.imm (Syntax.tyInt Syntax.w8)) 2) (List._∷_ (8, Mut.mslice (Referent.rtF (Referent.fInt Syntax.w8)) (Syntax.tyRef (Syntax.named 3) Syntax.mut (Syntax.tyInt Syntax.w8)) 3) (List._∷_ (9, Rows'.any-gone Laws'6.mir) (List._∷_ (10, Rows'.any-gone Laws'3.mir) (List._∷_ (11, Rows'.any-gone Laws'5.mir) (List._∷_ (12, Rows'.whole (Declared'.row Arrival.the-type)) (List._∷_ (13, Rows'.sc-here (Row.sInt Syntax.w64)) (List._∷_ (14, Rows'.sc-here (Row.sInt Syntax.w64)) (List._∷_ (15, Rows'.any-gone Laws.mir) List.[])))))))))))))))
 
         abbrev g32 : List.List Row.Entry
-        g32 = List._∷_ (0, Rows'.any-gone Laws'6.mir) (List._∷_ (1, Relend.mslice-owed Client·T.the-row (Syntax.tyRef (Syntax.named 0) Syntax.mut (Memory·T.pointee (Client·T.the-row .written))) 0 4 (Row.lease (κs .0) (qs .0))) (List._∷_ (2, Relend.mslice-owed (Referent.rtF (Referent.fInt Syntax.w8)) (Syntax.tyRef (Syntax.named 1) Syntax.mut (Syntax.tyInt Syntax.w8)) 1 5 (Row.lease (κs .1 .0) (qs .1 .0))) (List._∷_ (3, Rows'.sc-here (Row.sInt Syntax.w64)) (List._∷_ (4, Rows'.sc-here (Row.sInt Syntax.w64)) (List._∷_ (5, Rows'.any-gone (Syntax.tyArray (Syntax.tyInt Syntax.w8) 4)) (List._∷_ (6, Rows'.any-gone (Syntax.tyArray (Syntax.tyInt Syntax.w8) 4)) (List._∷_ (7, Rows'.sslice (Referent.rtF (Referent.fInt Syntax.w8)) (Syntax.tyRef (Syntax.named 2) Syntax.imm (Syntax.tyInt Syntax.w8)) 2) (List._∷_ (8, Relend.mslice-owed (Referent.rtF (Referent.fInt Syntax.w8)) (Syntax.tyRef (Syntax.named 3) Syntax.mut (Syntax.tyInt Syntax.w8)) 3 6 (Row.lease (κs .1 .1 .1 .0) (qs .1 .1 .1 .0))) (List._∷_ (9, Rows'.any-gone Laws.mir) (List._∷_ (10, Rows'.any-gone Laws'5.mir) (List._∷_ (11, Rows'.any-gone Laws''.mir) (List._∷_ (12, Rows'.whole (Declared'.row Arrival.the-type)) (List._∷_ (13, Rows'.sc-here (Row.sInt Syntax.w64)) (List._∷_ (14, Rows'.sc-here (Row.sInt Syntax.w64)) (List._∷_ (15, Rows'.any-gone Laws'3.mir) List.[])))))))))))))))
+        g32 = List._∷_ (0, Rows'.any-gone Laws'4.mir) (List._∷_ (1, Relend.mslice-owed Client·T.the-row (Syntax.tyRef (Syntax.named 0) Syntax.mut (Memory·T.pointee (Client·T.the-row .written))) 0 4 (Row.lease (κs .0) (qs .0))) (List._∷_ (2, Relend.mslice-owed (Referent.rtF (Referent.fInt Syntax.w8)) (Syntax.tyRef (Syntax.named 1) Syntax.mut (Syntax.tyInt Syntax.w8)) 1 5 (Row.lease (κs .1 .0) (qs .1 .0))) (List._∷_ (3, Rows'.sc-here (Row.sInt Syntax.w64)) (List._∷_ (4, Rows'.sc-here (Row.sInt Syntax.w64)) (List._∷_ (5, Rows'.any-gone (Syntax.tyArray (Syntax.tyInt Syntax.w8) 4)) (List._∷_ (6, Rows'.any-gone (Syntax.tyArray (Syntax.tyInt Syntax.w8) 4)) (List._∷_ (7, Rows'.sslice (Referent.rtF (Referent.fInt Syntax.w8)) (Syntax.tyRef (Syntax.named 2) Syntax.imm (Syntax.tyInt Syntax.w8)) 2) (List._∷_ (8, Relend.mslice-owed (Referent.rtF (Referent.fInt Syntax.w8)) (Syntax.tyRef (Syntax.named 3) Syntax.mut (Syntax.tyInt Syntax.w8)) 3 6 (Row.lease (κs .1 .1 .1 .0) (qs .1 .1 .1 .0))) (List._∷_ (9, Rows'.any-gone Laws'6.mir) (List._∷_ (10, Rows'.any-gone Laws'3.mir) (List._∷_ (11, Rows'.any-gone Laws'5.mir) (List._∷_ (12, Rows'.whole (Declared'.row Arrival.the-type)) (List._∷_ (13, Rows'.sc-here (Row.sInt Syntax.w64)) (List._∷_ (14, Rows'.sc-here (Row.sInt Syntax.w64)) (List._∷_ (15, Rows'.any-gone Laws.mir) List.[])))))))))))))))
 
         abbrev g35 : List.List Row.Entry
-        g35 = List._∷_ (0, Rows'.any-gone Laws'6.mir) (List._∷_ (1, Relend.mslice-owed Client·T.the-row (Syntax.tyRef (Syntax.named 0) Syntax.mut (Memory·T.pointee (Client·T.the-row .written))) 0 4 (Row.lease (κs .0) (qs .0))) (List._∷_ (2, Relend.mslice-owed (Referent.rtF (Referent.fInt Syntax.w8)) (Syntax.tyRef (Syntax.named 1) Syntax.mut (Syntax.tyInt Syntax.w8)) 1 5 (Row.lease (κs .1 .0) (qs .1 .0))) (List._∷_ (3, Rows'.sc-here (Row.sInt Syntax.w64)) (List._∷_ (4, Rows'.sc-here (Row.sInt Syntax.w64)) (List._∷_ (5, Rows'.any-gone (Syntax.tyArray (Syntax.tyInt Syntax.w8) 4)) (List._∷_ (6, Rows'.any-gone (Syntax.tyArray (Syntax.tyInt Syntax.w8) 4)) (List._∷_ (7, Rows'.sslice (Referent.rtF (Referent.fInt Syntax.w8)) (Syntax.tyRef (Syntax.named 2) Syntax.imm (Syntax.tyInt Syntax.w8)) 2) (List._∷_ (8, Relend.mslice-owed (Referent.rtF (Referent.fInt Syntax.w8)) (Syntax.tyRef (Syntax.named 3) Syntax.mut (Syntax.tyInt Syntax.w8)) 3 6 (Row.lease (κs .1 .1 .1 .0) (qs .1 .1 .1 .0))) (List._∷_ (9, Rows'.any-gone Laws.mir) (List._∷_ (10, Rows'.any-gone Laws'5.mir) (List._∷_ (11, Rows'.any-gone Laws''.mir) (List._∷_ (12, Rows'.whole (Declared'.row Arrival.the-type)) (List._∷_ (13, Rows'.sc-here (Row.sInt Syntax.w64)) (List._∷_ (14, Rows'.sc-here (Row.sInt Syntax.w64)) (List._∷_ (15, Rows'.whole (Declared.row Answer.the-type)) List.[])))))))))))))))
+        g35 = List._∷_ (0, Rows'.any-gone Laws'4.mir) (List._∷_ (1, Relend.mslice-owed Client·T.the-row (Syntax.tyRef (Syntax.named 0) Syntax.mut (Memory·T.pointee (Client·T.the-row .written))) 0 4 (Row.lease (κs .0) (qs .0))) (List._∷_ (2, Relend.mslice-owed (Referent.rtF (Referent.fInt Syntax.w8)) (Syntax.tyRef (Syntax.named 1) Syntax.mut (Syntax.tyInt Syntax.w8)) 1 5 (Row.lease (κs .1 .0) (qs .1 .0))) (List._∷_ (3, Rows'.sc-here (Row.sInt Syntax.w64)) (List._∷_ (4, Rows'.sc-here (Row.sInt Syntax.w64)) (List._∷_ (5, Rows'.any-gone (Syntax.tyArray (Syntax.tyInt Syntax.w8) 4)) (List._∷_ (6, Rows'.any-gone (Syntax.tyArray (Syntax.tyInt Syntax.w8) 4)) (List._∷_ (7, Rows'.sslice (Referent.rtF (Referent.fInt Syntax.w8)) (Syntax.tyRef (Syntax.named 2) Syntax.imm (Syntax.tyInt Syntax.w8)) 2) (List._∷_ (8, Relend.mslice-owed (Referent.rtF (Referent.fInt Syntax.w8)) (Syntax.tyRef (Syntax.named 3) Syntax.mut (Syntax.tyInt Syntax.w8)) 3 6 (Row.lease (κs .1 .1 .1 .0) (qs .1 .1 .1 .0))) (List._∷_ (9, Rows'.any-gone Laws'6.mir) (List._∷_ (10, Rows'.any-gone Laws'3.mir) (List._∷_ (11, Rows'.any-gone Laws'5.mir) (List._∷_ (12, Rows'.whole (Declared'.row Arrival.the-type)) (List._∷_ (13, Rows'.sc-here (Row.sInt Syntax.w64)) (List._∷_ (14, Rows'.sc-here (Row.sInt Syntax.w64)) (List._∷_ (15, Rows'.whole (Declared.row Answer.the-type)) List.[])))))))))))))))
 
         abbrev g38 : List.List Row.Entry
-        g38 = List._∷_ (0, Rows'.any-gone Laws'6.mir) (List._∷_ (1, Relend.mslice-owed Client·T.the-row (Syntax.tyRef (Syntax.named 0) Syntax.mut (Memory·T.pointee (Client·T.the-row .written))) 0 4 (Row.lease (κs .0) (qs .0))) (List._∷_ (2, Relend.mslice-owed (Referent.rtF (Referent.fInt Syntax.w8)) (Syntax.tyRef (Syntax.named 1) Syntax.mut (Syntax.tyInt Syntax.w8)) 1 5 (Row.lease (κs .1 .0) (qs .1 .0))) (List._∷_ (3, Rows'.sc-here (Row.sInt Syntax.w64)) (List._∷_ (4, Rows'.sc-here (Row.sInt Syntax.w64)) (List._∷_ (5, Rows'.any-gone (Syntax.tyArray (Syntax.tyInt Syntax.w8) 4)) (List._∷_ (6, Rows'.any-gone (Syntax.tyArray (Syntax.tyInt Syntax.w8) 4)) (List._∷_ (7, Rows'.sslice (Referent.rtF (Referent.fInt Syntax.w8)) (Syntax.tyRef (Syntax.named 2) Syntax.imm (Syntax.tyInt Syntax.w8)) 2) (List._∷_ (8, Relend.mslice-owed (Referent.rtF (Referent.fInt Syntax.w8)) (Syntax.tyRef (Syntax.named 3) Syntax.mut (Syntax.tyInt Syntax.w8)) 3 6 (Row.lease (κs .1 .1 .1 .0) (qs .1 .1 .1 .0))) (List._∷_ (9, Rows'.any-gone Laws.mir) (List._∷_ (10, Rows'.any-gone Laws'5.mir) (List._∷_ (11, Rows'.any-gone Laws''.mir) (List._∷_ (12, Rows'.any-gone Laws'4.mir) (List._∷_ (13, Rows'.sc-here (Row.sInt Syntax.w64)) (List._∷_ (14, Rows'.sc-here (Row.sInt Syntax.w64)) (List._∷_ (15, Rows'.whole (Declared.row Answer.the-type)) List.[])))))))))))))))
+        g38 = List._∷_ (0, Rows'.any-gone Laws'4.mir) (List._∷_ (1, Relend.mslice-owed Client·T.the-row (Syntax.tyRef (Syntax.named 0) Syntax.mut (Memory·T.pointee (Client·T.the-row .written))) 0 4 (Row.lease (κs .0) (qs .0))) (List._∷_ (2, Relend.mslice-owed (Referent.rtF (Referent.fInt Syntax.w8)) (Syntax.tyRef (Syntax.named 1) Syntax.mut (Syntax.tyInt Syntax.w8)) 1 5 (Row.lease (κs .1 .0) (qs .1 .0))) (List._∷_ (3, Rows'.sc-here (Row.sInt Syntax.w64)) (List._∷_ (4, Rows'.sc-here (Row.sInt Syntax.w64)) (List._∷_ (5, Rows'.any-gone (Syntax.tyArray (Syntax.tyInt Syntax.w8) 4)) (List._∷_ (6, Rows'.any-gone (Syntax.tyArray (Syntax.tyInt Syntax.w8) 4)) (List._∷_ (7, Rows'.sslice (Referent.rtF (Referent.fInt Syntax.w8)) (Syntax.tyRef (Syntax.named 2) Syntax.imm (Syntax.tyInt Syntax.w8)) 2) (List._∷_ (8, Relend.mslice-owed (Referent.rtF (Referent.fInt Syntax.w8)) (Syntax.tyRef (Syntax.named 3) Syntax.mut (Syntax.tyInt Syntax.w8)) 3 6 (Row.lease (κs .1 .1 .1 .0) (qs .1 .1 .1 .0))) (List._∷_ (9, Rows'.any-gone Laws'6.mir) (List._∷_ (10, Rows'.any-gone Laws'3.mir) (List._∷_ (11, Rows'.any-gone Laws'5.mir) (List._∷_ (12, Rows'.any-gone Laws'.mir) (List._∷_ (13, Rows'.sc-here (Row.sInt Syntax.w64)) (List._∷_ (14, Rows'.sc-here (Row.sInt Syntax.w64)) (List._∷_ (15, Rows'.whole (Declared.row Answer.the-type)) List.[])))))))))))))))
 
         abbrev g39 : List.List Row.Entry
-        g39 = List._∷_ (0, Rows'.any-gone Laws'6.mir) (List._∷_ (1, Mut.mslice Client·T.the-row (Syntax.tyRef (Syntax.named 0) Syntax.mut (Memory·T.pointee (Client·T.the-row .written))) 0) (List._∷_ (2, Relend.mslice-owed (Referent.rtF (Referent.fInt Syntax.w8)) (Syntax.tyRef (Syntax.named 1) Syntax.mut (Syntax.tyInt Syntax.w8)) 1 5 (Row.lease (κs .1 .0) (qs .1 .0))) (List._∷_ (3, Rows'.sc-here (Row.sInt Syntax.w64)) (List._∷_ (4, Rows'.sc-here (Row.sInt Syntax.w64)) (List._∷_ (5, Rows'.any-gone (Syntax.tyArray (Syntax.tyInt Syntax.w8) 4)) (List._∷_ (6, Rows'.any-gone (Syntax.tyArray (Syntax.tyInt Syntax.w8) 4)) (List._∷_ (7, Rows'.sslice (Referent.rtF (Referent.fInt Syntax.w8)) (Syntax.tyRef (Syntax.named 2) Syntax.imm (Syntax.tyInt Syntax.w8)) 2) (List._∷_ (8, Relend.mslice-owed (Referent.rtF (Referent.fInt Syntax.w8)) (Syntax.tyRef (Syntax.named 3) Syntax.mut (Syntax.tyInt Syntax.w8)) 3 6 (Row.lease (κs .1 .1 .1 .0) (qs .1 .1 .1 .0))) (List._∷_ (9, Rows'.any-gone Laws.mir) (List._∷_ (10, Rows'.any-gone Laws'5.mir) (List._∷_ (11, Rows'.any-gone Laws''.mir) (List._∷_ (12, Rows'.any-gone Laws'4.mir) (List._∷_ (13, Rows'.sc-here (Row.sInt Syntax.w64)) (List._∷_ (14, Rows'.sc-here (Row.sInt Syntax.w64)) (List._∷_ (15, Rows'.whole (Declared.row Answer.the-type)) List.[])))))))))))))))
+        g39 = List._∷_ (0, Rows'.any-gone Laws'4.mir) (List._∷_ (1, Mut.mslice Client·T.the-row (Syntax.tyRef (Syntax.named 0) Syntax.mut (Memory·T.pointee (Client·T.the-row .written))) 0) (List._∷_ (2, Relend.mslice-owed (Referent.rtF (Referent.fInt Syntax.w8)) (Syntax.tyRef (Syntax.named 1) Syntax.mut (Syntax.tyInt Syntax.w8)) 1 5 (Row.lease (κs .1 .0) (qs .1 .0))) (List._∷_ (3, Rows'.sc-here (Row.sInt Syntax.w64)) (List._∷_ (4, Rows'.sc-here (Row.sInt Syntax.w64)) (List._∷_ (5, Rows'.any-gone (Syntax.tyArray (Syntax.tyInt Syntax.w8) 4)) (List._∷_ (6, Rows'.any-gone (Syntax.tyArray (Syntax.tyInt Syntax.w8) 4)) (List._∷_ (7, Rows'.sslice (Referent.rtF (Referent.fInt Syntax.w8)) (Syntax.tyRef (Syntax.named 2) Syntax.imm (Syntax.tyInt Syntax.w8)) 2) (List._∷_ (8, Relend.mslice-owed (Referent.rtF (Referent.fInt Syntax.w8)) (Syntax.tyRef (Syntax.named 3) Syntax.mut (Syntax.tyInt Syntax.w8)) 3 6 (Row.lease (κs .1 .1 .1 .0) (qs .1 .1 .1 .0))) (List._∷_ (9, Rows'.any-gone Laws'6.mir) (List._∷_ (10, Rows'.any-gone Laws'3.mir) (List._∷_ (11, Rows'.any-gone Laws'5.mir) (List._∷_ (12, Rows'.any-gone Laws'.mir) (List._∷_ (13, Rows'.sc-here (Row.sInt Syntax.w64)) (List._∷_ (14, Rows'.sc-here (Row.sInt Syntax.w64)) (List._∷_ (15, Rows'.whole (Declared.row Answer.the-type)) List.[])))))))))))))))
 
         abbrev g41 : List.List Row.Entry
-        g41 = List._∷_ (0, Rows'.any-gone Laws'6.mir) (List._∷_ (1, Mut.mslice Client·T.the-row (Syntax.tyRef (Syntax.named 0) Syntax.mut (Memory·T.pointee (Client·T.the-row .written))) 0) (List._∷_ (2, Mut.mslice (Referent.rtF (Referent.fInt Syntax.w8)) (Syntax.tyRef (Syntax.named 1) Syntax.mut (Syntax.tyInt Syntax.w8)) 1) (List._∷_ (3, Rows'.sc-here (Row.sInt Syntax.w64)) (List._∷_ (4, Rows'.sc-here (Row.sInt Syntax.w64)) (List._∷_ (5, Rows'.any-gone (Syntax.tyArray (Syntax.tyInt Syntax.w8) 4)) (List._∷_ (6, Rows'.any-gone (Syntax.tyArray (Syntax.tyInt Syntax.w8) 4)) (List._∷_ (7, Rows'.sslice (Referent.rtF (Referent.fInt Syntax.w8)) (Syntax.tyRef (Syntax.named 2) Syntax.imm (Syntax.tyInt Syntax.w8)) 2) (List._∷_ (8, Relend.mslice-owed (Referent.rtF (Referent.fInt Syntax.w8)) (Syntax.tyRef (Syntax.named 3) Syntax.mut (Syntax.tyInt Syntax.w8)) 3 6 (Row.lease (κs .1 .1 .1 .0) (qs .1 .1 .1 .0))) (List._∷_ (9, Rows'.any-gone Laws.mir) (List._∷_ (10, Rows'.any-gone Laws'5.mir) (List._∷_ (11, Rows'.any-gone Laws''.mir) (List._∷_ (12, Rows'.any-gone Laws'4.mir) (List._∷_ (13, Rows'.sc-here (Row.sInt Syntax.w64)) (List._∷_ (14, Rows'.sc-here (Row.sInt Syntax.w64)) (List._∷_ (15, Rows'.whole (Declared.row Answer.the-type)) List.[])))))))))))))))
+        g41 = List._∷_ (0, Rows'.any-gone Laws'4.mir) (List._∷_ (1, Mut.mslice Client·T.the-row (Syntax.tyRef (Syntax.named 0) Syntax.mut (Memory·T.pointee (Client·T.the-row .written))) 0) (List._∷_ (2, Mut.mslice (Referent.rtF (Referent.fInt Syntax.w8)) (Syntax.tyRef (Syntax.named 1) Syntax.mut (Syntax.tyInt Syntax.w8)) 1) (List._∷_ (3, Rows'.sc-here (Row.sInt Syntax.w64)) (List._∷_ (4, Rows'.sc-here (Row.sInt Syntax.w64)) (List._∷_ (5, Rows'.any-gone (Syntax.tyArray (Syntax.tyInt Syntax.w8) 4)) (List._∷_ (6, Rows'.any-gone (Syntax.tyArray (Syntax.tyInt Syntax.w8) 4)) (List._∷_ (7, Rows'.sslice (Referent.rtF (Referent.fInt Syntax.w8)) (Syntax.tyRef (Syntax.named 2) Syntax.imm (Syntax.tyInt Syntax.w8)) 2) (List._∷_ (8, Relend.mslice-owed (Referent.rtF (Referent.fInt Syntax.w8)) (Syntax.tyRef (Syntax.named 3) Syntax.mut (Syntax.tyInt Syntax.w8)) 3 6 (Row.lease (κs .1 .1 .1 .0) (qs .1 .1 .1 .0))) (List._∷_ (9, Rows'.any-gone Laws'6.mir) (List._∷_ (10, Rows'.any-gone Laws'3.mir) (List._∷_ (11, Rows'.any-gone Laws'5.mir) (List._∷_ (12, Rows'.any-gone Laws'.mir) (List._∷_ (13, Rows'.sc-here (Row.sInt Syntax.w64)) (List._∷_ (14, Rows'.sc-here (Row.sInt Syntax.w64)) (List._∷_ (15, Rows'.whole (Declared.row Answer.the-type)) List.[])))))))))))))))
 
         abbrev G0 : Row.Cx
         G0 = record { locals = List._++_ t0 t1; slots = List._∷_ (Row.lease (κs .0) (qs .0)) (List._∷_ (Row.lease (κs .1 .0) (qs .1 .0)) (List._∷_ (Row.lease (κs .1 .1 .0) (qs .1 .1 .0)) (List._∷_ (Row.lease (κs .1 .1 .1 .0) (qs .1 .1 .1 .0)) (List._∷_ Row.off (List._∷_ Row.off (List._∷_ Row.off List.[])))))) }
@@ -1123,10 +1123,10 @@ module _ (claims· : Claims) where
           E = Frame.EnvOf 𝓤 H (List._∷_ (Kinds.tyR r) (Enter.tysP ps xs)) bs
 
           d0 : Typed.Typed 𝓤 H A 𝓣 E G11 b2 Δ1 at0
-          d0 = Typed.s-typed 𝓤 H A W 𝓣 E G11 b2 Δ1 (λ Ψ. Typed.both s9 (Typed.pass T12 T13 s10 Ψ)) tt (Typed.g-post 𝓤 H A W 𝓣 E G11 G12 G13 b2 (Typed.both s9) (Typed.pass T12 T13 s10) (Plain.t-call-plain 𝓤 H A W 𝓣 0 ps·2 r·2 (claims· .4) (claims· .5) "table_receiver::other" (known .2) E (λ pos β. β) G11 (record { pos = 9; st = List.[]; d = 0; at = λ x. x }, tt) 16 List.[] (Call.sub-id 𝓤 H A W (G11 .slots)) ((Yields.yields-copy 𝓤 H A W (λ ρ. Unit) (Declared.row Outcome.the-type) Path'.refl (Copies.cEnum Outcome.the-type Laws.the-laws Laws.the-copy .copy 𝓤 H A W) (Rows'.whole (Declared.row Outcome.the-type)) (λ x. x) (λ x. x) (λ ρ told. Local.mem-whole 𝓤 H A W (Declared.row Outcome.the-type) ρ) λ ρ told. Local.whole-mem 𝓤 H A W (Declared.row Outcome.the-type) ρ, Path'.refl), tt) (Reads'.room-gone 𝓤 H A Laws'6.mir) tt Path'.refl) (Scalar.g-room 𝓤 H A W E G12 9 Laws.mir (Local.room-whole 𝓤 H A W (Declared.row Outcome.the-type) Laws.mir Path'.refl)))
+          d0 = Typed.s-typed 𝓤 H A W 𝓣 E G11 b2 Δ1 (λ Ψ. Typed.both s9 (Typed.pass T12 T13 s10 Ψ)) tt (Typed.g-post 𝓤 H A W 𝓣 E G11 G12 G13 b2 (Typed.both s9) (Typed.pass T12 T13 s10) (Plain.t-call-plain 𝓤 H A W 𝓣 0 ps·2 r·2 (claims· .4) (claims· .5) "table_receiver::other" (known .2) E (λ pos β. β) G11 (record { pos = 9; st = List.[]; d = 0; at = λ x. x }, tt) 16 List.[] (Call.sub-id 𝓤 H A W (G11 .slots)) ((Yields.yields-copy 𝓤 H A W (λ ρ. Unit) (Declared.row Outcome.the-type) Path'.refl (Copies.cEnum Outcome.the-type Laws'6.the-laws Laws'6.the-copy .copy 𝓤 H A W) (Rows'.whole (Declared.row Outcome.the-type)) (λ x. x) (λ x. x) (λ ρ told. Local.mem-whole 𝓤 H A W (Declared.row Outcome.the-type) ρ) λ ρ told. Local.whole-mem 𝓤 H A W (Declared.row Outcome.the-type) ρ, Path'.refl), tt) (Reads'.room-gone 𝓤 H A Laws'4.mir) tt Path'.refl) (Scalar.g-room 𝓤 H A W E G12 9 Laws'6.mir (Local.room-whole 𝓤 H A W (Declared.row Outcome.the-type) Laws'6.mir Path'.refl)))
 
           d1 : Typed.Typed 𝓤 H A 𝓣 E G10 b2 Δ1 at1
-          d1 = Typed.g-pre 𝓤 H A W 𝓣 E G10 G11 b2 Δ1 (Typed.pass T10 T11 s8) at0 (Scalar.g-room 𝓤 H A W E G10 10 Laws'5.mir (Local.room-whole 𝓤 H A W (Declared.row Found.the-type) Laws'5.mir Path'.refl)) d0
+          d1 = Typed.g-pre 𝓤 H A W 𝓣 E G10 G11 b2 Δ1 (Typed.pass T10 T11 s8) at0 (Scalar.g-room 𝓤 H A W E G10 10 Laws'3.mir (Local.room-whole 𝓤 H A W (Declared.row Found.the-type) Laws'3.mir Path'.refl)) d0
 
           d2 : Typed.Typed 𝓤 H A 𝓣 E G9 b2 Δ1 at2
           d2 = Typed.g-pre 𝓤 H A W 𝓣 E G9 G10 b2 Δ1 (Typed.pass T9 T10 s7) at1 (Scalar.g-room 𝓤 H A W E G9 6 (Syntax.tyArray (Syntax.tyInt Syntax.w8) 4) (Init.room-arr 𝓤 H A W (Referent.rtF (Referent.fInt Syntax.w8)) 4 0 4 Path'.refl)) d1
@@ -1138,7 +1138,7 @@ module _ (claims· : Claims) where
           d4 = Typed.g-pre 𝓤 H A W 𝓣 E G6 G8 b2 Δ1 (Typed.both s5) at3 (Known.g-enum-told 𝓤 H A W E Found.enum 0 G6 10 λ x. x) d3
 
           d5 : Typed.Typed 𝓤 H A 𝓣 E G53 b18 Δ1 at5
-          d5 = Typed.s-typed 𝓤 H A W 𝓣 E G53 b18 Δ1 (λ Ψ. Typed.both s51 (Typed.pass T54 T55 s52 (Typed.pass T55 T56 s53 (Typed.pass T56 T57 s54 Ψ)))) tt (Typed.g-post 𝓤 H A W 𝓣 E G53 G56 G57 b18 (λ Ψ. Typed.both s51 (Typed.pass T54 T55 s52 (Typed.pass T55 T56 s53 Ψ))) (Typed.pass T56 T57 s54) (Typed.g-post 𝓤 H A W 𝓣 E G53 G55 G56 b18 (λ Ψ. Typed.both s51 (Typed.pass T54 T55 s52 Ψ)) (Typed.pass T55 T56 s53) (Typed.g-post 𝓤 H A W 𝓣 E G53 G54 G55 b18 (Typed.both s51) (Typed.pass T54 T55 s52) (Plain.t-call-plain 𝓤 H A W 𝓣 0 ps·5 r·5 (claims· .10) (claims· .11) "table_receiver::offered" (known .5) E (λ pos β. β) G53 (record { pos = 15; st = List.[]; d = 0; at = λ x. x }, tt) 16 List.[] (Call.sub-id 𝓤 H A W (G53 .slots)) ((Yields.yields-copy 𝓤 H A W (λ ρ. Unit) (Declared.row Answer.the-type) Path'.refl (Copies.cEnum Answer.the-type Laws'3.the-laws Laws'3.the-copy .copy 𝓤 H A W) (Rows'.whole (Declared.row Answer.the-type)) (λ x. x) (λ x. x) (λ ρ told. Local.mem-whole 𝓤 H A W (Declared.row Answer.the-type) ρ) λ ρ told. Local.whole-mem 𝓤 H A W (Declared.row Answer.the-type) ρ, Path'.refl), tt) (Reads'.room-gone 𝓤 H A Laws'6.mir) tt Path'.refl) (Scalar.g-room 𝓤 H A W E G54 13 (Syntax.tyInt Syntax.w64) (Scalar.room-sc 𝓤 H A W (Row.sInt Syntax.w64)))) (Scalar.g-room 𝓤 H A W E G55 14 (Syntax.tyInt Syntax.w64) (Scalar.room-sc 𝓤 H A W (Row.sInt Syntax.w64)))) (Scalar.g-room 𝓤 H A W E G56 15 Laws'3.mir (Local.room-whole 𝓤 H A W (Declared.row Answer.the-type) Laws'3.mir Path'.refl)))
+          d5 = Typed.s-typed 𝓤 H A W 𝓣 E G53 b18 Δ1 (λ Ψ. Typed.both s51 (Typed.pass T54 T55 s52 (Typed.pass T55 T56 s53 (Typed.pass T56 T57 s54 Ψ)))) tt (Typed.g-post 𝓤 H A W 𝓣 E G53 G56 G57 b18 (λ Ψ. Typed.both s51 (Typed.pass T54 T55 s52 (Typed.pass T55 T56 s53 Ψ))) (Typed.pass T56 T57 s54) (Typed.g-post 𝓤 H A W 𝓣 E G53 G55 G56 b18 (λ Ψ. Typed.both s51 (Typed.pass T54 T55 s52 Ψ)) (Typed.pass T55 T56 s53) (Typed.g-post 𝓤 H A W 𝓣 E G53 G54 G55 b18 (Typed.both s51) (Typed.pass T54 T55 s52) (Plain.t-call-plain 𝓤 H A W 𝓣 0 ps·5 r·5 (claims· .10) (claims· .11) "table_receiver::offered" (known .5) E (λ pos β. β) G53 (record { pos = 15; st = List.[]; d = 0; at = λ x. x }, tt) 16 List.[] (Call.sub-id 𝓤 H A W (G53 .slots)) ((Yields.yields-copy 𝓤 H A W (λ ρ. Unit) (Declared.row Answer.the-type) Path'.refl (Copies.cEnum Answer.the-type Laws.the-laws Laws.the-copy .copy 𝓤 H A W) (Rows'.whole (Declared.row Answer.the-type)) (λ x. x) (λ x. x) (λ ρ told. Local.mem-whole 𝓤 H A W (Declared.row Answer.the-type) ρ) λ ρ told. Local.whole-mem 𝓤 H A W (Declared.row Answer.the-type) ρ, Path'.refl), tt) (Reads'.room-gone 𝓤 H A Laws'4.mir) tt Path'.refl) (Scalar.g-room 𝓤 H A W E G54 13 (Syntax.tyInt Syntax.w64) (Scalar.room-sc 𝓤 H A W (Row.sInt Syntax.w64)))) (Scalar.g-room 𝓤 H A W E G55 14 (Syntax.tyInt Syntax.w64) (Scalar.room-sc 𝓤 H A W (Row.sInt Syntax.w64)))) (Scalar.g-room 𝓤 H A W E G56 15 Laws.mir (Local.room-whole 𝓤 H A W (Declared.row Answer.the-type) Laws.mir Path'.refl)))
 
           d6 : Typed.Typed 𝓤 H A 𝓣 E G52 b18 Δ1 at6
           d6 = Typed.g-pre 𝓤 H A W 𝓣 E G52 G53 b18 Δ1 (λ Ψ. Ψ) at5 (Lifetime.g-forget 𝓤 H A W E G52 6 Row.dead Path'.refl) d5
@@ -1174,13 +1174,13 @@ module _ (claims· : Claims) where
           d16 = Typed.g-pre 𝓤 H A W 𝓣 E G42 G43 b18 Δ1 (λ Ψ. Ψ) at15 (Lifetime.g-end 𝓤 H A W E G42 4 Path'.refl) d15
 
           d17 : Typed.Typed 𝓤 H A 𝓣 E G41 b18 Δ1 at17
-          d17 = Typed.g-pre 𝓤 H A W 𝓣 E G41 G42 b18 Δ1 (Typed.pass T41 T42 s39) at16 (Scalar.g-room 𝓤 H A W E G41 12 Laws'4.mir (Local.room-whole 𝓤 H A W (Declared'.row Arrival.the-type) Laws'4.mir Path'.refl)) d16
+          d17 = Typed.g-pre 𝓤 H A W 𝓣 E G41 G42 b18 Δ1 (Typed.pass T41 T42 s39) at16 (Scalar.g-room 𝓤 H A W E G41 12 Laws'.mir (Local.room-whole 𝓤 H A W (Declared'.row Arrival.the-type) Laws'.mir Path'.refl)) d16
 
           d18 : Typed.Typed 𝓤 H A 𝓣 E G40 b18 Δ1 at18
           d18 = Typed.g-pre 𝓤 H A W 𝓣 E G40 G41 b18 Δ1 (Typed.pass T40 T41 s38) at17 (Scalar.g-room 𝓤 H A W E G40 24 (Syntax.tyStruct (List._∷_ 38 (List._∷_ 91 (List._∷_ 93 List.[]))) (Syntax.tcons (Syntax.tyRef Syntax.erased Syntax.imm (Syntax.tyInt Syntax.w8)) (Syntax.tcons (Syntax.tyInt Syntax.w64) Syntax.tnil))) (Shared.room-sslice 𝓤 H A W (Referent.rtF (Referent.fInt Syntax.w8)) (Syntax.tyRef Syntax.erased Syntax.imm (Syntax.tyInt Syntax.w8)) 2)) d17
 
           d19 : Typed.Typed 𝓤 H A 𝓣 E G39 b19 Δ1 at19
-          d19 = Typed.s-seq 𝓤 H A W 𝓣 E G39 G40 b17 b18 Δ1 (Typed.both s37) at18 (Plain.t-call-plain 𝓤 H A W 𝓣 4 ps·4 r·4 (claims· .8) (claims· .9) "table_calls::offer" (known .4) E (λ pos β. β) G39 (record { pos = 18; ty = Syntax.tyRef Syntax.erased Syntax.mut (Memory·T.pointee (Client·T.the-row .written)); ref = λ x. x }, (record { pos = 20; ty = Syntax.tyRef Syntax.erased Syntax.mut (Syntax.tyInt Syntax.w8); ref = λ x. x }, (Num.vAt 3 λ x. x, (record { pos = 12; st = List.[]; d = 0; at = λ x. x }, (record { pos = 24; ty = Syntax.tyRef Syntax.erased Syntax.imm (Syntax.tyInt Syntax.w8); ref = λ x. x }, (record { pos = 26; ty = Syntax.tyRef Syntax.erased Syntax.mut (Syntax.tyInt Syntax.w8); ref = λ x. x }, tt)))))) 15 (List._∷_ 4 (List._∷_ 5 (List._∷_ 2 (List._∷_ 6 List.[])))) (Call.sub-id 𝓤 H A W (G39 .slots)) (Reads'.as-is 𝓤 H A (Mut.mslice Client·T.the-row (Syntax.tyRef Syntax.erased Syntax.mut (Memory·T.pointee (Client·T.the-row .written))) 4), Mut.reads-mslice 𝓤 H A W Client·T.the-row (Syntax.tyRef Syntax.erased Syntax.mut (Memory·T.pointee (Client·T.the-row .written))) 4, Path'.refl, (Reads'.as-is 𝓤 H A (Mut.mslice (Referent.rtF (Referent.fInt Syntax.w8)) (Syntax.tyRef Syntax.erased Syntax.mut (Syntax.tyInt Syntax.w8)) 5), Mut.reads-mslice 𝓤 H A W (Referent.rtF (Referent.fInt Syntax.w8)) (Syntax.tyRef Syntax.erased Syntax.mut (Syntax.tyInt Syntax.w8)) 5, Path'.refl, ((Scalar.reads-sc 𝓤 H A W (Row.sInt Syntax.w64), Path'.refl), ((Yields.yields-copy 𝓤 H A W (λ ρ. Unit) (Declared'.row Arrival.the-type) Path'.refl (Copies.cStruct Arrival.the-type Laws'4.the-laws Laws'4.the-copy .copy 𝓤 H A W) (Rows'.whole (Declared'.row Arrival.the-type)) (λ x. x) (λ x. x) (λ ρ told. Local.mem-whole 𝓤 H A W (Declared'.row Arrival.the-type) ρ) λ ρ told. Local.whole-mem 𝓤 H A W (Declared'.row Arrival.the-type) ρ, Path'.refl), (ShrSlice.spares-sslice 𝓤 H A W (Referent.rtF (Referent.fInt Syntax.w8)) (Syntax.tyRef Syntax.erased Syntax.imm (Syntax.tyInt Syntax.w8)) 2, Shared.reads-sslice 𝓤 H A W (Referent.rtF (Referent.fInt Syntax.w8)) (Syntax.tyRef Syntax.erased Syntax.imm (Syntax.tyInt Syntax.w8)) 2, Path'.refl, (Reads'.as-is 𝓤 H A (Mut.mslice (Referent.rtF (Referent.fInt Syntax.w8)) (Syntax.tyRef Syntax.erased Syntax.mut (Syntax.tyInt Syntax.w8)) 6), Mut.reads-mslice 𝓤 H A W (Referent.rtF (Referent.fInt Syntax.w8)) (Syntax.tyRef Syntax.erased Syntax.mut (Syntax.tyInt Syntax.w8)) 6, Path'.refl, tt)))))) (Reads'.room-gone 𝓤 H A Laws'3.mir) (tt, (tt, (tt, (tt, tt)))) Path'.refl) d18
+          d19 = Typed.s-seq 𝓤 H A W 𝓣 E G39 G40 b17 b18 Δ1 (Typed.both s37) at18 (Plain.t-call-plain 𝓤 H A W 𝓣 4 ps·4 r·4 (claims· .8) (claims· .9) "table_calls::offer" (known .4) E (λ pos β. β) G39 (record { pos = 18; ty = Syntax.tyRef Syntax.erased Syntax.mut (Memory·T.pointee (Client·T.the-row .written)); ref = λ x. x }, (record { pos = 20; ty = Syntax.tyRef Syntax.erased Syntax.mut (Syntax.tyInt Syntax.w8); ref = λ x. x }, (Num.vAt 3 λ x. x, (record { pos = 12; st = List.[]; d = 0; at = λ x. x }, (record { pos = 24; ty = Syntax.tyRef Syntax.erased Syntax.imm (Syntax.tyInt Syntax.w8); ref = λ x. x }, (record { pos = 26; ty = Syntax.tyRef Syntax.erased Syntax.mut (Syntax.tyInt Syntax.w8); ref = λ x. x }, tt)))))) 15 (List._∷_ 4 (List._∷_ 5 (List._∷_ 2 (List._∷_ 6 List.[])))) (Call.sub-id 𝓤 H A W (G39 .slots)) (Reads'.as-is 𝓤 H A (Mut.mslice Client·T.the-row (Syntax.tyRef Syntax.erased Syntax.mut (Memory·T.pointee (Client·T.the-row .written))) 4), Mut.reads-mslice 𝓤 H A W Client·T.the-row (Syntax.tyRef Syntax.erased Syntax.mut (Memory·T.pointee (Client·T.the-row .written))) 4, Path'.refl, (Reads'.as-is 𝓤 H A (Mut.mslice (Referent.rtF (Referent.fInt Syntax.w8)) (Syntax.tyRef Syntax.erased Syntax.mut (Syntax.tyInt Syntax.w8)) 5), Mut.reads-mslice 𝓤 H A W (Referent.rtF (Referent.fInt Syntax.w8)) (Syntax.tyRef Syntax.erased Syntax.mut (Syntax.tyInt Syntax.w8)) 5, Path'.refl, ((Scalar.reads-sc 𝓤 H A W (Row.sInt Syntax.w64), Path'.refl), ((Yields.yields-copy 𝓤 H A W (λ ρ. Unit) (Declared'.row Arrival.the-type) Path'.refl (Copies.cStruct Arrival.the-type Laws'.the-laws Laws'.the-copy .copy 𝓤 H A W) (Rows'.whole (Declared'.row Arrival.the-type)) (λ x. x) (λ x. x) (λ ρ told. Local.mem-whole 𝓤 H A W (Declared'.row Arrival.the-type) ρ) λ ρ told. Local.whole-mem 𝓤 H A W (Declared'.row Arrival.the-type) ρ, Path'.refl), (ShrSlice.spares-sslice 𝓤 H A W (Referent.rtF (Referent.fInt Syntax.w8)) (Syntax.tyRef Syntax.erased Syntax.imm (Syntax.tyInt Syntax.w8)) 2, Shared.reads-sslice 𝓤 H A W (Referent.rtF (Referent.fInt Syntax.w8)) (Syntax.tyRef Syntax.erased Syntax.imm (Syntax.tyInt Syntax.w8)) 2, Path'.refl, (Reads'.as-is 𝓤 H A (Mut.mslice (Referent.rtF (Referent.fInt Syntax.w8)) (Syntax.tyRef Syntax.erased Syntax.mut (Syntax.tyInt Syntax.w8)) 6), Mut.reads-mslice 𝓤 H A W (Referent.rtF (Referent.fInt Syntax.w8)) (Syntax.tyRef Syntax.erased Syntax.mut (Syntax.tyInt Syntax.w8)) 6, Path'.refl, tt)))))) (Reads'.room-gone 𝓤 H A Laws.mir) (tt, (tt, (tt, (tt, tt)))) Path'.refl) d18
 
           d20 : Typed.Typed 𝓤 H A 𝓣 E G38 b20 Δ1 at20
           d20 = Typed.s-seq 𝓤 H A W 𝓣 E G38 G39 b16 b19 Δ1 (Typed.ask s36) at19 (Relend.t-sl-aggregate 𝓤 H A W E (Referent.rtF (Referent.fInt Syntax.w8)) 𝓣 (Relend.asMut (Referent.rtF (Referent.fInt Syntax.w8))) G38 25 26 6 (Syntax.tyRef Syntax.erased Syntax.mut (Syntax.tyInt Syntax.w8)) (Syntax.tyRef Syntax.erased Syntax.mut (Syntax.tyInt Syntax.w8)) (λ x. x) (Scalar.oFld 8 (List._∷_ (Syntax.field 1) List.[]) (Syntax.tyInt Syntax.w64) 8 λ v. Shared.lenV (v .0)) (Reads'.as-is 𝓤 H A (Relend.msptr (Referent.rtF (Referent.fInt Syntax.w8)) (Syntax.tyRef Syntax.erased Syntax.mut (Syntax.tyInt Syntax.w8)) 6)) (Reads'.room-gone 𝓤 H A (Syntax.tyStruct (List._∷_ 38 (List._∷_ 91 (List._∷_ 93 List.[]))) (Syntax.tcons (Syntax.tyRef Syntax.erased Syntax.mut (Syntax.tyInt Syntax.w8)) (Syntax.tcons (Syntax.tyInt Syntax.w64) Syntax.tnil)))) (Relend.reads-owed-len 𝓤 H A W (Referent.rtF (Referent.fInt Syntax.w8)) (Syntax.tyRef (Syntax.named 3) Syntax.mut (Syntax.tyInt Syntax.w8)) 3 6 (Row.lease (κs .1 .1 .1 .0) (qs .1 .1 .1 .0)) 8 Path'.refl, Path'.refl) Path'.refl Path'.refl λ b o k. tt) d19
@@ -1228,13 +1228,13 @@ module _ (claims· : Claims) where
           d34 = Typed.g-pre 𝓤 H A W 𝓣 E G24 G25 b29 Δ1 (λ Ψ. Ψ) at33 (Lifetime.g-begin 𝓤 H A W E G24 4 (tt, (tt, (tt, (tt, (tt, (tt, (tt, (tt, (tt, (tt, (tt, (tt, (tt, (tt, (tt, (tt, (tt, (tt, (tt, (tt, (tt, (tt, (tt, (tt, (tt, (tt, (tt, tt)))))))))))))))))))))))))))) d33
 
           d35 : Typed.Typed 𝓤 H A 𝓣 E G23 b29 Δ1 at35
-          d35 = Typed.g-pre 𝓤 H A W 𝓣 E G23 G24 b29 Δ1 (Typed.pass T23 T24 s21) at34 (Scalar.g-room 𝓤 H A W E G23 11 Laws''.mir (Local.room-whole 𝓤 H A W (Declared'.row Fragment.the-type) Laws''.mir Path'.refl)) d34
+          d35 = Typed.g-pre 𝓤 H A W 𝓣 E G23 G24 b29 Δ1 (Typed.pass T23 T24 s21) at34 (Scalar.g-room 𝓤 H A W E G23 11 Laws'5.mir (Local.room-whole 𝓤 H A W (Declared'.row Fragment.the-type) Laws'5.mir Path'.refl)) d34
 
           d36 : Typed.Typed 𝓤 H A 𝓣 E G22 b30 Δ1 at36
-          d36 = Typed.s-seq 𝓤 H A W 𝓣 E G22 G23 b6 b29 Δ1 (Typed.pass T22 T23 s20) at35 (Scalar.t-use 𝓤 H A W E 𝓣 G22 (Scalar.oFld 11 (List._∷_ (Syntax.field 3) (List._∷_ (Syntax.field 0) List.[])) (Syntax.tyInt Syntax.w64) 24 λ x. Reads.fieldV PacketOffset.the-type Laws'.the-laws 0 (Fragment.struct .as-values x .1 .1 .1 .0)) 14 (Rows'.sc-here (Row.sInt Syntax.w64)) (Syntax.tyInt Syntax.w64) (Row.valS (Row.sInt Syntax.w64)) (Row.sInt Syntax.w64 .of) (Reads.reads-inner 𝓤 H A W PacketOffset.the-type Laws'.the-laws (Rows'.whole (Declared'.row Fragment.the-type)) 24 (λ x. Fragment.struct .as-values x .1 .1 .1 .0) (Reads.reads-field 𝓤 H A W Fragment.the-type Laws''.the-laws 3 Laws'.mir 24 Path'.refl) 0 (Syntax.tyInt Syntax.w64) 0 Path'.refl, Path'.refl) (Reads'.room-gone 𝓤 H A (Syntax.tyInt Syntax.w64)) (Scalar.holds-sc 𝓤 H A W (Row.sInt Syntax.w64)) Path'.refl (λ u. Path'.refl) λ u. tt) d35
+          d36 = Typed.s-seq 𝓤 H A W 𝓣 E G22 G23 b6 b29 Δ1 (Typed.pass T22 T23 s20) at35 (Scalar.t-use 𝓤 H A W E 𝓣 G22 (Scalar.oFld 11 (List._∷_ (Syntax.field 3) (List._∷_ (Syntax.field 0) List.[])) (Syntax.tyInt Syntax.w64) 24 λ x. Reads.fieldV PacketOffset.the-type Laws''.the-laws 0 (Fragment.struct .as-values x .1 .1 .1 .0)) 14 (Rows'.sc-here (Row.sInt Syntax.w64)) (Syntax.tyInt Syntax.w64) (Row.valS (Row.sInt Syntax.w64)) (Row.sInt Syntax.w64 .of) (Reads.reads-inner 𝓤 H A W PacketOffset.the-type Laws''.the-laws (Rows'.whole (Declared'.row Fragment.the-type)) 24 (λ x. Fragment.struct .as-values x .1 .1 .1 .0) (Reads.reads-field 𝓤 H A W Fragment.the-type Laws'5.the-laws 3 Laws''.mir 24 Path'.refl) 0 (Syntax.tyInt Syntax.w64) 0 Path'.refl, Path'.refl) (Reads'.room-gone 𝓤 H A (Syntax.tyInt Syntax.w64)) (Scalar.holds-sc 𝓤 H A W (Row.sInt Syntax.w64)) Path'.refl (λ u. Path'.refl) λ u. tt) d35
 
           d37 : Typed.Typed 𝓤 H A 𝓣 E G21 b31 Δ1 at37
-          d37 = Typed.s-seq 𝓤 H A W 𝓣 E G21 G22 b5 b30 Δ1 (Typed.pass T21 T22 s19) at36 (Scalar.t-use 𝓤 H A W E 𝓣 G21 (Scalar.oFld 11 (List._∷_ (Syntax.field 2) (List._∷_ (Syntax.field 0) List.[])) (Syntax.tyInt Syntax.w64) 16 λ x. Reads.fieldV PacketOffset.the-type Laws'.the-laws 0 (Fragment.struct .as-values x .1 .1 .0)) 13 (Rows'.sc-here (Row.sInt Syntax.w64)) (Syntax.tyInt Syntax.w64) (Row.valS (Row.sInt Syntax.w64)) (Row.sInt Syntax.w64 .of) (Reads.reads-inner 𝓤 H A W PacketOffset.the-type Laws'.the-laws (Rows'.whole (Declared'.row Fragment.the-type)) 16 (λ x. Fragment.struct .as-values x .1 .1 .0) (Reads.reads-field 𝓤 H A W Fragment.the-type Laws''.the-laws 2 Laws'.mir 16 Path'.refl) 0 (Syntax.tyInt Syntax.w64) 0 Path'.refl, Path'.refl) (Reads'.room-gone 𝓤 H A (Syntax.tyInt Syntax.w64)) (Scalar.holds-sc 𝓤 H A W (Row.sInt Syntax.w64)) Path'.refl (λ u. Path'.refl) λ u. tt) d36
+          d37 = Typed.s-seq 𝓤 H A W 𝓣 E G21 G22 b5 b30 Δ1 (Typed.pass T21 T22 s19) at36 (Scalar.t-use 𝓤 H A W E 𝓣 G21 (Scalar.oFld 11 (List._∷_ (Syntax.field 2) (List._∷_ (Syntax.field 0) List.[])) (Syntax.tyInt Syntax.w64) 16 λ x. Reads.fieldV PacketOffset.the-type Laws''.the-laws 0 (Fragment.struct .as-values x .1 .1 .0)) 13 (Rows'.sc-here (Row.sInt Syntax.w64)) (Syntax.tyInt Syntax.w64) (Row.valS (Row.sInt Syntax.w64)) (Row.sInt Syntax.w64 .of) (Reads.reads-inner 𝓤 H A W PacketOffset.the-type Laws''.the-laws (Rows'.whole (Declared'.row Fragment.the-type)) 16 (λ x. Fragment.struct .as-values x .1 .1 .0) (Reads.reads-field 𝓤 H A W Fragment.the-type Laws'5.the-laws 2 Laws''.mir 16 Path'.refl) 0 (Syntax.tyInt Syntax.w64) 0 Path'.refl, Path'.refl) (Reads'.room-gone 𝓤 H A (Syntax.tyInt Syntax.w64)) (Scalar.holds-sc 𝓤 H A W (Row.sInt Syntax.w64)) Path'.refl (λ u. Path'.refl) λ u. tt) d36
 
           d38 : Typed.Typed 𝓤 H A 𝓣 E G20 b31 Δ1 at38
           d38 = Typed.g-pre 𝓤 H A W 𝓣 E G20 G21 b31 Δ1 (Typed.pass T20 T21 s18) at37 (Scalar.g-room 𝓤 H A W E G20 6 (Syntax.tyArray (Syntax.tyInt Syntax.w8) 4) (Init.room-arr 𝓤 H A W (Referent.rtF (Referent.fInt Syntax.w8)) 4 0 4 Path'.refl)) d37
@@ -1243,25 +1243,25 @@ module _ (claims· : Claims) where
           d39 = Typed.g-pre 𝓤 H A W 𝓣 E G19 G20 b31 Δ1 (Typed.pass T19 T20 s17) at38 (Scalar.g-room 𝓤 H A W E G19 5 (Syntax.tyArray (Syntax.tyInt Syntax.w8) 4) (Init.room-arr 𝓤 H A W (Referent.rtF (Referent.fInt Syntax.w8)) 4 0 4 Path'.refl)) d38
 
           d40 : Typed.Typed 𝓤 H A 𝓣 E G18 b32 Δ1 at40
-          d40 = Typed.s-seq 𝓤 H A W 𝓣 E G18 G19 b4 b31 Δ1 (Typed.both s16) at39 (Plain.t-call-plain 𝓤 H A W 𝓣 1 ps·3 r·3 (claims· .6) (claims· .7) "table_receiver::arrival_of" (known .3) E (λ pos β. β) G18 (record { pos = 7; ty = Syntax.tyRef (Syntax.named 2) Syntax.imm (Syntax.tyInt Syntax.w8); ref = λ x. x }, (record { pos = 5; st = List.[]; d = 0; at = λ x. x }, (record { pos = 6; st = List.[]; d = 0; at = λ x. x }, (Num.vAt 4 λ x. x, (record { pos = 11; st = List.[]; d = 0; at = λ x. x }, tt))))) 12 (List._∷_ 2 List.[]) (Call.sub-id 𝓤 H A W (G18 .slots)) (ShrSlice.spares-sslice 𝓤 H A W (Referent.rtF (Referent.fInt Syntax.w8)) (Syntax.tyRef (Syntax.named 2) Syntax.imm (Syntax.tyInt Syntax.w8)) 2, Shared.reads-sslice 𝓤 H A W (Referent.rtF (Referent.fInt Syntax.w8)) (Syntax.tyRef (Syntax.named 2) Syntax.imm (Syntax.tyInt Syntax.w8)) 2, Path'.refl, ((Array.arr-yields 𝓤 H A W (Array.eInt Syntax.w8) (Array.eInt-laws Syntax.w8) 4, Path'.refl), ((Array.arr-yields 𝓤 H A W (Array.eInt Syntax.w8) (Array.eInt-laws Syntax.w8) 4, Path'.refl), ((Scalar.reads-sc 𝓤 H A W (Row.sInt Syntax.w64), Path'.refl), ((Yields.yields-copy 𝓤 H A W (λ ρ. Unit) (Declared'.row Fragment.the-type) Path'.refl (Copies.cStruct Fragment.the-type Laws''.the-laws Laws''.the-copy .copy 𝓤 H A W) (Rows'.whole (Declared'.row Fragment.the-type)) (λ x. x) (λ x. x) (λ ρ told. Local.mem-whole 𝓤 H A W (Declared'.row Fragment.the-type) ρ) λ ρ told. Local.whole-mem 𝓤 H A W (Declared'.row Fragment.the-type) ρ, Path'.refl), tt))))) (Reads'.room-gone 𝓤 H A Laws'4.mir) (tt, tt) Path'.refl) d39
+          d40 = Typed.s-seq 𝓤 H A W 𝓣 E G18 G19 b4 b31 Δ1 (Typed.both s16) at39 (Plain.t-call-plain 𝓤 H A W 𝓣 1 ps·3 r·3 (claims· .6) (claims· .7) "table_receiver::arrival_of" (known .3) E (λ pos β. β) G18 (record { pos = 7; ty = Syntax.tyRef (Syntax.named 2) Syntax.imm (Syntax.tyInt Syntax.w8); ref = λ x. x }, (record { pos = 5; st = List.[]; d = 0; at = λ x. x }, (record { pos = 6; st = List.[]; d = 0; at = λ x. x }, (Num.vAt 4 λ x. x, (record { pos = 11; st = List.[]; d = 0; at = λ x. x }, tt))))) 12 (List._∷_ 2 List.[]) (Call.sub-id 𝓤 H A W (G18 .slots)) (ShrSlice.spares-sslice 𝓤 H A W (Referent.rtF (Referent.fInt Syntax.w8)) (Syntax.tyRef (Syntax.named 2) Syntax.imm (Syntax.tyInt Syntax.w8)) 2, Shared.reads-sslice 𝓤 H A W (Referent.rtF (Referent.fInt Syntax.w8)) (Syntax.tyRef (Syntax.named 2) Syntax.imm (Syntax.tyInt Syntax.w8)) 2, Path'.refl, ((Array.arr-yields 𝓤 H A W (Array.eInt Syntax.w8) (Array.eInt-laws Syntax.w8) 4, Path'.refl), ((Array.arr-yields 𝓤 H A W (Array.eInt Syntax.w8) (Array.eInt-laws Syntax.w8) 4, Path'.refl), ((Scalar.reads-sc 𝓤 H A W (Row.sInt Syntax.w64), Path'.refl), ((Yields.yields-copy 𝓤 H A W (λ ρ. Unit) (Declared'.row Fragment.the-type) Path'.refl (Copies.cStruct Fragment.the-type Laws'5.the-laws Laws'5.the-copy .copy 𝓤 H A W) (Rows'.whole (Declared'.row Fragment.the-type)) (λ x. x) (λ x. x) (λ ρ told. Local.mem-whole 𝓤 H A W (Declared'.row Fragment.the-type) ρ) λ ρ told. Local.whole-mem 𝓤 H A W (Declared'.row Fragment.the-type) ρ, Path'.refl), tt))))) (Reads'.room-gone 𝓤 H A Laws'.mir) (tt, tt) Path'.refl) d39
 
           d41 : Typed.Typed 𝓤 H A 𝓣 E G17 b32 Δ1 at41
-          d41 = Typed.g-pre 𝓤 H A W 𝓣 E G17 G18 b32 Δ1 (Typed.pass T17 T18 s15) at40 (Scalar.g-room 𝓤 H A W E G17 10 Laws'5.mir (Local.room-whole 𝓤 H A W (Known.Known Found.enum 1) Laws'5.mir Path'.refl)) d40
+          d41 = Typed.g-pre 𝓤 H A W 𝓣 E G17 G18 b32 Δ1 (Typed.pass T17 T18 s15) at40 (Scalar.g-room 𝓤 H A W E G17 10 Laws'3.mir (Local.room-whole 𝓤 H A W (Known.Known Found.enum 1) Laws'3.mir Path'.refl)) d40
 
           d42 : Typed.Typed 𝓤 H A 𝓣 E G16 b33 Δ1 at42
-          d42 = Typed.s-seq 𝓤 H A W 𝓣 E G16 G17 b3 b32 Δ1 (Typed.pass T16 T17 s14) at41 (CopyOut.t-copy-told 𝓤 H A W E 𝓣 (Declared'.row Fragment.the-type) Path'.refl (Laws'8.val Fragment.the-type Laws''.the-laws) (Laws'8.lawful Fragment.the-type Laws''.the-laws 𝓤 H A W) (Laws'8.makes Fragment.the-type Laws''.the-plain 𝓤 H A) G16 11 (Scalar.oFld 10 (List._∷_ (Syntax.variant 1) (List._∷_ (Syntax.field 1) List.[])) Laws''.mir 8 λ v. Laws'8.val Fragment.the-type Laws''.the-laws (v .0)) (λ m. m .1 .1 .1 .1 .1 .1 .1 .1 .1 .1 .0 .0) (λ m. Laws'7.Fields (Declared.variants Found.the-type) (Laws'7.spellss (Found.enum .parts) Laws'5.the-laws) (Found.the-type .to (Known.at Found.enum 1 (m .1 .1 .1 .1 .1 .1 .1 .1 .1 .1 .0)))) (Reads'.room-gone 𝓤 H A Laws''.mir) (Match.reads-payload 𝓤 H A W Found.enum Laws'5.the-laws 1 Path'.refl Path'.refl (λ v. Val.vcons (Laws'8.val Fragment.the-type Laws''.the-laws (v .0)) Val.vnil) (λ v. Path'.refl) 0 Laws''.mir 8 Path'.refl, Path'.refl) Path'.refl (λ ρ m. Make.tells-row 𝓤 H A W E ρ (Row.out 11 (G16 .locals)) m 10 (Laws'7.Fields (Declared.variants Found.the-type) (Laws'7.spellss (Found.enum .parts) Laws'5.the-laws) (Found.the-type .to (Known.at Found.enum 1 (m .1 .1 .1 .1 .1 .1 .1 .1 .1 .1 .0)))) (Known.known-is 𝓤 H A W E Found.enum 1 Laws'5.the-laws ρ 10 (m .1 .1 .1 .1 .1 .1 .1 .1 .1 .1 .0))) (λ m k wa. Path'.refl) λ m k wa. k .0) d41
+          d42 = Typed.s-seq 𝓤 H A W 𝓣 E G16 G17 b3 b32 Δ1 (Typed.pass T16 T17 s14) at41 (CopyOut.t-copy-told 𝓤 H A W E 𝓣 (Declared'.row Fragment.the-type) Path'.refl (Laws'8.val Fragment.the-type Laws'5.the-laws) (Laws'8.lawful Fragment.the-type Laws'5.the-laws 𝓤 H A W) (Laws'8.makes Fragment.the-type Laws'5.the-plain 𝓤 H A) G16 11 (Scalar.oFld 10 (List._∷_ (Syntax.variant 1) (List._∷_ (Syntax.field 1) List.[])) Laws'5.mir 8 λ v. Laws'8.val Fragment.the-type Laws'5.the-laws (v .0)) (λ m. m .1 .1 .1 .1 .1 .1 .1 .1 .1 .1 .0 .0) (λ m. Laws'7.Fields (Declared.variants Found.the-type) (Laws'7.spellss (Found.enum .parts) Laws'3.the-laws) (Found.the-type .to (Known.at Found.enum 1 (m .1 .1 .1 .1 .1 .1 .1 .1 .1 .1 .0)))) (Reads'.room-gone 𝓤 H A Laws'5.mir) (Match.reads-payload 𝓤 H A W Found.enum Laws'3.the-laws 1 Path'.refl Path'.refl (λ v. Val.vcons (Laws'8.val Fragment.the-type Laws'5.the-laws (v .0)) Val.vnil) (λ v. Path'.refl) 0 Laws'5.mir 8 Path'.refl, Path'.refl) Path'.refl (λ ρ m. Make.tells-row 𝓤 H A W E ρ (Row.out 11 (G16 .locals)) m 10 (Laws'7.Fields (Declared.variants Found.the-type) (Laws'7.spellss (Found.enum .parts) Laws'3.the-laws) (Found.the-type .to (Known.at Found.enum 1 (m .1 .1 .1 .1 .1 .1 .1 .1 .1 .1 .0)))) (Known.known-is 𝓤 H A W E Found.enum 1 Laws'3.the-laws ρ 10 (m .1 .1 .1 .1 .1 .1 .1 .1 .1 .1 .0))) (λ m k wa. Path'.refl) λ m k wa. k .0) d41
 
           d43 : Typed.Typed 𝓤 H A 𝓣 E G15 b33 Δ1 at43
-          d43 = Typed.g-pre 𝓤 H A W 𝓣 E G15 G16 b33 Δ1 (Typed.pass T15 T16 s13) at42 (Scalar.g-room 𝓤 H A W E G15 9 Laws.mir (Local.room-whole 𝓤 H A W (Declared.row Outcome.the-type) Laws.mir Path'.refl)) d42
+          d43 = Typed.g-pre 𝓤 H A W 𝓣 E G15 G16 b33 Δ1 (Typed.pass T15 T16 s13) at42 (Scalar.g-room 𝓤 H A W E G15 9 Laws'6.mir (Local.room-whole 𝓤 H A W (Declared.row Outcome.the-type) Laws'6.mir Path'.refl)) d42
 
           d44 : Typed.Typed 𝓤 H A 𝓣 E G14 b33 Δ1 at44
-          d44 = Typed.g-pre 𝓤 H A W 𝓣 E G14 G15 b33 Δ1 (Typed.give s12) at43 (Known.g-known-told 𝓤 H A W E Found.enum 1 G14 10 Laws'5.the-laws (λ x. x) (Reads'.as-is 𝓤 H A (Rows'.whole (Known.Known Found.enum 1)))) d43
+          d44 = Typed.g-pre 𝓤 H A W 𝓣 E G14 G15 b33 Δ1 (Typed.give s12) at43 (Known.g-known-told 𝓤 H A W E Found.enum 1 G14 10 Laws'3.the-laws (λ x. x) (Reads'.as-is 𝓤 H A (Rows'.whole (Known.Known Found.enum 1)))) d43
 
           d45 : Typed.Typed 𝓤 H A 𝓣 E G6 b33 Δ1 at45
           d45 = Typed.g-pre 𝓤 H A W 𝓣 E G6 G14 b33 Δ1 (Typed.both s11) at44 (Known.g-enum-known 𝓤 H A W E Found.enum 1 G6 10 (λ x. x) (Reads'.as-is 𝓤 H A (Rows'.whole (Declared.row Found.the-type)))) d44
 
           d46 : Typed.Typed 𝓤 H A 𝓣 E G6 b34 Δ1 at46
-          d46 = Switch.t-switch-on 𝓤 H A W E 𝓣 G6 (Scalar.oFld 10 (List._∷_ (Syntax.variant 0) (List._∷_ (Syntax.field 0) List.[])) (Syntax.tyInt Syntax.w8) 0 λ x. Val.vint Syntax.w8 (Declared.tagOf Found.the-type x)) Syntax.w8 (λ u. Declared.tagOf Found.the-type (u .1 .1 .1 .1 .1 .1 .1 .1 .1 .1 .0)) (Syntax.arm (List._∷_ 0 List.[]) b2 (Syntax.arm (List._∷_ 1 List.[]) b33 Syntax.noDefault)) Δ1 (at4, (at45, tt)) (Match.reads-tag 𝓤 H A W Found.the-type Laws'5.the-laws (Rows'.whole (Declared.row Found.the-type)) 0 (λ x. x) (Whole.reads-enum 𝓤 H A W Found.the-type Laws'5.the-laws), Path'.refl) (λ u. Path'.refl) (d4, (d45, tt))
+          d46 = Switch.t-switch-on 𝓤 H A W E 𝓣 G6 (Scalar.oFld 10 (List._∷_ (Syntax.variant 0) (List._∷_ (Syntax.field 0) List.[])) (Syntax.tyInt Syntax.w8) 0 λ x. Val.vint Syntax.w8 (Declared.tagOf Found.the-type x)) Syntax.w8 (λ u. Declared.tagOf Found.the-type (u .1 .1 .1 .1 .1 .1 .1 .1 .1 .1 .0)) (Syntax.arm (List._∷_ 0 List.[]) b2 (Syntax.arm (List._∷_ 1 List.[]) b33 Syntax.noDefault)) Δ1 (at4, (at45, tt)) (Match.reads-tag 𝓤 H A W Found.the-type Laws'3.the-laws (Rows'.whole (Declared.row Found.the-type)) 0 (λ x. x) (Whole.reads-enum 𝓤 H A W Found.the-type Laws'3.the-laws), Path'.refl) (λ u. Path'.refl) (d4, (d45, tt))
 
           d47 : Typed.Typed 𝓤 H A 𝓣 E G61 b36 Δ0 at47
           d47 = Typed.t-return 𝓤 H A W 𝓣 E Δ0 tt
@@ -1273,19 +1273,19 @@ module _ (claims· : Claims) where
           d49 = Typed.g-pre 𝓤 H A W 𝓣 E G59 G60 b36 Δ0 (Typed.pass T59 T60 s57) at48 (Scalar.g-room 𝓤 H A W E G59 3 (Syntax.tyInt Syntax.w64) (Scalar.room-sc 𝓤 H A W (Row.sInt Syntax.w64))) d48
 
           d50 : Typed.Typed 𝓤 H A 𝓣 E G58 b36 Δ0 at50
-          d50 = Typed.g-pre 𝓤 H A W 𝓣 E G58 G59 b36 Δ0 (Typed.pass T58 T59 s56) at49 (Scalar.g-room 𝓤 H A W E G58 16 Laws'6.mir (Local.room-whole 𝓤 H A W (Declared.row Received.the-type) Laws'6.mir Path'.refl)) d49
+          d50 = Typed.g-pre 𝓤 H A W 𝓣 E G58 G59 b36 Δ0 (Typed.pass T58 T59 s56) at49 (Scalar.g-room 𝓤 H A W E G58 16 Laws'4.mir (Local.room-whole 𝓤 H A W (Declared.row Received.the-type) Laws'4.mir Path'.refl)) d49
 
           d51 : Typed.Typed 𝓤 H A 𝓣 E G7 b37 Δ0 at51
-          d51 = Typed.s-seq 𝓤 H A W 𝓣 E G7 G58 b35 b36 Δ0 (Typed.pass T7 T58 s55) at50 (LocalCopy.t-val-copy 𝓤 H A W E 𝓣 (λ ρ. Unit) G7 16 0 (Declared.row Received.the-type) Laws'6.mir Laws'6.mir (Rows'.whole (Declared.row Received.the-type)) (Rows'.whole (Declared.row Received.the-type)) (λ x. x) (λ x. x) (λ x. x) Path'.refl (Own.told-none 𝓤 H A (G7 .slots)) (Yields.yields-copy 𝓤 H A W (λ ρ. Unit) (Declared.row Received.the-type) Path'.refl (Copies.cEnum Received.the-type Laws'6.the-laws Laws'6.the-copy .copy 𝓤 H A W) (Rows'.whole (Declared.row Received.the-type)) (λ x. x) (λ x. x) (λ ρ told. Local.mem-whole 𝓤 H A W (Declared.row Received.the-type) ρ) λ ρ told. Local.whole-mem 𝓤 H A W (Declared.row Received.the-type) ρ) (Reads'.room-gone 𝓤 H A Laws'6.mir) (Yields.makes-mem 𝓤 H A W (λ ρ. Unit) (Declared.row Received.the-type) Path'.refl (Rows'.whole (Declared.row Received.the-type)) (λ x. x) λ ρ told. Local.whole-mem 𝓤 H A W (Declared.row Received.the-type) ρ) Path'.refl Path'.refl) d50
+          d51 = Typed.s-seq 𝓤 H A W 𝓣 E G7 G58 b35 b36 Δ0 (Typed.pass T7 T58 s55) at50 (LocalCopy.t-val-copy 𝓤 H A W E 𝓣 (λ ρ. Unit) G7 16 0 (Declared.row Received.the-type) Laws'4.mir Laws'4.mir (Rows'.whole (Declared.row Received.the-type)) (Rows'.whole (Declared.row Received.the-type)) (λ x. x) (λ x. x) (λ x. x) Path'.refl (Own.told-none 𝓤 H A (G7 .slots)) (Yields.yields-copy 𝓤 H A W (λ ρ. Unit) (Declared.row Received.the-type) Path'.refl (Copies.cEnum Received.the-type Laws'4.the-laws Laws'4.the-copy .copy 𝓤 H A W) (Rows'.whole (Declared.row Received.the-type)) (λ x. x) (λ x. x) (λ ρ told. Local.mem-whole 𝓤 H A W (Declared.row Received.the-type) ρ) λ ρ told. Local.whole-mem 𝓤 H A W (Declared.row Received.the-type) ρ) (Reads'.room-gone 𝓤 H A Laws'4.mir) (Yields.makes-mem 𝓤 H A W (λ ρ. Unit) (Declared.row Received.the-type) Path'.refl (Rows'.whole (Declared.row Received.the-type)) (λ x. x) λ ρ told. Local.whole-mem 𝓤 H A W (Declared.row Received.the-type) ρ) Path'.refl Path'.refl) d50
 
           d52 : Typed.Typed 𝓤 H A 𝓣 E G6 b38 Δ0 at52
           d52 = Typed.t-seq 𝓤 H A W 𝓣 E G6 G7 b34 b37 Δ0 at46 at51 d46 d51
 
           d53 : Typed.Typed 𝓤 H A 𝓣 E G5 b39 Δ0 at53
-          d53 = Typed.s-seq 𝓤 H A W 𝓣 E G5 G6 b1 b38 Δ0 (Typed.both s4) at52 (Plain.t-call-plain 𝓤 H A W 𝓣 0 ps·1 r·1 (claims· .2) (claims· .3) "table_receiver::look" (known .1) E (λ pos β. β) G5 (record { pos = 9; st = List.[]; d = 0; at = λ x. x }, tt) 10 List.[] (Call.sub-id 𝓤 H A W (G5 .slots)) ((Yields.yields-copy 𝓤 H A W (λ ρ. Unit) (Declared.row Outcome.the-type) Path'.refl (Copies.cEnum Outcome.the-type Laws.the-laws Laws.the-copy .copy 𝓤 H A W) (Rows'.whole (Declared.row Outcome.the-type)) (λ x. x) (λ x. x) (λ ρ told. Local.mem-whole 𝓤 H A W (Declared.row Outcome.the-type) ρ) λ ρ told. Local.whole-mem 𝓤 H A W (Declared.row Outcome.the-type) ρ, Path'.refl), tt) (Reads'.room-gone 𝓤 H A Laws'5.mir) tt Path'.refl) d52
+          d53 = Typed.s-seq 𝓤 H A W 𝓣 E G5 G6 b1 b38 Δ0 (Typed.both s4) at52 (Plain.t-call-plain 𝓤 H A W 𝓣 0 ps·1 r·1 (claims· .2) (claims· .3) "table_receiver::look" (known .1) E (λ pos β. β) G5 (record { pos = 9; st = List.[]; d = 0; at = λ x. x }, tt) 10 List.[] (Call.sub-id 𝓤 H A W (G5 .slots)) ((Yields.yields-copy 𝓤 H A W (λ ρ. Unit) (Declared.row Outcome.the-type) Path'.refl (Copies.cEnum Outcome.the-type Laws'6.the-laws Laws'6.the-copy .copy 𝓤 H A W) (Rows'.whole (Declared.row Outcome.the-type)) (λ x. x) (λ x. x) (λ ρ told. Local.mem-whole 𝓤 H A W (Declared.row Outcome.the-type) ρ) λ ρ told. Local.whole-mem 𝓤 H A W (Declared.row Outcome.the-type) ρ, Path'.refl), tt) (Reads'.room-gone 𝓤 H A Laws'3.mir) tt Path'.refl) d52
 
           d54 : Typed.Typed 𝓤 H A 𝓣 E G4 b40 Δ0 at54
-          d54 = Typed.s-seq 𝓤 H A W 𝓣 E G4 G5 b0 b39 Δ0 (Typed.both s3) at53 (Plain.t-call-plain 𝓤 H A W 𝓣 1 ps·0 r·0 (claims· .0) (claims· .1) "wire_datagram::reading::read" (known .0) E (λ pos β. β) G4 (record { pos = 7; ty = Syntax.tyRef (Syntax.named 2) Syntax.imm (Syntax.tyInt Syntax.w8); ref = λ x. x }, (record { pos = 5; st = List.[]; d = 0; at = λ x. x }, (record { pos = 6; st = List.[]; d = 0; at = λ x. x }, tt))) 9 (List._∷_ 2 List.[]) (Call.sub-id 𝓤 H A W (G4 .slots)) (ShrSlice.spares-sslice 𝓤 H A W (Referent.rtF (Referent.fInt Syntax.w8)) (Syntax.tyRef (Syntax.named 2) Syntax.imm (Syntax.tyInt Syntax.w8)) 2, Shared.reads-sslice 𝓤 H A W (Referent.rtF (Referent.fInt Syntax.w8)) (Syntax.tyRef (Syntax.named 2) Syntax.imm (Syntax.tyInt Syntax.w8)) 2, Path'.refl, ((Array.arr-yields 𝓤 H A W (Array.eInt Syntax.w8) (Array.eInt-laws Syntax.w8) 4, Path'.refl), ((Array.arr-yields 𝓤 H A W (Array.eInt Syntax.w8) (Array.eInt-laws Syntax.w8) 4, Path'.refl), tt))) (Reads'.room-gone 𝓤 H A Laws.mir) (tt, tt) Path'.refl) d53
+          d54 = Typed.s-seq 𝓤 H A W 𝓣 E G4 G5 b0 b39 Δ0 (Typed.both s3) at53 (Plain.t-call-plain 𝓤 H A W 𝓣 1 ps·0 r·0 (claims· .0) (claims· .1) "wire_datagram::reading::read" (known .0) E (λ pos β. β) G4 (record { pos = 7; ty = Syntax.tyRef (Syntax.named 2) Syntax.imm (Syntax.tyInt Syntax.w8); ref = λ x. x }, (record { pos = 5; st = List.[]; d = 0; at = λ x. x }, (record { pos = 6; st = List.[]; d = 0; at = λ x. x }, tt))) 9 (List._∷_ 2 List.[]) (Call.sub-id 𝓤 H A W (G4 .slots)) (ShrSlice.spares-sslice 𝓤 H A W (Referent.rtF (Referent.fInt Syntax.w8)) (Syntax.tyRef (Syntax.named 2) Syntax.imm (Syntax.tyInt Syntax.w8)) 2, Shared.reads-sslice 𝓤 H A W (Referent.rtF (Referent.fInt Syntax.w8)) (Syntax.tyRef (Syntax.named 2) Syntax.imm (Syntax.tyInt Syntax.w8)) 2, Path'.refl, ((Array.arr-yields 𝓤 H A W (Array.eInt Syntax.w8) (Array.eInt-laws Syntax.w8) 4, Path'.refl), ((Array.arr-yields 𝓤 H A W (Array.eInt Syntax.w8) (Array.eInt-laws Syntax.w8) 4, Path'.refl), tt))) (Reads'.room-gone 𝓤 H A Laws'6.mir) (tt, tt) Path'.refl) d53
 
           d55 : Typed.Typed 𝓤 H A 𝓣 E G3 b40 Δ0 at55
           d55 = Typed.g-pre 𝓤 H A W 𝓣 E G3 G4 b40 Δ0 (Typed.give s2) at54 (Know.g-sl-known 𝓤 H A W (Referent.fInt Syntax.w8) E G3 8 3 (Syntax.tyRef (Syntax.named 3) Syntax.mut (Syntax.tyInt Syntax.w8)) (Row.lease (κs .1 .1 .1 .0) (qs .1 .1 .1 .0)) 0 (λ x. x) record { fits = Dec'.lit< tt } (Reads'.as-is 𝓤 H A (Mut.mslice (Referent.rtF (Referent.fInt Syntax.w8)) (Syntax.tyRef (Syntax.named 3) Syntax.mut (Syntax.tyInt Syntax.w8)) 3)) Path'.refl tt) d54
