@@ -25,7 +25,7 @@ use Rattle.list_payload.specs.Payload.{Datagram, payloadOf}
 use Rattle.list_payload.proofs.ReadBack.{backOf}
 use Rattle.list_payload.proofs.Claims.{ReadBack}
 use Rattle.list_writer.proofs.Claims.{WroteBack, write-reads-back}
-use Rattle.list_readings.specs.Back.{GivesList}
+use Rattle.list_readings.specs.Back.{GivesList, walkOf}
 use Rattle.list_readings.specs.Catalogue.{isListed, walkOfValue}
 use Rattle.list_readings.proofs.Values.{by-verdict, value-listed, value-none, none-listed}
 
@@ -79,10 +79,6 @@ rereading-listed original start r e =
     value-claim original (r .verdict) (r .options .from .0) (r .options .to .0) (r .count) (r .fill) (rereading-lists original start r e)
 
 -- ---- what was written is listed back
-
--- what there is to list of a reading of these bytes
-abbrev pub walkOf : List ℕ → Reading → Walked
-walkOf payload r = walkOfValue payload (r .verdict) (r .options .from .0) (r .options .to .0)
 
 -- the listing of a reading is the encoded list, and the fill beside it the one that was asked for
 pub record ListsBack (d : Datagram) (list : List ℕ) (r : Reading) : Type 0 where
