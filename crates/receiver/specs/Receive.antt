@@ -5,22 +5,10 @@ use mathlib.Core.List.{List}
 use mathlib.Core.Option.{Option, none, some}
 use Rattle.octets.specs.Octets.{number, part}
 use Rattle.options.specs.declared.area.Fragment.{Fragment}
+use Rattle.datagram.specs.Verdict.{verdictSays}
 use Rattle.datagram.specs.Reading as Reading
 use Rattle.datagram.specs.Reading.{Answer, reading, refusalNumber}
 use Rattle.datagram.specs.declared.reading.Verdict.{Verdict}
-use Rattle.datagram.specs.declared.reading.Verdict.the-variants.{
-  Bare,
-  Short,
-  Pad,
-  Unsummed,
-  BadSum,
-  Malformed,
-  Unsafe,
-  FragData,
-  Crowded,
-  Read,
-  Piece,
-}
 use Rattle.datagram.specs.declared.reading.Reading.{Reading}
 use Rattle.datagram.specs.declared.reading.Outcome.{Outcome}
 use Rattle.datagram.specs.declared.reading.Outcome.the-variants.{Refused as Unread, Accepted}
@@ -36,17 +24,7 @@ use Rattle.receiver.specs.declared.Received.the-variants.{Refused, Datag
 
 -- the fragment of a verdict "piece"
 abbrev pub pieceOf : Verdict → Option Fragment
-pieceOf Bare = none
-pieceOf Short = none
-pieceOf Pad = none
-pieceOf Unsummed = none
-pieceOf BadSum = none
-pieceOf Malformed = none
-pieceOf Unsafe = none
-pieceOf FragData = none
-pieceOf Crowded = none
-pieceOf Read = none
-pieceOf (Piece f) = some f
+pieceOf verdict = verdictSays verdict .values
 
 -- the fragment that a payload is, if it is one
 abbrev pub pieceIn : Answer → Option Fragment
