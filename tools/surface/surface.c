@@ -192,30 +192,27 @@ static void nothing_at_all(void)
 
     /* the table: bit 0 of `way` leaves out the records, bit 1 the store, bit 2 what is read, bit 3 out */
     for (unsigned way = 0; way < 16; way++) {
-        wuraketozo_client one[2];
-        size_t count = way & 1 ? 0 : 1, size = way & 2 ? 0 : sizeof store, length = way & 4 ? 0 : sizeof piece, room = way & 8 ? 0 : sizeof out;
-        wuraketozo_client *no_records = count ? &one[1] : NULL;
-        uint8_t *no_store = size ? store : NULL, *no_out = room ? out : NULL;
-        const uint8_t *no_bytes = length ? piece : NULL;
+        wuraketozo_client with_null[1], without[1];
         uint8_t dummy = 0;
-        memset(one, 0, sizeof one);
-        CHECK(same_answer(wuraketozo_reset(no_records, count, no_store, size), wuraketozo_reset(&one[0], count, size ? store : &dummy, size)));
-        CHECK(same_answer(wuraketozo_offer(no_records, count, no_store, size, 0, fragment(0, 0), no_bytes, length, no_out, room),
-                          wuraketozo_offer(&one[0], count, size ? store : &dummy, size, 0, fragment(0, 0), length ? piece : &dummy, length,
-                                           room ? out : &dummy, room)));
-        CHECK(same_received(
-            wuraketozo_receive(no_records, count, no_store, size, 0, 0, here, there, no_bytes, length, no_out, room),
-            wuraketozo_receive(&one[0], count, size ? store : &dummy, size, 0, 0, here, there, length ? piece : &dummy, length,
-                               room ? out : &dummy, room)));
-        CHECK(same_answer(wuraketozo_account(no_records, count, no_store, size, 0), wuraketozo_account(&one[0], count, size ? store : &dummy, size, 0)));
-        CHECK(same_answer(wuraketozo_advance(no_records, count, no_store, size, 0, 9),
-                          wuraketozo_advance(&one[0], count, size ? store : &dummy, size, 0, 9)));
-        CHECK(memcmp(&one[0], &one[1], sizeof one[0]) == 0 && dummy == 0);
-        if (way != 0 && !(way & 3))
-            CHECK(wuraketozo_offer(&one[0], count, store, size, 0, fragment(0, 0), no_bytes, length, no_out, room).refusal ==
-                  (way & 8 ? 23u : 24u));
+        size_t count = way & 1 ? 0 : 1, size = way & 2 ? 0 : sizeof store;
+        size_t length = way & 4 ? 0 : sizeof piece, room = way & 8 ? 0 : sizeof out;
+        wuraketozo_client *r = count ? with_null : NULL;
+        uint8_t *s = size ? store : NULL, *s2 = size ? store : &dummy, *o = room ? out : NULL, *o2 = room ? out : &dummy;
+        const uint8_t *b = length ? piece : NULL, *b2 = length ? piece : &dummy;
+        memset(with_null, 0, sizeof with_null);
+        memset(without, 0, sizeof without);
+        CHECK(same_answer(wuraketozo_reset(r, count, s, size), wuraketozo_reset(without, count, s2, size)));
+        CHECK(same_answer(wuraketozo_offer(r, count, s, size, 0, fragment(0, 0), b, length, o, room),
+                          wuraketozo_offer(without, count, s2, size, 0, fragment(0, 0), b2, length, o2, room)));
+        CHECK(same_received(wuraketozo_receive(r, count, s, size, 0, 0, here, there, b, length, o, room),
+                            wuraketozo_receive(without, count, s2, size, 0, 0, here, there, b2, length, o2, room)));
+        CHECK(same_answer(wuraketozo_account(r, count, s, size, 0), wuraketozo_account(without, count, s2, size, 0)));
+        CHECK(same_answer(wuraketozo_advance(r, count, s, size, 0, 9), wuraketozo_advance(without, count, s2, size, 0, 9)));
+        CHECK(memcmp(with_null, without, sizeof without) == 0 && dummy == 0);
         if (way & 3)
-            CHECK(wuraketozo_account(no_records, count, no_store, size, 0).refusal == 20);
+            CHECK(wuraketozo_account(r, count, s, size, 0).refusal == 20);
+        else if (way != 0)
+            CHECK(wuraketozo_offer(r, count, s, size, 0, fragment(0, 0), b, length, o, room).refusal == (way & 8 ? 23u : 24u));
     }
 }
 

@@ -5,22 +5,10 @@ use mathlib.Core.List.{List}
 use mathlib.Core.Option.{Option, none, some}
 use Rattle.number_octets.specs.Octets.{number, part}
 use Rattle.wire_area.specs.declared.Fragment.{Fragment}
+use Rattle.wire_datagram.specs.Verdict.{verdictSays}
 use Rattle.wire_datagram.specs.Reading as Reading
 use Rattle.wire_datagram.specs.Reading.{Answer, reading, refusalNumber}
 use Rattle.wire_datagram.specs.declared.reading.Verdict.{Verdict}
-use Rattle.wire_datagram.specs.declared.reading.Verdict.the-variants.{
-  Bare,
-  Short,
-  Pad,
-  Unsummed,
-  BadSum,
-  Malformed,
-  Unsafe,
-  FragData,
-  Crowded,
-  Read,
-  Piece,
-}
 use Rattle.wire_datagram.specs.declared.reading.Reading.{Reading}
 use Rattle.wire_datagram.specs.declared.reading.Outcome.{Outcome}
 use Rattle.wire_datagram.specs.declared.reading.Outcome.the-variants.{Refused as Unread, Accepted}
@@ -36,17 +24,7 @@ use Rattle.table_receiver.specs.declared.Received.the-variants.{Refused,
 
 -- the fragment of a verdict "piece"
 abbrev pub pieceOf : Verdict → Option Fragment
-pieceOf Bare = none
-pieceOf Short = none
-pieceOf Pad = none
-pieceOf Unsummed = none
-pieceOf BadSum = none
-pieceOf Malformed = none
-pieceOf Unsafe = none
-pieceOf FragData = none
-pieceOf Crowded = none
-pieceOf Read = none
-pieceOf (Piece f) = some f
+pieceOf verdict = verdictSays verdict .values
 
 -- the fragment that a payload is, if it is one
 abbrev pub pieceIn : Answer → Option Fragment
