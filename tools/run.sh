@@ -15,11 +15,11 @@ build() {
     rm -f target-run.log
 }
 
-build inspect
+build program_inspect
 if [ -n "${IN:-}" ]; then
     exec "$program" <"$IN"
 fi
-build roundtrip
+build program_roundtrip
 echo "-- written and read back"
 target/bin/program_roundtrip
 for sample in samples/*.bin; do

@@ -5,7 +5,7 @@ from collections import Counter
 from make_samples import SRC, DST, FIXED, area_of, expected, opt, udp
 
 HERE = os.path.dirname(os.path.abspath(__file__))
-PROGRAM = os.path.join(HERE, "..", "..", "target", "bin", "inspect")
+PROGRAM = os.path.join(HERE, "..", "..", "target", "bin", "program_inspect")
 COUNT = int(sys.argv[1]) if len(sys.argv) > 1 else 2000
 rng = random.Random(9868)
 
