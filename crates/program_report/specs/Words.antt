@@ -4,14 +4,6 @@ use Prim.Native.Nat.{ℕ}
 use Rattle.wire_datagram.specs.declared.reading.Verdict.{Verdict}
 use Rattle.wire_datagram.specs.Verdict.{verdictSays}
 
--- a blank
-abbrev pub blank : ℕ
-blank = 32
-
--- the end of a line
-abbrev pub newline : ℕ
-newline = 10
-
 -- ---- labels
 
 -- user
@@ -21,10 +13,6 @@ userWord = 117 ∷ 115 ∷ 101 ∷ 114 ∷ []
 -- verdict
 abbrev pub verdictWord : List ℕ
 verdictWord = 118 ∷ 101 ∷ 114 ∷ 100 ∷ 105 ∷ 99 ∷ 116 ∷ []
-
--- kind
-abbrev pub kindWord : List ℕ
-kindWord = 107 ∷ 105 ∷ 110 ∷ 100 ∷ []
 
 -- fill
 abbrev pub fillWord : List ℕ

@@ -2,7 +2,7 @@
 -- Assumes nothing.
 use mathlib.Core.Path.{sym, ap}
 use Rattle.program_report.specs.Words.{wordOf}
-use Rattle.program_report.proofs.Puts.{put-as}
+use Rattle.program_text.proofs.Puts.{put-as}
 use borrow.Author.Needs.{needs}
 use Rattle.program_report.proofs.put_word.Statement.{statement}
 use Rattle.program_report.proofs.put_word.Tie as tie
