@@ -22,8 +22,9 @@ use Rattle.wire_datagram.proofs.Claims.{met-none, first-none}
 use Rattle.program_text.specs.Digits.{digit, digitsIn, longest, decimalOf, hexDigit, hexOf}
 use Rattle.program_text.specs.Characters.{blank, newline}
 use Rattle.program_lines.specs.Lines.{kindWord, widthsOf, numbersOf, bodyOf, fieldsBy, fieldsOf, itemLine, itemLines, itemsOf}
-use Rattle.program_report.specs.Words.{userWord, verdictWord, fillWord, refusedWord, wordOf}
-use Rattle.program_report.specs.Report.{numberLine, verdictLine, listingOf, readingText, answerText, reportOf}
+use Rattle.program_verdict.specs.Words.{verdictWord, wordOf, verdictLine}
+use Rattle.program_report.specs.Words.{userWord, fillWord, refusedWord}
+use Rattle.program_report.specs.Report.{numberLine, listingOf, readingText, answerText, reportOf}
 use Rattle.program_printout.specs.Input.{addressSize, addresses, textOf, textLimit}
 
 -- ---- numbers and bytes

@@ -7,22 +7,15 @@ use Rattle.wire_datagram.specs.Extents.{sizeOf, bytesIn}
 use Rattle.wire_datagram.specs.Reading.{Answer, refused, reads, reading, isRead}
 use Rattle.wire_datagram.specs.declared.reading.Extent.{Extent}
 use Rattle.wire_datagram.specs.declared.reading.Reading.{Reading}
-use Rattle.wire_datagram.specs.declared.reading.Verdict.{Verdict}
 use Rattle.program_text.specs.Digits.{decimalOf}
 use Rattle.program_text.specs.Characters.{blank, newline}
 use Rattle.program_lines.specs.Lines.{itemLines, itemsOf}
-use Rattle.program_report.specs.Words.{userWord, verdictWord, fillWord, refusedWord, wordOf}
-
--- ---- lines
+use Rattle.program_verdict.specs.Words.{verdictLine}
+use Rattle.program_report.specs.Words.{userWord, fillWord, refusedWord}
 
 -- a label and a number
 unfoldable pub numberLine : List ℕ → ℕ → List ℕ
 numberLine word n = word ++ (blank ∷ []) ++ decimalOf n ++ (newline ∷ [])
-
-unfoldable pub verdictLine : Verdict → List ℕ
-verdictLine verdict = verdictWord ++ (blank ∷ []) ++ wordOf verdict ++ (newline ∷ [])
-
--- ---- the whole
 
 -- the options that an extent of the payload lists, and the fill
 unfoldable pub listingOf : List ℕ → Extent → ℕ → List ℕ

@@ -9,9 +9,8 @@ ghost use mathlib.Core.Path.{_≡_};
 ghost use Prim.Native.Nat.{_≤_};
 ghost use lib.ListN.{length};
 ghost use Rattle.wire_datagram.specs.Reading.{refusalNumber};
-ghost use Rattle.program_report.specs.Words.{wordOf};
 ghost use Rattle.program_text.specs.Put.{Put};
-ghost use Rattle.program_report.specs.Report.{listingOf, readingText, reportOf, verdictLine};
+ghost use Rattle.program_report.specs.Report.{listingOf, readingText, reportOf};
 ghost use Rattle.program_report.specs.Sound.{Listable, Sound};
 
 // Writes what fits of the report to the front of `text`, and answers where it ends.
@@ -50,39 +49,11 @@ fn put_reading(payload: &[u8], reading: Reading, text: &mut [u8]) -> usize
     let verdict = reading.verdict;
     let options = reading.options;
     let counted = program_text::put_line(b"user ", user.to.0 - user.from.0, text, 0);
-    let judged = put_verdict(verdict, text, counted);
+    let judged = program_verdict::put_verdict(verdict, text, counted);
     if reading::is_read(verdict) {
         return put_listing(payload, options, reading.fill, text, judged);
     }
     judged
-}
-
-fn put_verdict(verdict: Verdict, text: &mut [u8], at: usize) -> usize
-    requires { ⌜ at ≤ length (now text) ⌝ }
-    ensures { λ r. ⌜ Put (now (text .entry)) at (verdictLine verdict) r (now (text .exit)) ⌝ }
-{
-    let named = program_text::put(b"verdict ", text, at);
-    let judged = put_word(verdict, text, named);
-    program_text::put(b"\n", text, judged)
-}
-
-fn put_word(verdict: Verdict, text: &mut [u8], at: usize) -> usize
-    requires { ⌜ at ≤ length (now text) ⌝ }
-    ensures { λ r. ⌜ Put (now (text .entry)) at (wordOf verdict) r (now (text .exit)) ⌝ }
-{
-    match verdict {
-        Verdict::Bare => program_text::put(b"none", text, at),
-        Verdict::Short => program_text::put(b"short", text, at),
-        Verdict::Pad => program_text::put(b"pad", text, at),
-        Verdict::Unsummed => program_text::put(b"unsummed", text, at),
-        Verdict::BadSum => program_text::put(b"badsum", text, at),
-        Verdict::Malformed => program_text::put(b"malformed", text, at),
-        Verdict::Unsafe => program_text::put(b"unsafe", text, at),
-        Verdict::FragData => program_text::put(b"fragdata", text, at),
-        Verdict::Crowded => program_text::put(b"crowded", text, at),
-        Verdict::Read => program_text::put(b"read", text, at),
-        Verdict::Piece(_) => program_text::put(b"piece", text, at),
-    }
 }
 
 // The options of a list, and the fill.

@@ -1,11 +1,11 @@
--- `program_report::put_word` meets its contract: the arm knows the verdict, at which `wordOf` computes.
+-- `program_verdict::put_word` meets its contract: the arm knows the verdict, at which `wordOf` computes.
 -- Assumes nothing.
 use mathlib.Core.Path.{sym, ap}
-use Rattle.program_report.specs.Words.{wordOf}
+use Rattle.program_verdict.specs.Words.{wordOf}
 use Rattle.program_text.proofs.Puts.{put-as}
 use borrow.Author.Needs.{needs}
-use Rattle.program_report.proofs.put_word.Statement.{statement}
-use Rattle.program_report.proofs.put_word.Tie as tie
+use Rattle.program_verdict.proofs.put_word.Statement.{statement}
+use Rattle.program_verdict.proofs.put_word.Tie as tie
 
 enum-told : tie.Need-enum-told
 enum-told c = search needs

@@ -1,10 +1,10 @@
--- `program_report::put_verdict` meets its contract: the label, the word and the end of the line are put one behind the other.
+-- `program_verdict::put_verdict` meets its contract: the label, the word and the end of the line are put one behind the other.
 -- Assumes nothing.
-use Rattle.program_report.specs.Report.{verdictLine}
+use Rattle.program_verdict.specs.Words.{verdictLine}
 use Rattle.program_text.proofs.Puts.{put-append, put-room}
 use borrow.Author.Needs.{needs}
-use Rattle.program_report.proofs.put_verdict.Statement.{statement}
-use Rattle.program_report.proofs.put_verdict.Tie as tie
+use Rattle.program_verdict.proofs.put_verdict.Statement.{statement}
+use Rattle.program_verdict.proofs.put_verdict.Tie as tie
 
 slice-aggregate-put : tie.Need-slice-aggregate-put
 slice-aggregate-put c = search needs
