@@ -1,14 +1,14 @@
--- `host_values::rereading_of` meets its contract: a refusal is its number, and a rereading its parts.
+-- `host_readings::rereading_of` meets its contract: a refusal is its number, and a rereading its parts.
 -- Assumes nothing.
 use mathlib.Core.Path.{sym, ap, _∙_}
 use Rattle.wire_datagram.specs.Rereading.{reAnswerOf}
 use Rattle.wire_datagram.specs.declared.rereading.RereadOutcome.{RereadOutcome}
-use Rattle.host_values.specs.Reading.{unreread, hostRereading}
+use Rattle.host_readings.specs.Reading.{unreread, hostRereading}
 use borrow.Author.Needs.{needs}
-use Rattle.host_values.proofs.rereading_of.Statement.{statement}
-use Rattle.host_values.proofs.rereading_of.Tie as tie
-use Rattle.host_values.proofs.rereading_of.Reads as reads
-use Rattle.host_values.proofs.rereading_of.Lts as lts
+use Rattle.host_readings.proofs.rereading_of.Statement.{statement}
+use Rattle.host_readings.proofs.rereading_of.Tie as tie
+use Rattle.host_readings.proofs.rereading_of.Reads as reads
+use Rattle.host_readings.proofs.rereading_of.Lts as lts
 
 enum-known-outcome : tie.Need-enum-known-outcome
 enum-known-outcome c = search needs

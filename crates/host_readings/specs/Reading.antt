@@ -11,8 +11,8 @@ use Rattle.wire_datagram.specs.Rereading.{places}
 use Rattle.wire_datagram.specs.declared.reading.Verdict.{Verdict}
 use Rattle.wire_datagram.specs.declared.reading.Reading.{Reading as Accepted}
 use Rattle.wire_datagram.specs.declared.rereading.Rereading.{Rereading as Reaccepted}
-use Rattle.host_values.specs.declared.Reading.{Reading}
-use Rattle.host_values.specs.declared.Rereading.{Rereading}
+use Rattle.host_readings.specs.declared.Reading.{Reading}
+use Rattle.host_readings.specs.declared.Rereading.{Rereading}
 
 abbrev pub flagOf : Bool → ℕ
 flagOf true = 1

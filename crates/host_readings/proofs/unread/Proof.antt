@@ -1,8 +1,8 @@
--- `host_values::unread` meets its contract: all but the refusal is 0.
+-- `host_readings::unread` meets its contract: all but the refusal is 0.
 -- Assumes nothing.
 use borrow.Author.Needs.{needs}
-use Rattle.host_values.proofs.unread.Statement.{statement}
-use Rattle.host_values.proofs.unread.Tie as tie
+use Rattle.host_readings.proofs.unread.Statement.{statement}
+use Rattle.host_readings.proofs.unread.Tie as tie
 
 no-bytes-requires : tie.Need-no-bytes-requires
 no-bytes-requires c κs = search needs

@@ -1,10 +1,10 @@
--- `host_values::reading_from` meets its contract: each field is the reading's, or is read from the fragment of its verdict.
+-- `host_readings::reading_from` meets its contract: each field is the reading's, or is read from the fragment of its verdict.
 -- Assumes nothing.
 use borrow.Author.Needs.{needs}
-use Rattle.host_values.proofs.reading_from.Statement.{statement}
-use Rattle.host_values.proofs.reading_from.Tie as tie
-use Rattle.host_values.proofs.reading_from.Reads as reads
-use Rattle.host_values.proofs.reading_from.Lts as lts
+use Rattle.host_readings.proofs.reading_from.Statement.{statement}
+use Rattle.host_readings.proofs.reading_from.Tie as tie
+use Rattle.host_readings.proofs.reading_from.Reads as reads
+use Rattle.host_readings.proofs.reading_from.Lts as lts
 
 fragment-in-requires : tie.Need-fragment-in-requires
 fragment-in-requires c κs = search needs
