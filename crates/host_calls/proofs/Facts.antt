@@ -22,7 +22,8 @@ use Rattle.table_calls.specs.Table as Table
 use Rattle.table_receiver.specs.Receive as Receive
 use Rattle.table_receiver.specs.Receive.{fateIn}
 use Rattle.table_receiver.specs.declared.Received as Receiver
-use Rattle.host_values.specs.Lists.{verdictFor, readingFor, rereadingFor, hostListing, hostWritten}
+use Rattle.host_readings.specs.Listable.{verdictFor, readingFor, rereadingFor}
+use Rattle.host_values.specs.Lists.{hostListing, hostWritten}
 use Rattle.host_values.specs.Answer.{hostAnswer, arrivalFrom, hostFate}
 use Rattle.host_values.specs.declared.Listing.{Listing}
 use Rattle.host_values.specs.declared.Written.{Written}

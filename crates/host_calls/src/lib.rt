@@ -1,13 +1,13 @@
 // The library for C and Rust: the calls of include/wuraketozo.h under their names there. A slice is a pointer and a length in C. No
 // call asks anything of the values of its arguments.
 use client_record::Client;
+use host_readings::Reading;
+use host_readings::Rereading;
 use host_values::Address;
 use host_values::Answer;
 use host_values::Fragment;
 use host_values::Listing;
-use host_values::Reading;
 use host_values::Received;
-use host_values::Rereading;
 use host_values::Written;
 use number_offsets::OriginalOffset;
 use wire_datagram::reading;
@@ -24,8 +24,8 @@ ghost use Rattle.client_record.specs.Limits.{datagramLimit, shareSize, clientLi
 ghost use Rattle.client_ledger.specs.History.{Ask, offering, advancing, accounting};
 ghost use Rattle.table_calls.specs.Table.{tableOf, resetOn, askOn};
 ghost use Rattle.table_receiver.specs.Receive.{receiveOn};
-ghost use Rattle.host_values.specs.Reading.{hostReading, hostRereading};
-ghost use Rattle.host_values.specs.Lists.{verdictFor};
+ghost use Rattle.host_readings.specs.Reading.{hostReading, hostRereading};
+ghost use Rattle.host_readings.specs.Listable.{verdictFor};
 ghost use Rattle.host_values.specs.Answer.{arrivalFrom};
 ghost use Rattle.host_calls.specs.Left.{recordSize, Lists, Writes, Leaves, Receives};
 
@@ -38,7 +38,7 @@ pub extern "C" fn wuraketozo_read(payload: &[u8], source: Address, destination: 
 {
     let from = source.octets;
     let to = destination.octets;
-    host_values::reading_of(reading::read(payload, from, to))
+    host_readings::reading_of(reading::read(payload, from, to))
 }
 
 // Reads an original again that was put together from fragments.
@@ -46,7 +46,7 @@ pub extern "C" fn wuraketozo_read(payload: &[u8], source: Address, destination: 
 pub extern "C" fn wuraketozo_reread(original: &[u8], option_start: OriginalOffset) -> Rereading
     ensures { λ r. ⌜ r ≡ hostRereading (rereading (now (original .entry)) («option_start» .0)) ⌝ }
 {
-    host_values::rereading_of(rereading::reread(original, option_start))
+    host_readings::rereading_of(rereading::reread(original, option_start))
 }
 
 // ---- option lists and payloads
@@ -61,7 +61,7 @@ pub extern "C" fn wuraketozo_list(
 ) -> Listing
     ensures { λ r. ⌜ Lists (walkOfValue (now (payload .entry)) (verdictFor verdict) (options .from .0) (options .to .0)) (now (buffer .entry)) r (now (buffer .exit)) ⌝ }
 {
-    let reading = host_values::reading_for(verdict, options);
+    let reading = host_readings::reading_for(verdict, options);
     host_values::listing_of(list_readings::list_reading(payload, reading, buffer))
 }
 
@@ -75,7 +75,7 @@ pub extern "C" fn wuraketozo_relist(
 ) -> Listing
     ensures { λ r. ⌜ Lists (walkOfValue (now (original .entry)) (verdictFor verdict) (options .from .0) (options .to .0)) (now (buffer .entry)) r (now (buffer .exit)) ⌝ }
 {
-    let rereading = host_values::rereading_for(verdict, options);
+    let rereading = host_readings::rereading_for(verdict, options);
     host_values::listing_of(list_readings::list_rereading(original, rereading, buffer))
 }
 

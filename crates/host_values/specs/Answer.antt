@@ -7,12 +7,12 @@ use lib.ListN.{getD}
 use Rattle.client_reassembly.specs.declared.Arrival.{Arrival}
 use Rattle.client_reassembly.specs.Answer.{Reply, refused, ready, stored, repeated, conflict, delivered, advanced, account}
 use Rattle.table_receiver.specs.Receive as Receive
-use Rattle.host_values.specs.declared.Reading.{Reading}
+use Rattle.host_readings.specs.Reading.{unread, readingFrom}
+use Rattle.host_readings.specs.declared.Reading.{Reading}
 use Rattle.host_values.specs.declared.Figures.{Figures}
 use Rattle.host_values.specs.declared.Answer.{Answer}
 use Rattle.host_values.specs.declared.Fragment.{Fragment}
 use Rattle.host_values.specs.declared.Received.{Received}
-use Rattle.host_values.specs.Reading.{unread, readingFrom}
 
 abbrev pub noFigures : Figures
 noFigures = record { offered = 0; held = 0; delivered = 0; expired = 0; conflicted = 0; repeated = 0; rejected = 0 }

@@ -1,32 +1,17 @@
-// The values of include/wuraketozo.h, field for field, and what each answer of the crates below is among them; `host` exports the
-// calls. A refusal is 0, or document 01's number. What a value does not say is 0. Positions keep their types: an `Extent` is bytes of a
-// payload, an `OriginalExtent` or an `OriginalOffset` places in an original.
+// The values of include/wuraketozo.h, field for field, and what each answer of the crates below is among them; those of readings are in
+// `host_readings`, and `host_calls` exports the calls. A refusal is 0, or document 01's number. What a value does not say is 0. Positions
+// keep their types: an `OriginalOffset` is a place in an original.
 use client_reassembly::Arrival;
 use client_record::Flow;
+use host_readings::Reading;
 use list_options::Listed;
 use number_offsets::OriginalOffset;
-use number_offsets::PacketOffset;
-use wire_datagram::reading;
-use wire_datagram::reading::Apc;
-use wire_datagram::reading::Extent;
-use wire_datagram::reading::Outcome;
-use wire_datagram::reading::Refusal;
-use wire_datagram::reading::Verdict;
-use wire_datagram::rereading;
-use wire_datagram::rereading::OriginalExtent;
-use wire_datagram::rereading::RereadOutcome;
-use wire_datagram::rereading::RereadRefusal;
 ghost use mathlib.Core.Path.{_≡_};
-ghost use Rattle.wire_datagram.specs.Verdict.{verdictSays, apcSays};
-ghost use Rattle.wire_datagram.specs.Reading.{extent, answerOf, refusalNumber};
-ghost use Rattle.wire_datagram.specs.Rereading.{places, reAnswerOf, reRefusalNumber};
 ghost use Rattle.list_options.specs.Listing.{listedAnswer};
 ghost use Rattle.list_writer.specs.Answer.{writtenAnswer};
 ghost use Rattle.client_reassembly.specs.Answer.{numberOf, figuresOf, replyOf};
 ghost use Rattle.table_receiver.specs.Receive.{fateIn};
-ghost use Rattle.host_values.specs.Reading.{flagOf, noFragment, fragmentIn, unread, unreread, readingFrom, rereadingFrom};
-ghost use Rattle.host_values.specs.Reading.{hostReading, hostRereading};
-ghost use Rattle.host_values.specs.Lists.{verdictFor, readingFor, rereadingFor, hostListing, hostWritten};
+ghost use Rattle.host_values.specs.Lists.{hostListing, hostWritten};
 ghost use Rattle.host_values.specs.Answer.{noFigures, figuresFrom, plain, handedOut, accounted, hostAnswer, arrivalFrom};
 ghost use Rattle.host_values.specs.Answer.{readAlone, offeredAlone, hostFate};
 
@@ -34,35 +19,6 @@ ghost use Rattle.host_values.specs.Answer.{readAlone, offeredAlone, host
 #[repr(C)]
 pub struct Address {
     pub octets: [u8; 4],
-}
-
-// What `wuraketozo_read` answers.
-#[repr(C)]
-pub struct Reading {
-    pub refusal: u32,
-    pub verdict: u32,
-    pub user: Extent,
-    pub options: Extent,
-    pub count: usize,
-    pub fill: usize,
-    pub apc: u32,
-    pub identification: u32,
-    pub place: OriginalOffset,
-    pub part: Extent,
-    pub option_start: OriginalOffset,
-    pub last: u32,
-}
-
-// What `wuraketozo_reread` answers.
-#[repr(C)]
-pub struct Rereading {
-    pub refusal: u32,
-    pub verdict: u32,
-    pub user: OriginalExtent,
-    pub options: OriginalExtent,
-    pub count: usize,
-    pub fill: usize,
-    pub apc: u32,
 }
 
 // What `wuraketozo_list` and `wuraketozo_relist` answer.
@@ -121,261 +77,7 @@ pub struct Received {
     pub answer: Answer,
 }
 
-// The number of a verdict with which options are listed.
-const READ: u32 = 9;
-
-// ---- readings
-
-fn flag(b: bool) -> u32
-    ensures { λ r. ⌜ r ≡ flagOf b ⌝ }
-{
-    if b { 1 } else { 0 }
-}
-
-fn verdict_number(verdict: Verdict) -> u32
-    ensures { λ r. ⌜ r ≡ verdictSays verdict .number ⌝ }
-{
-    match verdict {
-        Verdict::Bare => 0,
-        Verdict::Short => 1,
-        Verdict::Pad => 2,
-        Verdict::Unsummed => 3,
-        Verdict::BadSum => 4,
-        Verdict::Malformed => 5,
-        Verdict::Unsafe => 6,
-        Verdict::FragData => 7,
-        Verdict::Crowded => 8,
-        Verdict::Read => READ,
-        Verdict::Piece(_) => 10,
-    }
-}
-
-fn apc_number(apc: Apc) -> u32
-    ensures { λ r. ⌜ r ≡ apcSays apc .number ⌝ }
-{
-    match apc {
-        Apc::Absent => 0,
-        Apc::Right => 1,
-        Apc::Wrong => 2,
-    }
-}
-
-fn refusal_number(refusal: Refusal) -> u32
-    ensures { λ r. ⌜ r ≡ refusalNumber refusal ⌝ }
-{
-    match refusal {
-        Refusal::PayloadTooShort => 1,
-        Refusal::PayloadTooLong => 2,
-        Refusal::LengthOutOfRange => 3,
-        Refusal::ChecksumWrong => 4,
-    }
-}
-
-fn reread_number(refusal: RereadRefusal) -> u32
-    ensures { λ r. ⌜ r ≡ reRefusalNumber refusal ⌝ }
-{
-    match refusal {
-        RereadRefusal::OriginalTooLong => 2,
-        RereadRefusal::OptionStartPastEnd => 6,
-        RereadRefusal::UnsafeOption => 5,
-    }
-}
-
-fn no_fragment() -> wire_area::Fragment
-    ensures { λ r. ⌜ r ≡ noFragment ⌝ }
-{
-    wire_area::Fragment {
-        identification: 0,
-        place: OriginalOffset(0),
-        start: PacketOffset(0),
-        end: PacketOffset(0),
-        last: false,
-        option_start: OriginalOffset(0),
-    }
-}
-
-// The fragment of a verdict, all 0 where there is none.
-fn fragment_in(verdict: Verdict) -> wire_area::Fragment
-    ensures { λ r. ⌜ r ≡ fragmentIn verdict ⌝ }
-{
-    match verdict {
-        Verdict::Bare => no_fragment(),
-        Verdict::Short => no_fragment(),
-        Verdict::Pad => no_fragment(),
-        Verdict::Unsummed => no_fragment(),
-        Verdict::BadSum => no_fragment(),
-        Verdict::Malformed => no_fragment(),
-        Verdict::Unsafe => no_fragment(),
-        Verdict::FragData => no_fragment(),
-        Verdict::Crowded => no_fragment(),
-        Verdict::Read => no_fragment(),
-        Verdict::Piece(fragment) => fragment,
-    }
-}
-
-fn no_bytes() -> Extent
-    ensures { λ r. ⌜ r ≡ extent 0 0 ⌝ }
-{
-    Extent {
-        from: PacketOffset(0),
-        to: PacketOffset(0),
-    }
-}
-
-fn no_places() -> OriginalExtent
-    ensures { λ r. ⌜ r ≡ places 0 0 ⌝ }
-{
-    OriginalExtent {
-        from: OriginalOffset(0),
-        to: OriginalOffset(0),
-    }
-}
-
-// A refusal, or with 0 the reading that says nothing.
-fn unread(refusal: u32) -> Reading
-    ensures { λ r. ⌜ r ≡ unread refusal ⌝ }
-{
-    let none = no_bytes();
-    Reading {
-        refusal: refusal,
-        verdict: 0,
-        user: none,
-        options: none,
-        count: 0,
-        fill: 0,
-        apc: 0,
-        identification: 0,
-        place: OriginalOffset(0),
-        part: none,
-        option_start: OriginalOffset(0),
-        last: 0,
-    }
-}
-
-fn unreread(refusal: u32) -> Rereading
-    ensures { λ r. ⌜ r ≡ unreread refusal ⌝ }
-{
-    let none = no_places();
-    Rereading {
-        refusal: refusal,
-        verdict: 0,
-        user: none,
-        options: none,
-        count: 0,
-        fill: 0,
-        apc: 0,
-    }
-}
-
-fn reading_from(reading: reading::Reading) -> Reading
-    ensures { λ r. ⌜ r ≡ readingFrom reading ⌝ }
-{
-    let verdict = reading.verdict;
-    let user = reading.user;
-    let options = reading.options;
-    let apc = reading.apc;
-    let fragment = fragment_in(verdict);
-    let place = fragment.place;
-    let start = fragment.start;
-    let end = fragment.end;
-    let option_start = fragment.option_start;
-    Reading {
-        refusal: 0,
-        verdict: verdict_number(verdict),
-        user: user,
-        options: options,
-        count: reading.count,
-        fill: reading.fill,
-        apc: apc_number(apc),
-        identification: fragment.identification,
-        place: place,
-        part: Extent {
-            from: start,
-            to: end,
-        },
-        option_start: option_start,
-        last: flag(fragment.last),
-    }
-}
-
-fn rereading_from(rereading: rereading::Rereading) -> Rereading
-    ensures { λ r. ⌜ r ≡ rereadingFrom rereading ⌝ }
-{
-    let verdict = rereading.verdict;
-    let user = rereading.user;
-    let options = rereading.options;
-    let apc = rereading.apc;
-    Rereading {
-        refusal: 0,
-        verdict: verdict_number(verdict),
-        user: user,
-        options: options,
-        count: rereading.count,
-        fill: rereading.fill,
-        apc: apc_number(apc),
-    }
-}
-
-pub fn reading_of(outcome: Outcome) -> Reading
-    ensures { λ r. ⌜ r ≡ hostReading (answerOf outcome) ⌝ }
-{
-    match outcome {
-        Outcome::Refused(refusal) => unread(refusal_number(refusal)),
-        Outcome::Accepted(reading) => reading_from(reading),
-    }
-}
-
-pub fn rereading_of(outcome: RereadOutcome) -> Rereading
-    ensures { λ r. ⌜ r ≡ hostRereading (reAnswerOf outcome) ⌝ }
-{
-    match outcome {
-        RereadOutcome::Refused(refusal) => unreread(reread_number(refusal)),
-        RereadOutcome::Accepted(rereading) => rereading_from(rereading),
-    }
-}
-
 // ---- lists and payloads
-
-fn verdict_for(number: u32) -> Verdict
-    ensures { λ r. ⌜ r ≡ verdictFor number ⌝ }
-{
-    if number == READ {
-        return Verdict::Read;
-    }
-    Verdict::Bare
-}
-
-// As much of a reading as its listing looks at: the verdict's number and the option list.
-pub fn reading_for(number: u32, options: Extent) -> reading::Reading
-    ensures { λ r. ⌜ r ≡ readingFor number options ⌝ }
-{
-    let verdict = verdict_for(number);
-    let none = no_bytes();
-    reading::Reading {
-        user: none,
-        verdict: verdict,
-        options: options,
-        count: 0,
-        fill: 0,
-        apc: Apc::Absent,
-    }
-}
-
-// And of a rereading.
-pub fn rereading_for(number: u32, options: OriginalExtent) -> rereading::Rereading
-    ensures { λ r. ⌜ r ≡ rereadingFor number options ⌝ }
-{
-    let verdict = verdict_for(number);
-    let none = no_places();
-    rereading::Rereading {
-        user: none,
-        verdict: verdict,
-        options: options,
-        count: 0,
-        fill: 0,
-        apc: Apc::Absent,
-    }
-}
 
 pub fn listing_of(listed: Listed) -> Listing
     ensures { λ r. ⌜ r ≡ hostListing (listedAnswer listed) ⌝ }
@@ -557,7 +259,7 @@ fn read_alone(what: u32, reading: Reading) -> Received
 fn offered_alone(answer: Answer) -> Received
     ensures { λ r. ⌜ r ≡ offeredAlone answer ⌝ }
 {
-    let reading = unread(0);
+    let reading = host_readings::unread(0);
     Received {
         what: 2,
         reading: reading,
@@ -571,9 +273,12 @@ pub fn received_of(received: table_receiver::Received) -> Received
     match received {
         table_receiver::Received::Refused(refusal) => read_alone(
             0,
-            unread(refusal_number(refusal)),
+            host_readings::unread(host_readings::refusal_number(refusal)),
         ),
-        table_receiver::Received::Datagram(reading) => read_alone(1, reading_from(reading)),
+        table_receiver::Received::Datagram(reading) => read_alone(
+            1,
+            host_readings::reading_from(reading),
+        ),
         table_receiver::Received::Fragment(answer) => offered_alone(answer_of(answer)),
     }
 }

@@ -12,8 +12,10 @@ use Rattle.wire_options.specs.Walk.{walkFrom, optionLimit}
 use Rattle.wire_area.specs.Area.{nopsOf, areaOf}
 use Rattle.wire_surplus.specs.Surplus.{startOf}
 use Rattle.wire_datagram.specs.Reading.{payloadLimit, pseudoHeader, firstOf, accepted, reading}
-use Rattle.program_report.specs.Digits.{digitsIn, decimalOf}
-use Rattle.program_report.specs.Report.{widthsOf, numbersOf, itemLine, itemLines, numberLine, verdictLine, listingOf, readingText, reportOf}
+use Rattle.program_text.specs.Digits.{digitsIn, decimalOf}
+use Rattle.program_lines.specs.Lines.{widthsOf, numbersOf, itemLine, itemLines}
+use Rattle.program_verdict.specs.Words.{verdictLine}
+use Rattle.program_report.specs.Report.{numberLine, listingOf, readingText, reportOf}
 use Rattle.program_printout.specs.Input.{textOf}
 
 -- an input that ends within the addresses: refused 1

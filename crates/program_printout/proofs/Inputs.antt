@@ -17,9 +17,9 @@ use Rattle.wire_datagram.specs.Reading.{payloadLimit}
 use Rattle.wire_datagram.proofs.Refusals.{refused-long}
 use Rattle.program_report.specs.Words.{refusedWord}
 use Rattle.program_report.specs.Report.{numberLine, answerText, reportOf}
-use Rattle.program_report.specs.Put.{fitting, Put}
+use Rattle.program_text.specs.Put.{fitting, Put}
 use Rattle.program_printout.specs.Input.{addressSize, addresses, inputLimit, textOf, textLimit, Holds}
-use Rattle.program_report.proofs.Puts.{put-as}
+use Rattle.program_text.proofs.Puts.{put-as}
 use Rattle.program_printout.proofs.Sizes.{input-fits}
 
 -- what is put at the front of a buffer that has room for it stands there whole

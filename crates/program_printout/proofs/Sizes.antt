@@ -19,24 +19,12 @@ use Rattle.wire_datagram.specs.declared.reading.Reading.{Reading}
 use Rattle.wire_datagram.specs.declared.reading.Verdict.{Verdict}
 use Rattle.wire_datagram.specs.declared.reading.Verdict.the-variants.{Bare, Short, Pad, Unsummed, BadSum, Malformed, Unsafe, FragData, Crowded, Read, Piece}
 use Rattle.wire_datagram.proofs.Claims.{met-none, first-none}
-use Rattle.program_report.specs.Digits.{digit, digitsIn, longest, decimalOf, hexDigit, hexOf}
-use Rattle.program_report.specs.Words.{blank, newline, userWord, verdictWord, kindWord, fillWord, refusedWord, wordOf}
-use Rattle.program_report.specs.Report.{
-  widthsOf,
-  numbersOf,
-  bodyOf,
-  fieldsBy,
-  fieldsOf,
-  itemLine,
-  itemLines,
-  itemsOf,
-  numberLine,
-  verdictLine,
-  listingOf,
-  readingText,
-  answerText,
-  reportOf,
-}
+use Rattle.program_text.specs.Digits.{digit, digitsIn, longest, decimalOf, hexDigit, hexOf}
+use Rattle.program_text.specs.Characters.{blank, newline}
+use Rattle.program_lines.specs.Lines.{kindWord, widthsOf, numbersOf, bodyOf, fieldsBy, fieldsOf, itemLine, itemLines, itemsOf}
+use Rattle.program_verdict.specs.Words.{verdictWord, wordOf, verdictLine}
+use Rattle.program_report.specs.Words.{userWord, fillWord, refusedWord}
+use Rattle.program_report.specs.Report.{numberLine, listingOf, readingText, answerText, reportOf}
 use Rattle.program_printout.specs.Input.{addressSize, addresses, textOf, textLimit}
 
 -- ---- numbers and bytes

@@ -1,5 +1,4 @@
 // What the program prints of its input (document 01, "The program").
-use program_report::text;
 ghost use mathlib.Core.Path.{_≡_};
 ghost use Rattle.program_printout.specs.Input.{textOf, Holds};
 
@@ -20,7 +19,7 @@ pub fn print(input: &[u8], text: &mut [u8; TEXT_LIMIT]) -> usize
     ensures { λ r. ⌜ Holds (now (text .entry)) (textOf (now (input .entry))) r (now (text .exit)) ⌝ }
 {
     if input.len() < ADDRESSES {
-        return text::put_line(b"refused ", TOO_SHORT, text, 0);
+        return program_text::put_line(b"refused ", TOO_SHORT, text, 0);
     }
     let source = [input[0], input[1], input[2], input[3]];
     let destination = [input[4], input[5], input[6], input[7]];

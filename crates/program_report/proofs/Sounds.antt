@@ -13,9 +13,11 @@ use Rattle.wire_datagram.specs.declared.reading.Extent.{Extent}
 use Rattle.wire_datagram.specs.declared.reading.Reading.{Reading}
 use Rattle.wire_datagram.proofs.Claims.{met-none, in-range, user-extent}
 use Rattle.wire_datagram.proofs.Lists.{ListsIn, lists-part, read-verdict, reading-lists}
+use Rattle.program_lines.specs.Lines.{isListed}
+use Rattle.program_verdict.specs.Words.{verdictLine}
 use Rattle.program_report.specs.Words.{userWord}
-use Rattle.program_report.specs.Report.{numberLine, verdictLine, listingOf, readingText}
-use Rattle.program_report.specs.Sound.{isListed, Listable, Sound}
+use Rattle.program_report.specs.Report.{numberLine, listingOf, readingText}
+use Rattle.program_report.specs.Sound.{Listable, Sound}
 
 -- ---- a reading
 

@@ -2,70 +2,20 @@
 use mathlib.Core.Bool.{cond}
 use mathlib.Core.List.{List, [], _∷_, _++_}
 use Prim.Native.Nat.{ℕ}
-use lib.Dec.{eqb}
-use lib.ListN.{take, drop}
-use Rattle.number_octets.specs.Octets.{number}
-use Rattle.wire_options.specs.Walk.{Item, Walked, listed, faulty, walkFrom, optionLimit}
+use Rattle.wire_options.specs.Walk.{walkFrom, optionLimit}
 use Rattle.wire_datagram.specs.Extents.{sizeOf, bytesIn}
 use Rattle.wire_datagram.specs.Reading.{Answer, refused, reads, reading, isRead}
 use Rattle.wire_datagram.specs.declared.reading.Extent.{Extent}
 use Rattle.wire_datagram.specs.declared.reading.Reading.{Reading}
-use Rattle.wire_datagram.specs.declared.reading.Verdict.{Verdict}
-use Rattle.program_report.specs.Digits.{decimalOf, hexOf}
-use Rattle.program_report.specs.Words.{blank, newline, userWord, verdictWord, kindWord, fillWord, refusedWord, wordOf}
-
--- ---- an option
-
--- the widths in bytes of the numbers that an option has, by its kind; a kind from 9 on has a body instead
-unfoldable pub widthsOf : ℕ → List ℕ
-widthsOf kind =
-    cond (eqb kind 2) (4 ∷ [])
-    (cond (eqb kind 4) (2 ∷ [])
-    (cond (eqb kind 5) (2 ∷ 1 ∷ [])
-    (cond (eqb kind 6) (4 ∷ [])
-    (cond (eqb kind 7) (4 ∷ [])
-    (cond (eqb kind 8) (4 ∷ 4 ∷ []) [])))))
-
--- each number of a body in decimal, behind a blank
-unfoldable pub numbersOf : List ℕ → List ℕ → List ℕ
-numbersOf [] body = []
-numbersOf (width ∷ widths) body = (blank ∷ []) ++ decimalOf (number (take width body)) ++ numbersOf widths (drop width body)
-
--- a body in hexadecimal behind a blank; of an empty one nothing
-unfoldable pub bodyOf : List ℕ → List ℕ
-bodyOf [] = []
-bodyOf (b ∷ bs) = (blank ∷ []) ++ hexOf (b ∷ bs)
-
-abbrev pub fieldsBy : List ℕ → List ℕ → List ℕ
-fieldsBy [] body = bodyOf body
-fieldsBy (width ∷ widths) body = numbersOf (width ∷ widths) body
-
--- what is shown of an option's fields or body
-abbrev pub fieldsOf : ℕ → List ℕ → List ℕ
-fieldsOf kind body = fieldsBy (widthsOf kind) body
-
-unfoldable pub itemLine : Item → List ℕ
-itemLine item = kindWord ++ (blank ∷ []) ++ decimalOf (item .kind) ++ fieldsOf (item .kind) (item .body) ++ (newline ∷ [])
-
--- a line for each option, in order
-unfoldable pub itemLines : List Item → List ℕ
-itemLines [] = []
-itemLines (item ∷ items) = itemLine item ++ itemLines items
-
--- ---- the other lines
+use Rattle.program_text.specs.Digits.{decimalOf}
+use Rattle.program_text.specs.Characters.{blank, newline}
+use Rattle.program_lines.specs.Lines.{itemLines, itemsOf}
+use Rattle.program_verdict.specs.Words.{verdictLine}
+use Rattle.program_report.specs.Words.{userWord, fillWord, refusedWord}
 
 -- a label and a number
 unfoldable pub numberLine : List ℕ → ℕ → List ℕ
 numberLine word n = word ++ (blank ∷ []) ++ decimalOf n ++ (newline ∷ [])
-
-unfoldable pub verdictLine : Verdict → List ℕ
-verdictLine verdict = verdictWord ++ (blank ∷ []) ++ wordOf verdict ++ (newline ∷ [])
-
--- ---- the whole
-
-abbrev pub itemsOf : Walked → List Item
-itemsOf (listed items fill) = items
-itemsOf (faulty fault) = []
 
 -- the options that an extent of the payload lists, and the fill
 unfoldable pub listingOf : List ℕ → Extent → ℕ → List ℕ

@@ -1,19 +1,15 @@
 -- What holds of every reading that a payload has: names for what private functions ask.
 use mathlib.Core.Path.{_≡_}
-use mathlib.Core.Bool.{Bool, true, false}
+use mathlib.Core.Bool.{true}
 use mathlib.Core.List.{List}
 use Prim.Native.Nat.{ℕ, _≤_}
 use lib.ListN.{length}
-use Rattle.wire_options.specs.Walk.{Walked, listed, faulty, walkFrom, optionLimit}
+use Rattle.wire_options.specs.Walk.{walkFrom, optionLimit}
 use Rattle.wire_datagram.specs.Extents.{bytesIn}
 use Rattle.wire_datagram.specs.Reading.{isRead}
 use Rattle.wire_datagram.specs.declared.reading.Extent.{Extent}
 use Rattle.wire_datagram.specs.declared.reading.Reading.{Reading}
-
--- the walk meets no fault
-abbrev pub isListed : Walked → Bool
-isListed (listed items fill) = true
-isListed (faulty fault) = false
+use Rattle.program_lines.specs.Lines.{isListed}
 
 -- an extent of a payload whose bytes are a list of options without fault
 pub record Listable (payload : List ℕ) (options : Extent) : Type 0 where

@@ -1,30 +1,10 @@
--- The words of a report, as lists of ASCII characters (document 01, "The program" and "Reading one IPv4 payload").
+-- The labels of a report, as lists of ASCII characters (document 01, "The program").
 use mathlib.Core.List.{List, [], _∷_}
 use Prim.Native.Nat.{ℕ}
-use Rattle.wire_datagram.specs.declared.reading.Verdict.{Verdict}
-use Rattle.wire_datagram.specs.Verdict.{verdictSays}
-
--- a blank
-abbrev pub blank : ℕ
-blank = 32
-
--- the end of a line
-abbrev pub newline : ℕ
-newline = 10
-
--- ---- labels
 
 -- user
 abbrev pub userWord : List ℕ
 userWord = 117 ∷ 115 ∷ 101 ∷ 114 ∷ []
-
--- verdict
-abbrev pub verdictWord : List ℕ
-verdictWord = 118 ∷ 101 ∷ 114 ∷ 100 ∷ 105 ∷ 99 ∷ 116 ∷ []
-
--- kind
-abbrev pub kindWord : List ℕ
-kindWord = 107 ∷ 105 ∷ 110 ∷ 100 ∷ []
 
 -- fill
 abbrev pub fillWord : List ℕ
@@ -33,9 +13,3 @@ fillWord = 102 ∷ 105 ∷ 108 ∷ 108 ∷ []
 -- refused
 abbrev pub refusedWord : List ℕ
 refusedWord = 114 ∷ 101 ∷ 102 ∷ 117 ∷ 115 ∷ 101 ∷ 100 ∷ []
-
--- ---- verdicts
-
--- the word of a verdict
-abbrev pub wordOf : Verdict → List ℕ
-wordOf verdict = verdictSays verdict .word

@@ -1,7 +1,4 @@
 // The report on an IPv4 payload, as the program prints it (document 01, "The program").
-pub mod list;
-pub mod text;
-
 use wire_datagram::reading;
 use wire_datagram::reading::Extent;
 use wire_datagram::reading::Outcome;
@@ -12,9 +9,8 @@ ghost use mathlib.Core.Path.{_≡_};
 ghost use Prim.Native.Nat.{_≤_};
 ghost use lib.ListN.{length};
 ghost use Rattle.wire_datagram.specs.Reading.{refusalNumber};
-ghost use Rattle.program_report.specs.Words.{wordOf};
-ghost use Rattle.program_report.specs.Put.{Put};
-ghost use Rattle.program_report.specs.Report.{listingOf, readingText, reportOf, verdictLine};
+ghost use Rattle.program_text.specs.Put.{Put};
+ghost use Rattle.program_report.specs.Report.{listingOf, readingText, reportOf};
 ghost use Rattle.program_report.specs.Sound.{Listable, Sound};
 
 // Writes what fits of the report to the front of `text`, and answers where it ends.
@@ -23,7 +19,12 @@ pub fn report(payload: &[u8], source: [u8; 4], destination: [u8; 4], text: &mut 
 {
     let outcome = reading::read(payload, source, destination);
     match outcome {
-        Outcome::Refused(refusal) => text::put_line(b"refused ", number_of(refusal), text, 0),
+        Outcome::Refused(refusal) => program_text::put_line(
+            b"refused ",
+            number_of(refusal),
+            text,
+            0,
+        ),
         Outcome::Accepted(reading) => put_reading(payload, reading, text),
     }
 }
@@ -47,40 +48,12 @@ fn put_reading(payload: &[u8], reading: Reading, text: &mut [u8]) -> usize
     let user = reading.user;
     let verdict = reading.verdict;
     let options = reading.options;
-    let counted = text::put_line(b"user ", user.to.0 - user.from.0, text, 0);
-    let judged = put_verdict(verdict, text, counted);
+    let counted = program_text::put_line(b"user ", user.to.0 - user.from.0, text, 0);
+    let judged = program_verdict::put_verdict(verdict, text, counted);
     if reading::is_read(verdict) {
         return put_listing(payload, options, reading.fill, text, judged);
     }
     judged
-}
-
-fn put_verdict(verdict: Verdict, text: &mut [u8], at: usize) -> usize
-    requires { ⌜ at ≤ length (now text) ⌝ }
-    ensures { λ r. ⌜ Put (now (text .entry)) at (verdictLine verdict) r (now (text .exit)) ⌝ }
-{
-    let named = text::put(b"verdict ", text, at);
-    let judged = put_word(verdict, text, named);
-    text::put(b"\n", text, judged)
-}
-
-fn put_word(verdict: Verdict, text: &mut [u8], at: usize) -> usize
-    requires { ⌜ at ≤ length (now text) ⌝ }
-    ensures { λ r. ⌜ Put (now (text .entry)) at (wordOf verdict) r (now (text .exit)) ⌝ }
-{
-    match verdict {
-        Verdict::Bare => text::put(b"none", text, at),
-        Verdict::Short => text::put(b"short", text, at),
-        Verdict::Pad => text::put(b"pad", text, at),
-        Verdict::Unsummed => text::put(b"unsummed", text, at),
-        Verdict::BadSum => text::put(b"badsum", text, at),
-        Verdict::Malformed => text::put(b"malformed", text, at),
-        Verdict::Unsafe => text::put(b"unsafe", text, at),
-        Verdict::FragData => text::put(b"fragdata", text, at),
-        Verdict::Crowded => text::put(b"crowded", text, at),
-        Verdict::Read => text::put(b"read", text, at),
-        Verdict::Piece(_) => text::put(b"piece", text, at),
-    }
 }
 
 // The options of a list, and the fill.
@@ -92,6 +65,6 @@ fn put_listing(payload: &[u8], options: Extent, fill: usize, text: &mut [u8], at
     let to = options.to;
     let start = from.0;
     let end = to.0;
-    let listed = list::put_items(&payload[start..end], text, at);
-    text::put_line(b"fill ", fill, text, listed)
+    let listed = program_lines::put_items(&payload[start..end], text, at);
+    program_text::put_line(b"fill ", fill, text, listed)
 }

@@ -1,7 +1,7 @@
 -- `host_calls::wuraketozo_read` meets its contract: the value of the reading.
 -- Assumes nothing.
 use mathlib.Core.Path.{ap, _∙_}
-use Rattle.host_values.specs.Reading.{hostReading}
+use Rattle.host_readings.specs.Reading.{hostReading}
 use borrow.Author.Needs.{needs}
 use Rattle.host_calls.proofs.wuraketozo_read.Statement.{statement}
 use Rattle.host_calls.proofs.wuraketozo_read.Tie as tie

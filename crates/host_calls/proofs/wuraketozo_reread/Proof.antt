@@ -1,7 +1,7 @@
 -- `host_calls::wuraketozo_reread` meets its contract: the value of the rereading.
 -- Assumes nothing.
 use mathlib.Core.Path.{ap, _∙_}
-use Rattle.host_values.specs.Reading.{hostRereading}
+use Rattle.host_readings.specs.Reading.{hostRereading}
 use borrow.Author.Needs.{needs}
 use Rattle.host_calls.proofs.wuraketozo_reread.Statement.{statement}
 use Rattle.host_calls.proofs.wuraketozo_reread.Tie as tie

@@ -4,7 +4,7 @@ use mathlib.Core.Path.{_≡_, sym, ap, _∙_}
 use Prim.Native.Nat.{ℕ}
 use Rattle.table_receiver.specs.Receive.{fateIn}
 use Rattle.table_receiver.specs.declared.Received.{Received}
-use Rattle.host_values.specs.Reading.{unread}
+use Rattle.host_readings.specs.Reading.{unread}
 use Rattle.host_values.specs.Answer.{readAlone, offeredAlone, hostFate}
 use borrow.Author.Needs.{needs}
 use Rattle.host_values.proofs.received_of.Statement.{statement}

@@ -1,7 +1,7 @@
 -- `program_report::put_listing` meets its contract: the lines of the options are put and then the fill.
 -- Assumes nothing.
 use Rattle.program_report.specs.Report.{numberLine, listingOf}
-use Rattle.program_report.proofs.Puts.{put-append, put-room}
+use Rattle.program_text.proofs.Puts.{put-append, put-room}
 use borrow.Author.Needs.{needs}
 use Rattle.program_report.proofs.put_listing.Statement.{statement}
 use Rattle.program_report.proofs.put_listing.Tie as tie

@@ -5,7 +5,7 @@ use Prim.Native.Nat.{_≤_}
 use native.Mathlib.Omega.{arith}
 use lib.ListN.{length}
 use Rattle.program_report.specs.Report.{numberLine}
-use Rattle.program_report.proofs.Puts.{put-as, put-append, put-room}
+use Rattle.program_text.proofs.Puts.{put-as, put-append, put-room}
 use Rattle.program_report.proofs.Sounds.{text-read, text-other}
 use borrow.Author.Needs.{needs}
 use Rattle.program_report.proofs.put_reading.Statement.{statement}

@@ -4,7 +4,7 @@ use mathlib.Core.Path.{sym, ap, _∙_}
 use Rattle.wire_datagram.specs.Reading.{answerOf}
 use Rattle.program_report.specs.Words.{refusedWord}
 use Rattle.program_report.specs.Report.{numberLine, answerText, reportOf}
-use Rattle.program_report.proofs.Puts.{put-as}
+use Rattle.program_text.proofs.Puts.{put-as}
 use Rattle.program_report.proofs.Sounds.{reading-sound}
 use borrow.Author.Needs.{needs}
 use Rattle.program_report.proofs.report.Statement.{statement}

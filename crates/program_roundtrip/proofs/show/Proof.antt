@@ -3,7 +3,7 @@
 use mathlib.Core.Path.{sym}
 use native.Mathlib.Omega.{arith}
 use lib.Seq.{length-take-le}
-use Rattle.program_report.proofs.Puts.{put-room}
+use Rattle.program_text.proofs.Puts.{put-room}
 use borrow.Author.Needs.{needs}
 use Rattle.program_roundtrip.proofs.show.Statement.{statement}
 use Rattle.program_roundtrip.proofs.show.Tie as tie

@@ -1,0 +1,64 @@
+-- The lines of an option list in a report (document 01, "The program").
+use mathlib.Core.Bool.{Bool, true, false, cond}
+use mathlib.Core.List.{List, [], _∷_, _++_}
+use Prim.Native.Nat.{ℕ}
+use lib.Dec.{eqb}
+use lib.ListN.{take, drop}
+use Rattle.number_octets.specs.Octets.{number}
+use Rattle.wire_options.specs.Walk.{Item, Walked, listed, faulty}
+use Rattle.program_text.specs.Digits.{decimalOf, hexOf}
+use Rattle.program_text.specs.Characters.{blank, newline}
+
+-- ---- an option
+
+-- the widths in bytes of the numbers that an option has, by its kind; a kind from 9 on has a body instead
+unfoldable pub widthsOf : ℕ → List ℕ
+widthsOf kind =
+    cond (eqb kind 2) (4 ∷ [])
+    (cond (eqb kind 4) (2 ∷ [])
+    (cond (eqb kind 5) (2 ∷ 1 ∷ [])
+    (cond (eqb kind 6) (4 ∷ [])
+    (cond (eqb kind 7) (4 ∷ [])
+    (cond (eqb kind 8) (4 ∷ 4 ∷ []) [])))))
+
+-- each number of a body in decimal, behind a blank
+unfoldable pub numbersOf : List ℕ → List ℕ → List ℕ
+numbersOf [] body = []
+numbersOf (width ∷ widths) body = (blank ∷ []) ++ decimalOf (number (take width body)) ++ numbersOf widths (drop width body)
+
+-- a body in hexadecimal behind a blank; of an empty one nothing
+unfoldable pub bodyOf : List ℕ → List ℕ
+bodyOf [] = []
+bodyOf (b ∷ bs) = (blank ∷ []) ++ hexOf (b ∷ bs)
+
+abbrev pub fieldsBy : List ℕ → List ℕ → List ℕ
+fieldsBy [] body = bodyOf body
+fieldsBy (width ∷ widths) body = numbersOf (width ∷ widths) body
+
+-- what is shown of an option's fields or body
+abbrev pub fieldsOf : ℕ → List ℕ → List ℕ
+fieldsOf kind body = fieldsBy (widthsOf kind) body
+
+-- kind
+abbrev pub kindWord : List ℕ
+kindWord = 107 ∷ 105 ∷ 110 ∷ 100 ∷ []
+
+unfoldable pub itemLine : Item → List ℕ
+itemLine item = kindWord ++ (blank ∷ []) ++ decimalOf (item .kind) ++ fieldsOf (item .kind) (item .body) ++ (newline ∷ [])
+
+-- ---- a list
+
+-- a line for each option, in order
+unfoldable pub itemLines : List Item → List ℕ
+itemLines [] = []
+itemLines (item ∷ items) = itemLine item ++ itemLines items
+
+-- the walk meets no fault
+abbrev pub isListed : Walked → Bool
+isListed (listed items fill) = true
+isListed (faulty fault) = false
+
+-- the options of such a walk
+abbrev pub itemsOf : Walked → List Item
+itemsOf (listed items fill) = items
+itemsOf (faulty fault) = []

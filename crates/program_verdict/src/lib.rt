@@ -1,0 +1,34 @@
+// The line of a verdict in a report (document 01, "The program").
+use wire_datagram::reading::Verdict;
+ghost use Prim.Native.Nat.{_≤_};
+ghost use lib.ListN.{length};
+ghost use Rattle.program_text.specs.Put.{Put};
+ghost use Rattle.program_verdict.specs.Words.{verdictLine, wordOf};
+
+pub fn put_verdict(verdict: Verdict, text: &mut [u8], at: usize) -> usize
+    requires { ⌜ at ≤ length (now text) ⌝ }
+    ensures { λ r. ⌜ Put (now (text .entry)) at (verdictLine verdict) r (now (text .exit)) ⌝ }
+{
+    let named = program_text::put(b"verdict ", text, at);
+    let judged = put_word(verdict, text, named);
+    program_text::put(b"\n", text, judged)
+}
+
+fn put_word(verdict: Verdict, text: &mut [u8], at: usize) -> usize
+    requires { ⌜ at ≤ length (now text) ⌝ }
+    ensures { λ r. ⌜ Put (now (text .entry)) at (wordOf verdict) r (now (text .exit)) ⌝ }
+{
+    match verdict {
+        Verdict::Bare => program_text::put(b"none", text, at),
+        Verdict::Short => program_text::put(b"short", text, at),
+        Verdict::Pad => program_text::put(b"pad", text, at),
+        Verdict::Unsummed => program_text::put(b"unsummed", text, at),
+        Verdict::BadSum => program_text::put(b"badsum", text, at),
+        Verdict::Malformed => program_text::put(b"malformed", text, at),
+        Verdict::Unsafe => program_text::put(b"unsafe", text, at),
+        Verdict::FragData => program_text::put(b"fragdata", text, at),
+        Verdict::Crowded => program_text::put(b"crowded", text, at),
+        Verdict::Read => program_text::put(b"read", text, at),
+        Verdict::Piece(_) => program_text::put(b"piece", text, at),
+    }
+}
