@@ -3,17 +3,19 @@
 -- Assumes nothing.
 use Prim.Native.Nat.{ℕ, zero, suc, _+_, _<_, _≤_}
 use mathlib.Core.Path.{_≡_, refl, sym, ap, _∙_, subst}
-use mathlib.Core.Bool.{Bool, true, false, not, _&&_}
+use mathlib.Core.Bool.{Bool, true, false, not, _&&_, cond}
 use mathlib.Core.List.{List, [], _∷_, map}
 use mathlib.Core.Option.{none, some}
 use native.Mathlib.Omega.{arith}
 use lib.Dec.{leb, ltb}
 use lib.ListN.{length, getD, replicate, length-replicate, length-map, List·getD-map}
 use borrow.Author.Tests.{ltb-true, ltb-false, eq-eqb}
+use Rattle.number_tests.proofs.Tests.{both-true}
+use Rattle.number_tests.specs.Tests.{firstOf}
 use Rattle.client_record.specs.declared.Assembly.{Assembly}
 use Rattle.client_record.specs.declared.Client.{Client}
 use Rattle.client_record.specs.Limits.{fragmentLimit, assemblyLimit, addressSize, lifetime, offeredLimit, shareSize}
-use Rattle.client_record.specs.Lists.{if, sameBytes, all, any, pairs, sum}
+use Rattle.client_record.specs.Lists.{sameBytes, all, any, pairs, sum}
 use Rattle.client_record.specs.Record.{
   freshFragment,
   freshFlow,
@@ -35,8 +37,7 @@ use Rattle.client_record.specs.Record.{
   soundRecord,
 }
 use Rattle.client_record.proofs.SoundParts.{sound-parts, all-weaker, all-map}
-use Rattle.client_record.proofs.Tests.{both-true}
-use Rattle.client_reassembly.specs.Answer.{advanced, account, firstOf}
+use Rattle.client_reassembly.specs.Answer.{advanced, account}
 use Rattle.client_reassembly.specs.Advance
 use Rattle.client_reassembly.specs.Advance.{old, expire, elapse, Turn, advanceOn, accountOn}
 use Rattle.client_reassembly.specs.Offer.{firstIndex}
@@ -171,7 +172,7 @@ module _ (t : ℕ) (share : List ℕ) (es : List Entry) (xs : List Assembly) (ag
       fresh-stays : expire t freshAssembly ≡ freshAssembly
       fresh-stays = go (old t freshAssembly)
         where
-          go : (b : Bool) → if b freshAssembly freshAssembly ≡ freshAssembly
+          go : (b : Bool) → cond b freshAssembly freshAssembly ≡ freshAssembly
           go true = refl
           go false = refl
 
@@ -192,8 +193,8 @@ module _ (t : ℕ) (share : List ℕ) (es : List Entry) (xs : List Assembly) (ag
       subst (Shows share (keep (λ e. not (outdated t es e)) es) p) (sym (expire-at p))
       (go k (old t (at xs p)) refl (sym (ap live (expire-at p)) ∙ l))
     where
-      go : p < length xs → (b : Bool) → old t (at xs p) ≡ b → live (if b freshAssembly (at xs p)) ≡ true
-          → Shows share (keep (λ e. not (outdated t es e)) es) p (if b freshAssembly (at xs p))
+      go : p < length xs → (b : Bool) → old t (at xs p) ≡ b → live (cond b freshAssembly (at xs p)) ≡ true
+          → Shows share (keep (λ e. not (outdated t es e)) es) p (cond b freshAssembly (at xs p))
       go k true o n = absurd (true-false (sym n ∙ fresh-not-live))
       go k false o n = young p k n o
 
@@ -209,7 +210,7 @@ module _ (t : ℕ) (share : List ℕ) (es : List Entry) (xs : List Assembly) (ag
       e : k ≡ keyOf (at xs p)
       e = same-key k (keyOf (at xs p)) (both-true (live (at xs p)) (sameKey k (keyOf (at xs p))) m .1)
 
-      go : (b : Bool) → old t (at xs p) ≡ b → live (if b freshAssembly (at xs p)) && sameKey k (keyOf (if b freshAssembly (at xs p))) ≡ false
+      go : (b : Bool) → old t (at xs p) ≡ b → live (cond b freshAssembly (at xs p)) && sameKey k (keyOf (cond b freshAssembly (at xs p))) ≡ false
           → mine k (keep (λ e. not (outdated t es e)) es) ≡ []
       go true o q =
           mine-dropped k (λ e. not (outdated t es e))
@@ -235,7 +236,7 @@ expire-slotted : (t : ℕ) (a : Assembly) → slotted a ≡ true → slotted (ex
 unfolding expire
 expire-slotted t a e = go (old t a)
   where
-    go : (b : Bool) → slotted (if b freshAssembly a) ≡ true
+    go : (b : Bool) → slotted (cond b freshAssembly a) ≡ true
     go true = fresh-slotted
     go false = e
 
@@ -284,25 +285,25 @@ module _ (t : ℕ) (c : Client) (share : List ℕ) (b : Book) (st : Stands c sha
       elapse-same le sound same (elapse-expired le same)
 
   advance-is : advanceOn c t
-      ≡ Advance.refuseOr c (if (ltb t (c .time)) (some 27) none) (record { client = elapse t c; reply = advanced })
+      ≡ Advance.refuseOr c (cond (ltb t (c .time)) (some 27) none) (record { client = elapse t c; reply = advanced })
   unfolding advanceOn firstOf
   advance-is =
       ap (λ (s : Bool). Advance.refuseOr c (firstOf ((not s, 22) ∷ (ltb t (c .time), 27) ∷ [])) (record { client = elapse t c; reply = advanced })) (st .sound)
 
-  book-is : call (clock t) b ≡ Book.refuseOr [] b (if (ltb t (c .time)) (some 27) none) (record { reply = advanced; out = []; book = advance t b })
+  book-is : call (clock t) b ≡ Book.refuseOr [] b (cond (ltb t (c .time)) (some 27) none) (record { reply = advanced; out = []; book = advance t b })
   unfolding firstOf clockTests
-  book-is = ap (λ (m : ℕ). Book.refuseOr [] b (if (ltb t m) (some 27) none) (record { reply = advanced; out = []; book = advance t b })) (sym (st .time))
+  book-is = ap (λ (m : ℕ). Book.refuseOr [] b (cond (ltb t m) (some 27) none) (record { reply = advanced; out = []; book = advance t b })) (sym (st .time))
 
   pub advance-stands : Follows (advanceOn c t) share (call (clock t) b)
   advance-stands =
       subst (λ (x : Turn). Follows x share (call (clock t) b)) (sym advance-is)
       (subst
       (λ (r : Result).
-      Follows (Advance.refuseOr c (if (ltb t (c .time)) (some 27) none) (record { client = elapse t c; reply = advanced })) share r)
+      Follows (Advance.refuseOr c (cond (ltb t (c .time)) (some 27) none) (record { client = elapse t c; reply = advanced })) share r)
       (sym book-is) (go (ltb t (c .time)) refl))
     where
       go : (x : Bool) → ltb t (c .time) ≡ x
-          → Follows (Advance.refuseOr c (if x (some 27) none) (record { client = elapse t c; reply = advanced })) share
-          (Book.refuseOr [] b (if x (some 27) none) (record { reply = advanced; out = []; book = advance t b }))
+          → Follows (Advance.refuseOr c (cond x (some 27) none) (record { client = elapse t c; reply = advanced })) share
+          (Book.refuseOr [] b (cond x (some 27) none) (record { reply = advanced; out = []; book = advance t b }))
       go true e = record { reply = refl; stands = st }
       go false e = record { reply = refl; stands = elapse-stands (ltb-false t (c .time) e) }

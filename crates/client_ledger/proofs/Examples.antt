@@ -5,10 +5,11 @@ use mathlib.Core.Path.{_≡_, refl}
 use mathlib.Core.Bool.{Bool, true, false}
 use mathlib.Core.List.{List, [], _∷_}
 use mathlib.Core.Option.{Option, none, some}
+use Rattle.number_tests.specs.Tests.{firstOf}
 use Rattle.client_record.specs.Limits.{datagramLimit, fragmentLimit, assemblyLimit, lifetime, offeredLimit, shareSize, clientLimit}
 use Rattle.client_record.specs.Lists.{sameBytes, any, sum}
 use Rattle.client_record.specs.Record.{sameFlow}
-use Rattle.client_reassembly.specs.Answer.{refused, stored, conflict, delivered, firstOf}
+use Rattle.client_reassembly.specs.Answer.{refused, stored, conflict, delivered}
 use Rattle.client_ledger.specs.Book.{Book, empty, size, endOf, total, heldBytes, held, sameKey, of, mine, keep, others, openedAt, keys, due}
 use Rattle.client_ledger.specs.Book.{outdated, advance, repeats, overlap, contradicts, within, complete, lastOne, byteAt, bytesTo, rejecting}
 use Rattle.client_ledger.specs.Book.{repeating, conflicting, storing, delivering, taking, noRoom, isRepeat, isConflict, isFull, fate, Offer}

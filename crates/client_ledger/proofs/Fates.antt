@@ -3,7 +3,7 @@
 -- Assumes nothing.
 use Prim.Native.Nat.{ℕ, _+_, _<_, _≤_}
 use mathlib.Core.Path.{_≡_, refl, sym, ap, ap₂, _∙_, subst}
-use mathlib.Core.Bool.{Bool, true, false, not, _&&_}
+use mathlib.Core.Bool.{Bool, true, false, not, _&&_, cond}
 use mathlib.Core.List.{List, [], _∷_, _++_, map}
 use native.Mathlib.Omega.{arith}
 use lib.Dec.{eqb}
@@ -15,7 +15,7 @@ use Rattle.client_record.specs.declared.Fragment.{Fragment}
 use Rattle.client_record.specs.declared.Assembly.{Assembly}
 use Rattle.client_record.specs.declared.Client.{Client}
 use Rattle.client_record.specs.Limits.{datagramLimit, fragmentLimit, assemblyLimit, shareSize}
-use Rattle.client_record.specs.Lists.{if, all}
+use Rattle.client_record.specs.Lists.{all}
 use Rattle.client_record.specs.Record.{freshAssembly, isLast, end, fits, coveredTo, lastOf, live, heldFragments, bytesHeld, soundRecord}
 use Rattle.client_record.proofs.Lists.{all-append}
 use Rattle.client_reassembly.specs.declared.Arrival.{Arrival}
@@ -221,7 +221,7 @@ laid share p o bytes = overlay share (startOf p (fragmentOf o (length bytes))) b
 
 last-start : (share : List ℕ) (p : ℕ) (g : Fragment) → isLast g ≡ true → g .«option_start» ≡ contentOf share p g .start
 unfolding contentOf
-last-start share p g t = sym (ap (λ (x : Bool). if x (g .«option_start») 0) t)
+last-start share p g t = sym (ap (λ (x : Bool). cond x (g .«option_start») 0) t)
 
 pub new-length : (o : Arrival) (bytes : List ℕ) → held-as o bytes .length ≡ length bytes
 unfolding fragmentOf

@@ -2,7 +2,7 @@
 -- A record's lists are as long as the code's arrays are (`Shaped`); that lasts too.
 -- Assumes nothing.
 use mathlib.Core.Path.{_≡_, refl, sym, ap, ap₂, _∙_, subst}
-use mathlib.Core.Bool.{Bool, true, false, not, _&&_}
+use mathlib.Core.Bool.{Bool, true, false, not, _&&_, cond}
 use mathlib.Core.List.{List}
 use mathlib.Core.Option.{Option, none, some}
 use Prim.Native.Nat.{ℕ, zero, suc, _+_, _<_, _≤_}
@@ -10,12 +10,14 @@ use native.Mathlib.Omega.{arith}
 use lib.Dec.{eqb, ltb}
 use lib.ListN.{length, getD, set, length-set, length-map, length-replicate, replicate}
 use borrow.Author.Tests.{eqb-true, eqb-false, ltb-false, eq-eqb, not-false}
+use Rattle.number_tests.proofs.Tests.{cond-yes, cond-no}
+use Rattle.number_tests.specs.Tests.{firstOf}
 use Rattle.number_octets.specs.Octets.{part, overlay}
 use Rattle.client_record.specs.declared.Fragment.{Fragment}
 use Rattle.client_record.specs.declared.Assembly.{Assembly}
 use Rattle.client_record.specs.declared.Client.{Client}
 use Rattle.client_record.specs.Limits.{fragmentLimit, assemblyLimit, offeredLimit}
-use Rattle.client_record.specs.Lists.{if, all, any, pairs, sum}
+use Rattle.client_record.specs.Lists.{all, any, pairs, sum}
 use Rattle.client_record.specs.Record.{
   freshFragment,
   freshAssembly,
@@ -37,7 +39,7 @@ use Rattle.client_record.specs.Record.{
 use Rattle.client_record.proofs.Lists.{and-false}
 use Rattle.client_record.proofs.SoundParts.{sound-parts, all-at, all-weaker, all-map}
 use Rattle.client_reassembly.specs.declared.Arrival.{Arrival}
-use Rattle.client_reassembly.specs.Answer.{refused, stored, repeated, conflict, advanced, firstOf}
+use Rattle.client_reassembly.specs.Answer.{refused, stored, repeated, conflict, advanced}
 use Rattle.client_reassembly.specs.Advance
 use Rattle.client_reassembly.specs.Advance.{old, expire, elapse, advanceOn}
 use Rattle.client_reassembly.specs.Offer.{
@@ -88,7 +90,7 @@ use Rattle.client_reassembly.proofs.Kept.{
   conflicting-sound,
   delivering-sound,
 }
-use Rattle.client_reassembly.proofs.Laws.{if-yes, if-no, getD-any}
+use Rattle.client_reassembly.proofs.Laws.{getD-any}
 use Rattle.client_reassembly.proofs.Passes.{passes}
 use Rattle.client_reassembly.proofs.Places.{room-place, place-le, live-at}
 use Rattle.client_reassembly.proofs.Steady.{empty-bytes, fresh-count}
@@ -132,7 +134,7 @@ record Home (t p : ℕ) (xs : List Assembly) (a : Assembly) : Type 0 where
 
 sound-live-of : (t : ℕ) (a : Assembly) → live a ≡ true → soundAssembly t a ≡ true → soundLive t a ≡ true
 unfolding soundAssembly
-sound-live-of t a l e = sym (if-yes (live a) (soundLive t a) (isFreshAssembly a) l) ∙ e
+sound-live-of t a l e = sym (cond-yes (live a) (soundLive t a) (isFreshAssembly a) l) ∙ e
 
 not-live-empty : (a : Assembly) → live a ≡ false → a .count ≡ 0
 unfolding live
@@ -194,12 +196,12 @@ home : (o : Arrival) (p : ℕ) (xs : List Assembly) → p ≡ placeFor o xs → 
 unfolding assemblyFor
 home o p xs place h each keys slots = go (any (matches o) xs) refl
   where
-    go : (b : Bool) → any (matches o) xs ≡ b → Home (o .time) p xs (if (any (matches o) xs) (getD xs p freshAssembly) (opening o))
+    go : (b : Bool) → any (matches o) xs ≡ b → Home (o .time) p xs (cond (any (matches o) xs) (getD xs p freshAssembly) (opening o))
     go true e =
-        subst (Home (o .time) p xs) (sym (if-yes (any (matches o) xs) (getD xs p freshAssembly) (opening o) e))
+        subst (Home (o .time) p xs) (sym (cond-yes (any (matches o) xs) (getD xs p freshAssembly) (opening o) e))
         (home-live (o .time) p xs h each keys slots (live-at o xs p freshAssembly place h ∙ e))
     go false e =
-        subst (Home (o .time) p xs) (sym (if-no (any (matches o) xs) (getD xs p freshAssembly) (opening o) e))
+        subst (Home (o .time) p xs) (sym (cond-no (any (matches o) xs) (getD xs p freshAssembly) (opening o) e))
         (home-opened o p xs h e (live-at o xs p freshAssembly place h ∙ e))
 
 -- ---- one fragment
@@ -237,7 +239,7 @@ module _ (c : Client) (p : ℕ) (a : Assembly) (f : Fragment) (sound : soundReco
   joined-sound share out ok apart full = go (whole (heldFragments (added a f))) refl
     where
       go : (b : Bool) → whole (heldFragments (added a f)) ≡ b
-          → soundRecord (if b (handedOut c share out p a f) (leaving (storing p (added a f) (f .length) c) share out stored) .client) ≡ true
+          → soundRecord (cond b (handedOut c share out p a f) (leaving (storing p (added a f) (f .length) c) share out stored) .client) ≡ true
       go true e = delivering-sound c p a freshAssembly (f .length) sound h (at .bytes) room
       go false e = storing-sound ok apart full e
 
@@ -308,7 +310,7 @@ expire-shaped : (t : ℕ) (a : Assembly) → shaped a ≡ true → shaped (expir
 unfolding expire
 expire-shaped t a e = go (old t a)
   where
-    go : (b : Bool) → shaped (if b freshAssembly a) ≡ true
+    go : (b : Bool) → shaped (cond b freshAssembly a) ≡ true
     go true = fresh-shaped
     go false = e
 
@@ -376,7 +378,7 @@ module _ (c : Client) (p : ℕ) (a : Assembly) (f : Fragment) (shape : Shaped c)
   unfolding joined handedOut
   joined-shaped share out = go (whole (heldFragments (added a f)))
     where
-      go : (b : Bool) → Shaped (if b (handedOut c share out p a f) (leaving (storing p (added a f) (f .length) c) share out stored) .client)
+      go : (b : Bool) → Shaped (cond b (handedOut c share out p a f) (leaving (storing p (added a f) (f .length) c) share out stored) .client)
       go true = delivering-shaped
       go false = storing-shaped
 
@@ -385,9 +387,9 @@ module _ (c : Client) (p : ℕ) (a : Assembly) (f : Fragment) (shape : Shaped c)
   placed-shaped share out bytes = one (repeats a f (part (startOf p f) (f .length) share) bytes) (isConflict a f) (isFull a)
     where
       one : (x y z : Bool)
-          → Shaped (if x (leaving (repeating (f .length) c) share out repeated)
-          (if y (leaving (conflicting p a (f .length) c) share out conflict)
-          (if z (leaving (rejecting (f .length) c) share out (refused 30)) (joined c (overlay share (startOf p f) bytes) out p a f))) .client)
+          → Shaped (cond x (leaving (repeating (f .length) c) share out repeated)
+          (cond y (leaving (conflicting p a (f .length) c) share out conflict)
+          (cond z (leaving (rejecting (f .length) c) share out (refused 30)) (joined c (overlay share (startOf p f) bytes) out p a f))) .client)
       one true y z = repeating-shaped (f .length)
       one false true z = conflicting-shaped
       one false false true = rejecting-shaped (f .length)
@@ -397,7 +399,7 @@ assembly-shaped : (o : Arrival) (p : ℕ) (xs : List Assembly) → p < length xs
 unfolding assemblyFor
 assembly-shaped o p xs h e = go (any (matches o) xs)
   where
-    go : (b : Bool) → shaped (if b (getD xs p freshAssembly) (opening o)) ≡ true
+    go : (b : Bool) → shaped (cond b (getD xs p freshAssembly) (opening o)) ≡ true
     go true = all-at shaped xs p freshAssembly h e
     go false = opening-shaped o
 
@@ -441,7 +443,7 @@ unfolding advanceOn firstOf
 advance-call-sound c t sound = rw sound (go (ltb t (c .time)) refl)
   where
     go : (b : Bool) → ltb t (c .time) ≡ b
-        → soundRecord (Advance.refuseOr c (if b (some 27) none) (record { client = elapse t c; reply = advanced }) .client) ≡ true
+        → soundRecord (Advance.refuseOr c (cond b (some 27) none) (record { client = elapse t c; reply = advanced }) .client) ≡ true
     go true e = sound
     go false e = elapse-sound t c sound (ltb-false t (c .time) e)
 

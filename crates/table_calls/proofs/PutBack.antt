@@ -11,12 +11,13 @@ use lib.Dec.{eqb, ltb}
 use lib.ListN.{length, length-set}
 use lib.Seq.{getD-set-same, getD-set-other}
 use borrow.Author.Tests.{eqb-true, eqb-false, ltb-true, ltb-false}
+use Rattle.number_tests.specs.Tests.{firstOf}
 use Rattle.number_octets.specs.Octets.{part, overlay}
 use Rattle.number_octets.proofs.Laws.{length-overlay, part-overlay}
 use Rattle.client_record.specs.declared.Client.{Client}
 use Rattle.client_record.specs.Limits.{shareSize}
 use Rattle.client_record.specs.Record.{freshClient, soundRecord}
-use Rattle.client_reassembly.specs.Answer.{advanced, firstOf}
+use Rattle.client_reassembly.specs.Answer.{advanced}
 use Rattle.client_reassembly.specs.Advance as Advance
 use Rattle.client_reassembly.specs.Advance.{elapse, advanceOn, accountOn}
 use Rattle.client_reassembly.specs.Offer.{Outcome}

@@ -3,7 +3,7 @@
 -- Assumes nothing.
 use Prim.Native.Nat.{ℕ, _<_}
 use mathlib.Core.Path.{_≡_, refl, sym, ap, ap₂, subst, _∙_}
-use mathlib.Core.Bool.{Bool, true, false}
+use mathlib.Core.Bool.{Bool, true, false, cond}
 use mathlib.Core.List.{List, [], _∷_, _++_, append-assoc}
 use mathlib.Core.Option.{Option, none, some}
 use mathlib.Core.Logic.{_↔_}
@@ -11,7 +11,6 @@ use native.Mathlib.Omega.{arith}
 use lib.Dec.{eqb}
 use lib.ListN.{length}
 use Rattle.number_octets.specs.Octets.{part}
-use Rattle.client_record.specs.Lists.{if}
 use Rattle.client_reassembly.specs.Answer.{Reply, refused, delivered}
 use Rattle.client_reassembly.specs.Advance.{figures}
 use Rattle.wire_area.specs.declared.Fragment.{Fragment}
@@ -97,11 +96,11 @@ reader-silent : (a : Answer) (out : List ℕ) → toldOf (fateOf a) out ≡ []
 reader-silent (Reading.refused n) out = refl
 reader-silent (Reading.reads r) out = refl
 
-if-none : (x : Bool) → if {A = List Given} x [] [] ≡ []
+if-none : (x : Bool) → cond {A = List Given} x [] [] ≡ []
 if-none true = refl
 if-none false = refl
 
-if-front : (x : Bool) (g : Given) (gs : List Given) → if x (g ∷ []) [] ++ gs ≡ if x (g ∷ gs) gs
+if-front : (x : Bool) (g : Given) (gs : List Given) → cond x (g ∷ []) [] ++ gs ≡ cond x (g ∷ gs) gs
 if-front true g gs = refl
 if-front false g gs = refl
 
@@ -111,11 +110,11 @@ told-is k t (setUp g) es = refl
 told-is k t (arriving g j p out) es = go (pieceIn (readingOf p))
   where
     go : (o : Option Fragment)
-        → if (eqb j k) (toldBy (receiving j p out (tableFor g t) o)) [] ++ gives k (final t (offers g j p out o)) es
+        → cond (eqb j k) (toldBy (receiving j p out (tableFor g t) o)) [] ++ gives k (final t (offers g j p out o)) es
         ≡ gives k t (offers g j p out o ++ es)
     go none =
         ap (λ (l : List Given). l ++ gives k t es)
-        (ap (λ (l : List Given). if (eqb j k) l []) (reader-silent (readingOf p) out) ∙ if-none (eqb j k))
+        (ap (λ (l : List Given). cond (eqb j k) l []) (reader-silent (readingOf p) out) ∙ if-none (eqb j k))
     go (some f) =
         if-front (eqb j k) (givenBy (askOn j (offerOf p f out) (tableFor g t))) (gives k (next t (asking g j (offerOf p f out))) es)
 told-is k t (calling g j a) es = if-front (eqb j k) (givenBy (askOn j a (tableFor g t))) (gives k (next t (asking g j a)) es)
@@ -136,7 +135,7 @@ own-append k (resetting g ∷ xs) ys = ap (λ (l : List Event). resetting g ∷ 
 own-append k (asking g j a ∷ xs) ys = go (eqb j k) (own-append k xs ys)
   where
     go : (x : Bool) → ownOnly k (xs ++ ys) ≡ ownOnly k xs ++ ownOnly k ys
-        → if x (asking g j a ∷ ownOnly k (xs ++ ys)) (ownOnly k (xs ++ ys)) ≡ if x (asking g j a ∷ ownOnly k xs) (ownOnly k xs) ++ ownOnly k ys
+        → cond x (asking g j a ∷ ownOnly k (xs ++ ys)) (ownOnly k (xs ++ ys)) ≡ cond x (asking g j a ∷ ownOnly k xs) (ownOnly k xs) ++ ownOnly k ys
     go true ih = ap (λ (l : List Event). asking g j a ∷ l) ih
     go false ih = ih
 
@@ -146,16 +145,16 @@ own-call k (setUp g) cs = refl
 own-call k (arriving g j p out) cs = go (eqb j k) refl (pieceIn (readingOf p)) refl
   where
     go : (x : Bool) → eqb j k ≡ x → (o : Option Fragment) → pieceIn (readingOf p) ≡ o
-        → ownOnly k (offers g j p out o) ++ allEvents cs ≡ allEvents (if x (arriving g j p out ∷ cs) cs)
+        → ownOnly k (offers g j p out o) ++ allEvents cs ≡ allEvents (cond x (arriving g j p out ∷ cs) cs)
     go true e none q = ap (λ (o : Option Fragment). offers g j p out o ++ allEvents cs) (sym q)
     go true e (some f) q =
-        ap (λ (x : Bool). if x (asking g j (offerOf p f out) ∷ []) [] ++ allEvents cs) e
+        ap (λ (x : Bool). cond x (asking g j (offerOf p f out) ∷ []) [] ++ allEvents cs) e
         ∙ ap (λ (o : Option Fragment). offers g j p out o ++ allEvents cs) (sym q)
     go false e none q = refl
-    go false e (some f) q = ap (λ (x : Bool). if x (asking g j (offerOf p f out) ∷ []) [] ++ allEvents cs) e
+    go false e (some f) q = ap (λ (x : Bool). cond x (asking g j (offerOf p f out) ∷ []) [] ++ allEvents cs) e
 own-call k (calling g j a) cs = go (eqb j k)
   where
-    go : (x : Bool) → if x (asking g j a ∷ []) [] ++ allEvents cs ≡ allEvents (if x (calling g j a ∷ cs) cs)
+    go : (x : Bool) → cond x (asking g j a ∷ []) [] ++ allEvents cs ≡ allEvents (cond x (calling g j a ∷ cs) cs)
     go true = refl
     go false = refl
 

@@ -7,6 +7,7 @@ use lib.Dec.{eqb, leb, ltb}
 use lib.ListN.{length, take, drop}
 use Rattle.number_octets.specs.Octets.{number, octets, part}
 use Rattle.number_offsets.specs.Offsets.{udpHeader}
+use Rattle.number_tests.specs.Tests.{firstOf}
 use Rattle.number_checksum.specs.Checksum.{wordSum, folded, allOnes}
 use Rattle.number_crc32c.specs.Crc.{crcOf}
 use Rattle.wire_options.specs.Kinds.{apc}
@@ -58,11 +59,6 @@ abbrev pub sumHolds : List ℕ → List ℕ → Bool
 sumHolds pseudo datagram = eqb (folded (wordSum false (pseudo ++ datagram))) allOnes
 
 -- ---- tests in order
-
--- the number of the first test that applies
-unfoldable pub firstOf : List (Bool × ℕ) → Option ℕ
-firstOf [] = none
-firstOf (x ∷ xs) = cond (x .0) (some (x .1)) (firstOf xs)
 
 abbrev pub refusalTests : List ℕ → List ℕ → List ℕ → List (Bool × ℕ)
 refusalTests payload source destination =
