@@ -54,9 +54,13 @@ udpChecksum payload = number (part 6 2 payload)
 unfoldable pub pseudoHeader : List ℕ → List ℕ → ℕ → List ℕ
 pseudoHeader source destination size = source ++ destination ++ (0 ∷ 17 ∷ octets 2 size)
 
--- the sum over a pseudo-header and the datagram behind it is FFFF
+-- the sum over a pseudo-header and the datagram behind it, folded
+abbrev pub udpSum : List ℕ → List ℕ → ℕ
+udpSum pseudo datagram = folded (wordSum false (pseudo ++ datagram))
+
+-- it is FFFF where the checksum is right
 abbrev pub sumHolds : List ℕ → List ℕ → Bool
-sumHolds pseudo datagram = eqb (folded (wordSum false (pseudo ++ datagram))) allOnes
+sumHolds pseudo datagram = eqb (udpSum pseudo datagram) allOnes
 
 -- ---- tests in order
 
