@@ -2,10 +2,11 @@
 use mathlib.Core.Bool.{cond}
 use mathlib.Core.List.{List, [], _∷_, _++_}
 use Prim.Native.Nat.{ℕ}
-use lib.Dec.{eqb}
 use lib.ListN.{take, drop}
 use Rattle.number_octets.specs.Octets.{number}
-use Rattle.wire_options.specs.Walk.{Item, Walked, listed, faulty, walkFrom, optionLimit}
+use Rattle.wire_options.specs.Walk.{Item, walkFrom, optionLimit}
+use Rattle.wire_options.specs.Kinds as Kinds
+pub use Rattle.wire_options.specs.Walk.{itemsOf}
 use Rattle.wire_datagram.specs.Extents.{sizeOf, bytesIn}
 use Rattle.wire_datagram.specs.Reading.{Answer, refused, reads, reading, isRead}
 use Rattle.wire_datagram.specs.declared.reading.Extent.{Extent}
@@ -16,15 +17,9 @@ use Rattle.program_report.specs.Words.{blank, newline, userWord, verdict
 
 -- ---- an option
 
--- the widths in bytes of the numbers that an option has, by its kind; a kind from 9 on has a body instead
+-- the widths in bytes of the numbers that are shown of an option; a kind from 9 on has a body instead
 unfoldable pub widthsOf : ℕ → List ℕ
-widthsOf kind =
-    cond (eqb kind 2) (4 ∷ [])
-    (cond (eqb kind 4) (2 ∷ [])
-    (cond (eqb kind 5) (2 ∷ 1 ∷ [])
-    (cond (eqb kind 6) (4 ∷ [])
-    (cond (eqb kind 7) (4 ∷ [])
-    (cond (eqb kind 8) (4 ∷ 4 ∷ []) [])))))
+widthsOf kind = Kinds.widthsOf kind
 
 -- each number of a body in decimal, behind a blank
 unfoldable pub numbersOf : List ℕ → List ℕ → List ℕ
@@ -62,10 +57,6 @@ unfoldable pub verdictLine : Verdict → List ℕ
 verdictLine verdict = verdictWord ++ (blank ∷ []) ++ wordOf verdict ++ (newline ∷ [])
 
 -- ---- the whole
-
-abbrev pub itemsOf : Walked → List Item
-itemsOf (listed items fill) = items
-itemsOf (faulty fault) = []
 
 -- the options that an extent of the payload lists, and the fill
 unfoldable pub listingOf : List ℕ → Extent → ℕ → List ℕ

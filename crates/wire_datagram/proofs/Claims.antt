@@ -2,8 +2,7 @@
 -- Both go by what the area's start and walk come to: every case has the user data's extent, and only "read" has more.
 -- Assumes nothing.
 use mathlib.Core.Path.{_≡_, refl, sym, ap, ap₂, subst, _∙_}
-use mathlib.Core.Bool.{Bool, not, _&&_, _||_}
-use mathlib.Core.List.{List, [], _∷_, _++_}
+use mathlib.Core.List.{List, _++_}
 use mathlib.Core.Logic.{_⊎_, inl, inr}
 use mathlib.Core.Option.{Option, none, some}
 use Prim.Native.Nat.{ℕ, _+_, _-_, _≤_}
@@ -18,7 +17,7 @@ use Rattle.number_octets.proofs.Laws.{part-take}
 use Rattle.number_offsets.specs.Offsets.{udpHeader}
 use Rattle.wire_area.specs.Area.{AreaWalk, plain, piece, fault, areaOf}
 use Rattle.wire_surplus.specs.Surplus.{startOf}
-use Rattle.wire_datagram.specs.Reading.{noData, payloadLimit, udpLength, udpChecksum, pseudoHeader, sumHolds, refusalTests, extent, walked, started, isOdd, accepted, Answer, refused, reads, answered, reading}
+use Rattle.wire_datagram.specs.Reading.{noData, udpLength, udpChecksum, refusalTests, extent, walked, started, isOdd, accepted, Answer, refused, reads, answered, reading}
 use Rattle.wire_surplus.specs.declared.Start.{Start}
 use Rattle.wire_surplus.specs.declared.Start.the-variants.{Empty, Short, Pad, Unsummed, BadSum, List as ListAt}
 use Rattle.wire_datagram.specs.declared.reading.Apc.the-variants.{Absent}
@@ -87,15 +86,6 @@ options-only-with-read p s d r e =
 
 -- ---- user data survives
 
--- the refusal tests see a payload's length, its UDP length, its UDP checksum and the bytes up to L
-abbrev testsOf : List ℕ → List ℕ → ℕ → ℕ → ℕ → List ℕ → List (Bool × ℕ)
-testsOf s d n size sum front =
-    (ltb n udpHeader, 1)
-    ∷ (ltb payloadLimit n, 2)
-    ∷ (ltb size udpHeader || ltb n size, 3)
-    ∷ (not (eqb sum 0) && not (sumHolds (pseudoHeader s d size) front), 4)
-    ∷ []
-
 -- L is at least a header and within the payload
 pub in-range : (p s d : List ℕ) → firstOf (refusalTests p s d) ≡ none → (udpHeader ≤ udpLength p) × (udpLength p ≤ length p)
 in-range p s d e =
@@ -123,10 +113,7 @@ user-data-survives p q s d r e n front =
     let size : udpLength q ≡ L = ap number (same 4 2 (omega arith)) in
     let sum : udpChecksum q ≡ udpChecksum p = ap number (same 6 2 (omega arith)) in
     let fronts : take (udpLength q) q ≡ take L p = ap (λ (k : ℕ). take k q) size ∙ front in
-    let tests : refusalTests q s d ≡ refusalTests p s d =
-    ap (λ (k : ℕ). testsOf s d k (udpLength q) (udpChecksum q) (take (udpLength q) q)) n
-    ∙ ap (λ (k : ℕ). testsOf s d (length p) k (udpChecksum q) (take (udpLength q) q)) size
-    ∙ ap₂ (λ (k : ℕ) (t : List ℕ). testsOf s d (length p) L k t) sum fronts in
+    let tests : refusalTests q s d ≡ refusalTests p s d = cc in
     record {
       other = accepted q;
       is-read = answered-none (ap firstOf tests ∙ m .0);
