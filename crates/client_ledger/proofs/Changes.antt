@@ -25,6 +25,7 @@ use Rattle.client_reassembly.specs.Offer
 use Rattle.client_reassembly.specs.Offer.{fragmentOf, added, base, startOf}
 use Rattle.client_reassembly.proofs.Joins.{held-added}
 use Rattle.client_reassembly.proofs.Kept.{any-at}
+use Rattle.client_reassembly.proofs.Lasting.{slots-of}
 use Rattle.client_ledger.specs.Book
 use Rattle.client_ledger.specs.Book.{Key, Content, Entry, Book, sameKey, of, mine, others, openedAt, entry, with}
 use Rattle.client_ledger.specs.Stands.{keyOf, owns, at, contentOf, Shows, Agrees, Stands, offerOf}
@@ -41,7 +42,7 @@ use Rattle.client_ledger.proofs.Keys.{
 }
 use Rattle.client_ledger.proofs.Agreement.{or-none, differs, not-owned, parts-fit, in-share}
 use Rattle.client_ledger.proofs.Clock.{fresh-not-live}
-use Rattle.client_ledger.proofs.Home.{Home, below, slots-of, parts-at}
+use Rattle.client_ledger.proofs.Home.{Home, below, parts-at}
 
 -- ---- a part of a list that another is laid over
 

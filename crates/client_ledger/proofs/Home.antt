@@ -24,11 +24,12 @@ use Rattle.client_reassembly.specs.Offer.{matches, firstIndex, placeFor, openin
 use Rattle.client_reassembly.proofs.Kept.{LiveParts, any-at, pairs-at}
 use Rattle.client_reassembly.proofs.Places.{any-first, first-passes, place-of-key, place-le, room-place, live-at}
 use Rattle.client_reassembly.proofs.Steady.{empty-held}
+use Rattle.client_reassembly.specs.Shapes.{slotted}
+use Rattle.client_reassembly.proofs.Lasting.{slots-of, fresh-slotted}
 use Rattle.client_ledger.specs.Book
 use Rattle.client_ledger.specs.Book.{Key, Content, Entry, Book, sameKey, mine, openedAt, keys, entry}
-use Rattle.client_ledger.specs.Stands.{keyOf, owns, at, contentOf, slotted, Stands, offerOf}
+use Rattle.client_ledger.specs.Stands.{keyOf, owns, at, contentOf, Stands, offerOf}
 use Rattle.client_ledger.proofs.Keys.{true-false, same-key, own-key, opened-first, opened-later, some, keys-split}
-use Rattle.client_ledger.proofs.Clock.{fresh-slotted}
 use Rattle.client_ledger.proofs.Agreement.{parts-sum, sum-at, differs, not-owned, not-live-owned, not-same-owned, live-count, live-sound, parts-fit}
 
 -- the key that an arrival has
@@ -50,10 +51,6 @@ owned-live k a e = both-true (live a) (sameKey k (keyOf a)) e .0
 pub owned-key : (k : Key) (a : Assembly) → owns k a ≡ true → k ≡ keyOf a
 unfolding owns
 owned-key k a e = same-key k (keyOf a) (both-true (live a) (sameKey k (keyOf a)) e .1)
-
-pub slots-of : (a : Assembly) → slotted a ≡ true → length (a .fragments) ≡ fragmentLimit
-unfolding slotted
-slots-of a e = eqb-true _ _ e
 
 pub held-length : (a : Assembly) → slotted a ≡ true → a .count ≤ fragmentLimit → length (heldFragments a) ≡ a .count
 unfolding heldFragments
@@ -110,7 +107,7 @@ module _ (c : Client) (share : List ℕ) (b : Book) (st : Stands c share b) wher
       live-sound (c .time) (at (c .assemblies) p) l (all-at (soundAssembly (c .time)) (c .assemblies) p freshAssembly h (sound-parts c (st .sound) .each))
 
   slotted-at : (p : ℕ) → p < length (c .assemblies) → slotted (at (c .assemblies) p) ≡ true
-  slotted-at p h = all-at slotted (c .assemblies) p freshAssembly h (st .shape .slots)
+  slotted-at p h = all-at slotted (c .assemblies) p freshAssembly h (st .shape .lists .slots)
 
   -- a live assembly has entries
   has-entries : (p : ℕ) → p < length (c .assemblies) → live (at (c .assemblies) p) ≡ true → 0 < length (mine (keyOf (at (c .assemblies) p)) (b .open-ones))
@@ -140,8 +137,8 @@ module _ (c : Client) (share : List ℕ) (b : Book) (st : Stands c share b) wher
   all-live-keys = go (all live (c .assemblies)) refl
     where
       go : (t : Bool) → all live (c .assemblies) ≡ t → t ≡ eqb (keys (b .open-ones)) assemblyLimit
-      go true e = sym (eq-eqb _ _ (keys-lives ∙ lives-all (c .assemblies) e ∙ st .shape .places))
-      go false e = sym (ne-eqb (keys (b .open-ones)) assemblyLimit (λ q. omega (arith, keys-lives, lives-some (c .assemblies) e, st .shape .places)))
+      go true e = sym (eq-eqb _ _ (keys-lives ∙ lives-all (c .assemblies) e ∙ st .shape .lists .places))
+      go false e = sym (ne-eqb (keys (b .open-ones)) assemblyLimit (λ q. omega (arith, keys-lives, lives-some (c .assemblies) e, st .shape .lists .places)))
 
   -- 29 in the record and in the book
   pub same-room : (o : Arrival) (bytes : List ℕ) → Offer.noRoom o (c .assemblies) ≡ Book.noRoom (entry (offerOf o bytes)) b

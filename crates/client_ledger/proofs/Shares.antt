@@ -118,6 +118,6 @@ fragment-call-share c share out o bytes shape = go (firstOf (offerTests c (lengt
     go : (r : Option ℕ) → firstOf (offerTests c (length out) o (length bytes)) ≡ r
         → FullShare (refuseOr c share out r (taken (elapse (o .time) c) share out o bytes))
     go none e =
-        taken-share (elapse (o .time) c) share out o bytes (elapse-places (o .time) c (shape .places))
+        taken-share (elapse (o .time) c) share out o bytes (elapse-places (o .time) c (shape .lists .places))
         (passes c (length out) o (length bytes) e .sized .ends) (shape .size)
     go (some n) e = shape .size

@@ -14,7 +14,6 @@ use Rattle.client_record.specs.Record.{isLast, freshAssembly, live, heldFragmen
 use Rattle.client_reassembly.specs.declared.Arrival.{Arrival}
 use Rattle.client_reassembly.specs.Advance.{Turn}
 use Rattle.client_reassembly.specs.Offer.{base, Outcome}
-unfoldable pub use Rattle.client_ledger.specs.Shapes.{slotted}
 pub use Rattle.client_ledger.specs.Shapes.{Shaped}
 use Rattle.client_ledger.specs.Book.{Key, Content, Entry, Book, held, sameKey, mine, openedAt, Result, Offer}
 

@@ -38,6 +38,7 @@ use Rattle.client_record.specs.Record.{
 }
 use Rattle.client_record.proofs.Lists.{and-false}
 use Rattle.client_record.proofs.SoundParts.{sound-parts, all-at, all-weaker, all-map}
+use Rattle.client_reassembly.specs.Shapes.{slotted, Shaped}
 use Rattle.client_reassembly.specs.declared.Arrival.{Arrival}
 use Rattle.client_reassembly.specs.Answer.{refused, stored, repeated, conflict, advanced}
 use Rattle.client_reassembly.specs.Advance
@@ -98,36 +99,28 @@ use Rattle.client_reassembly.proofs.Stored.{fragment-sound, added-live,
 
 -- ---- shapes
 
--- an assembly has all its slots
-unfoldable pub shaped : Assembly → Bool
-shaped a = eqb (length (a .fragments)) fragmentLimit
+pub slots-of : (a : Assembly) → slotted a ≡ true → length (a .fragments) ≡ fragmentLimit
+unfolding slotted
+slots-of a e = eqb-true _ _ e
 
-pub record Shaped (c : Client) : Type 0 where
-  pub places : length (c .assemblies) ≡ assemblyLimit
-  pub slots : all shaped (c .assemblies) ≡ true
+pub fresh-slotted : slotted freshAssembly ≡ true
+unfolding slotted freshAssembly
+fresh-slotted = eq-eqb _ _ (length-replicate fragmentLimit freshFragment)
 
-shaped-slots : (a : Assembly) → shaped a ≡ true → length (a .fragments) ≡ fragmentLimit
-unfolding shaped
-shaped-slots a e = eqb-true _ _ e
+opening-slotted : (o : Arrival) → slotted (opening o) ≡ true
+unfolding opening slotted
+opening-slotted o = eq-eqb _ _ (slots-of freshAssembly fresh-slotted)
 
-fresh-shaped : shaped freshAssembly ≡ true
-unfolding shaped freshAssembly
-fresh-shaped = eq-eqb _ _ (length-replicate fragmentLimit freshFragment)
-
-opening-shaped : (o : Arrival) → shaped (opening o) ≡ true
-unfolding opening shaped
-opening-shaped o = eq-eqb _ _ (shaped-slots freshAssembly fresh-shaped)
-
-added-shaped : (a : Assembly) (f : Fragment) → shaped a ≡ true → shaped (added a f) ≡ true
-unfolding shaped added
-added-shaped a f e = ap (λ (n : ℕ). eqb n fragmentLimit) (length-set (a .fragments) (a .count) f) ∙ e
+pub added-slotted : (a : Assembly) (f : Fragment) → slotted a ≡ true → slotted (added a f) ≡ true
+unfolding slotted added
+added-slotted a f e = ap (λ (n : ℕ). eqb n fragmentLimit) (length-set (a .fragments) (a .count) f) ∙ e
 
 -- ---- the assembly that a fragment belongs to
 
 -- what is known of the assembly a that a fragment at place p of xs belongs to, at the time t
 record Home (t p : ℕ) (xs : List Assembly) (a : Assembly) : Type 0 where
   parts : LiveParts t a
-  slots : shaped a ≡ true
+  slots : slotted a ≡ true
   bytes : bytesHeld a ≡ bytesHeld (getD xs p freshAssembly)
   before : (f : Fragment) (j : ℕ) (d : Assembly) → j < length xs → j < p → not (sameLiveKey (getD xs j d) (added a f)) ≡ true
   behind : (f : Fragment) (j : ℕ) (d : Assembly) → j < length xs → p < j → not (sameLiveKey (added a f) (getD xs j d)) ≡ true
@@ -141,14 +134,14 @@ unfolding live
 not-live-empty a e = eqb-true (a .count) 0 (not-false _ e)
 
 module _ (t p : ℕ) (xs : List Assembly) (h : p < length xs) (each : all (soundAssembly t) xs ≡ true) (keys : keysDiffer xs ≡ true)
-    (slots : all shaped xs ≡ true) where
+    (slots : all slotted xs ≡ true) where
   home-live : live (getD xs p freshAssembly) ≡ true → Home t p xs (getD xs p freshAssembly)
   unfolding keysDiffer
   home-live l =
       let a = getD xs p freshAssembly in
       record {
         parts = live-parts t a (sound-live-of t a l (all-at (soundAssembly t) xs p freshAssembly h each));
-        slots = all-at shaped xs p freshAssembly h slots;
+        slots = all-at slotted xs p freshAssembly h slots;
         bytes = refl;
         before = λ f j d k n.
             ap not (same-key-before (getD xs j d) a f l) ∙ ap (λ (x : Assembly). not (sameLiveKey x a)) (getD-any xs j d freshAssembly k)
@@ -183,7 +176,7 @@ home-opened : (o : Arrival) (p : ℕ) (xs : List Assembly) → p < length xs →
 home-opened o p xs h e l =
     record {
       parts = opening-parts o;
-      slots = opening-shaped o;
+      slots = opening-slotted o;
       bytes = empty-bytes (opening o) (opening-count o)
           ∙ sym (empty-bytes (getD xs p freshAssembly) (not-live-empty (getD xs p freshAssembly) l));
       before = λ f j d k n. opened-before o f (getD xs j d) (any-at (matches o) xs j d k e);
@@ -192,7 +185,7 @@ home-opened o p xs h e l =
 
 -- the assembly at the offer's place is at home there
 home : (o : Arrival) (p : ℕ) (xs : List Assembly) → p ≡ placeFor o xs → p < length xs → all (soundAssembly (o .time)) xs ≡ true
-    → keysDiffer xs ≡ true → all shaped xs ≡ true → Home (o .time) p xs (assemblyFor o p xs)
+    → keysDiffer xs ≡ true → all slotted xs ≡ true → Home (o .time) p xs (assemblyFor o p xs)
 unfolding assemblyFor
 home o p xs place h each keys slots = go (any (matches o) xs) refl
   where
@@ -218,7 +211,7 @@ module _ (c : Client) (p : ℕ) (a : Assembly) (f : Fragment) (sound : soundReco
   storing-sound ok apart full still =
       let s = sound-parts c sound in
       let free = not-full a (at .parts .slots) full in
-      let slots = shaped-slots a (at .slots) in
+      let slots = slots-of a (at .slots) in
       let fits : a .count < length (a .fragments) = omega arith in
       let parts = added-parts (c .time) a f (at .parts) free slots ok apart still in
       let total = sum-set bytesHeld (c .assemblies) p (added a f) freshAssembly h in
@@ -306,12 +299,12 @@ taken-sound c share out o bytes sound shape time sized some-bytes room = go (noR
         (placed-sound c p (assemblyFor o p xs) (fragmentOf o n) sound shape (within e) (at-home (within e))
         (subst (λ (k : ℕ). c .offered + k ≤ offeredLimit) (sym (fragment-length o n)) room) share out bytes (fragment-sound o n sized some-bytes))
 
-expire-shaped : (t : ℕ) (a : Assembly) → shaped a ≡ true → shaped (expire t a) ≡ true
+expire-slotted : (t : ℕ) (a : Assembly) → slotted a ≡ true → slotted (expire t a) ≡ true
 unfolding expire
-expire-shaped t a e = go (old t a)
+expire-slotted t a e = go (old t a)
   where
-    go : (b : Bool) → shaped (cond b freshAssembly a) ≡ true
-    go true = fresh-shaped
+    go : (b : Bool) → slotted (cond b freshAssembly a) ≡ true
+    go true = fresh-slotted
     go false = e
 
 pub elapse-shaped : (t : ℕ) (c : Client) → Shaped c → Shaped (elapse t c)
@@ -319,8 +312,8 @@ unfolding elapse
 elapse-shaped t c s =
     record {
       places = length-map (c .assemblies) (expire t) ∙ s .places;
-      slots = all-map shaped (expire t) (c .assemblies)
-          ∙ all-weaker shaped (λ a. shaped (expire t a)) (expire-shaped t) (c .assemblies) (s .slots);
+      slots = all-map slotted (expire t) (c .assemblies)
+          ∙ all-weaker slotted (λ a. slotted (expire t a)) (expire-slotted t) (c .assemblies) (s .slots);
     }
 
 elapse-time : (t : ℕ) (c : Client) → elapse t c .time ≡ t
@@ -348,23 +341,23 @@ fragment-call-sound c share out o bytes sound shape = go (firstOf (offerTests c 
 
 -- ---- the shape after a fragment call
 
-set-shaped : (p : ℕ) (b : Assembly) (xs : List Assembly) → length xs ≡ assemblyLimit → all shaped xs ≡ true → shaped b ≡ true
-    → (length (set xs p b) ≡ assemblyLimit) × (all shaped (set xs p b) ≡ true)
-set-shaped p b xs n e k = (length-set xs p b ∙ n, all-set shaped xs p b e k)
+set-shaped : (p : ℕ) (b : Assembly) (xs : List Assembly) → length xs ≡ assemblyLimit → all slotted xs ≡ true → slotted b ≡ true
+    → (length (set xs p b) ≡ assemblyLimit) × (all slotted (set xs p b) ≡ true)
+set-shaped p b xs n e k = (length-set xs p b ∙ n, all-set slotted xs p b e k)
 
-module _ (c : Client) (p : ℕ) (a : Assembly) (f : Fragment) (shape : Shaped c) (own : shaped a ≡ true) where
+module _ (c : Client) (p : ℕ) (a : Assembly) (f : Fragment) (shape : Shaped c) (own : slotted a ≡ true) where
   conflicting-shaped : Shaped (conflicting p a (f .length) c)
   unfolding conflicting
-  conflicting-shaped = let k = set-shaped p freshAssembly (c .assemblies) (shape .places) (shape .slots) fresh-shaped in record { places = k .0; slots = k .1 }
+  conflicting-shaped = let k = set-shaped p freshAssembly (c .assemblies) (shape .places) (shape .slots) fresh-slotted in record { places = k .0; slots = k .1 }
 
   delivering-shaped : Shaped (delivering p a (f .length) c)
   unfolding delivering
-  delivering-shaped = let k = set-shaped p freshAssembly (c .assemblies) (shape .places) (shape .slots) fresh-shaped in record { places = k .0; slots = k .1 }
+  delivering-shaped = let k = set-shaped p freshAssembly (c .assemblies) (shape .places) (shape .slots) fresh-slotted in record { places = k .0; slots = k .1 }
 
   storing-shaped : Shaped (storing p (added a f) (f .length) c)
   unfolding storing
   storing-shaped =
-      let k = set-shaped p (added a f) (c .assemblies) (shape .places) (shape .slots) (added-shaped a f own) in record { places = k .0; slots = k .1 }
+      let k = set-shaped p (added a f) (c .assemblies) (shape .places) (shape .slots) (added-slotted a f own) in record { places = k .0; slots = k .1 }
 
   rejecting-shaped : (n : ℕ) → Shaped (rejecting n c)
   unfolding rejecting
@@ -395,13 +388,13 @@ module _ (c : Client) (p : ℕ) (a : Assembly) (f : Fragment) (shape : Shaped c)
       one false false true = rejecting-shaped (f .length)
       one false false false = joined-shaped (overlay share (startOf p f) bytes) out
 
-assembly-shaped : (o : Arrival) (p : ℕ) (xs : List Assembly) → p < length xs → all shaped xs ≡ true → shaped (assemblyFor o p xs) ≡ true
+assembly-slotted : (o : Arrival) (p : ℕ) (xs : List Assembly) → p < length xs → all slotted xs ≡ true → slotted (assemblyFor o p xs) ≡ true
 unfolding assemblyFor
-assembly-shaped o p xs h e = go (any (matches o) xs)
+assembly-slotted o p xs h e = go (any (matches o) xs)
   where
-    go : (b : Bool) → shaped (cond b (getD xs p freshAssembly) (opening o)) ≡ true
-    go true = all-at shaped xs p freshAssembly h e
-    go false = opening-shaped o
+    go : (b : Bool) → slotted (cond b (getD xs p freshAssembly) (opening o)) ≡ true
+    go true = all-at slotted xs p freshAssembly h e
+    go false = opening-slotted o
 
 taken-shaped : (c : Client) (share out : List ℕ) (o : Arrival) (bytes : List ℕ) → Shaped c → Shaped (taken c share out o bytes .client)
 taken-shaped c share out o bytes shape = go (noRoom o (c .assemblies)) refl
@@ -421,10 +414,10 @@ taken-shaped c share out o bytes shape = go (noRoom o (c .assemblies)) refl
         omega (arith, ne, place-le o xs)
 
     go : (b : Bool) → noRoom o xs ≡ b → Kept (taken c share out o bytes)
-    go true e = subst Kept (sym (taken-rejected c share out o bytes e)) (rejecting-shaped c p freshAssembly (fragmentOf o 0) shape fresh-shaped (length bytes))
+    go true e = subst Kept (sym (taken-rejected c share out o bytes e)) (rejecting-shaped c p freshAssembly (fragmentOf o 0) shape fresh-slotted (length bytes))
     go false e =
         subst Kept (sym (taken-placed c share out o bytes e))
-        (placed-shaped c p (assemblyFor o p xs) (fragmentOf o (length bytes)) shape (assembly-shaped o p xs (within e) (shape .slots)) share out bytes)
+        (placed-shaped c p (assemblyFor o p xs) (fragmentOf o (length bytes)) shape (assembly-slotted o p xs (within e) (shape .slots)) share out bytes)
 
 pub fragment-call-shaped : (c : Client) (share out : List ℕ) (o : Arrival) (bytes : List ℕ) → Shaped c
     → Shaped (fragmentOn c share out o bytes .client)
@@ -480,4 +473,4 @@ fresh-client-sound =
 
 pub fresh-client-shaped : Shaped freshClient
 unfolding freshClient
-fresh-client-shaped = record { places = length-replicate assemblyLimit freshAssembly; slots = all-alike shaped assemblyLimit freshAssembly fresh-shaped }
+fresh-client-shaped = record { places = length-replicate assemblyLimit freshAssembly; slots = all-alike slotted assemblyLimit freshAssembly fresh-slotted }

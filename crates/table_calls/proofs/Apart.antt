@@ -13,8 +13,8 @@ use Rattle.client_record.specs.declared.Client.{Client}
 use Rattle.client_record.specs.Record.{freshClient, figureSum, soundRecord}
 use Rattle.client_record.proofs.SoundParts.{sound-parts}
 use Rattle.client_reassembly.specs.Answer.{refused, ready}
-use Rattle.client_reassembly.proofs.Lasting.{shaped, fresh-client-sound, fresh-client-shaped}
-use Rattle.client_ledger.specs.Shapes.{slotted, Shaped}
+use Rattle.client_reassembly.proofs.Lasting.{fresh-client-sound, fresh-client-shaped}
+use Rattle.client_ledger.specs.Shapes.{Shaped}
 use Rattle.client_ledger.specs.History.{Lent, Ask, Given, on}
 use Rattle.table_calls.specs.Table.{Table, lentOf, sized, shareOf, recordOf, After, cleared, resetOn, turned, askOn}
 use Rattle.table_calls.specs.Events.{Lending, current, another, Event, resetting, asking, tableFor, next, final, givenBy, gives, Allowed, Keeps, ownOnly}
@@ -39,13 +39,12 @@ cleared-record (suc n) zero = refl
 cleared-record (suc n) (suc k) = cleared-record n k
 
 pub cleared-formed : (u : Table) → sized (lentOf u) ≡ true → Formed (cleared u)
-unfolding slotted shaped
 cleared-formed u e = record {
   fit = ap sized (cleared-sizes u) ∙ e;
   each = λ k in-it.
       let there : k < length (u .records) = subst (λ (n : ℕ). k < n) (length-replicate (length (u .records)) freshClient) in-it in
       subst (λ (c : Client). Shaped c (shareOf k u)) (sym (cleared-record (length (u .records)) k))
-      (record { places = fresh-client-shaped .places; slots = fresh-client-shaped .slots; size = share-length u k e there });
+      (record { lists = fresh-client-shaped; size = share-length u k e there });
 }
 
 pub cleared-tested : (k : ℕ) (u : Table) → Tested k (cleared u)
