@@ -36,7 +36,7 @@ use Rattle.table_receiver.specs.Receive.{
   offerOf,
   Fate,
   offered,
-  Outcome′,
+  Receipt,
   fateOf,
   taking,
   receiving,
@@ -189,12 +189,12 @@ module _ (t : Table) (cs : List Call) (terms : Terms t (allEvents cs)) (k : ℕ)
   module _ (f : Fragment) (e : pieceIn (readingOf p) ≡ some f) where
     fate-is : receiveOn k p out (tableAfter t cs) .fate ≡ offered (askOn k (offerOf p f out) (Table.tableAfter t (allEvents cs)) .reply)
     fate-is =
-        ap (λ (x : Outcome′). x .fate) (received k p out (tableAfter t cs) f e)
+        ap (λ (x : Receipt). x .fate) (received k p out (tableAfter t cs) f e)
         ∙ ap (λ (u : Table). offered (askOn k (offerOf p f out) u .reply)) (table-is t cs terms)
 
     out-is : receiveOn k p out (tableAfter t cs) .out ≡ askOn k (offerOf p f out) (Table.tableAfter t (allEvents cs)) .out
     out-is =
-        ap (λ (x : Outcome′). x .out) (received k p out (tableAfter t cs) f e)
+        ap (λ (x : Receipt). x .out) (received k p out (tableAfter t cs) f e)
         ∙ ap (λ (u : Table). askOn k (offerOf p f out) u .out) (table-is t cs terms)
 
     reply-of : (r : Reply) → receiveOn k p out (tableAfter t cs) .fate ≡ offered r
@@ -237,7 +237,7 @@ module _ (t : Table) (cs : List Call) (terms : Terms t (allEvents cs)) (k : ℕ)
   left-alone never = go (pieceIn (readingOf p)) refl
     where
       go : (o : Option Fragment) → pieceIn (readingOf p) ≡ o → receiveOn k p out (tableAfter t cs) .out ≡ out
-      go none e = ap (λ (x : Outcome′). x .out) (not-received k p out (tableAfter t cs) e)
+      go none e = ap (λ (x : Receipt). x .out) (not-received k p out (tableAfter t cs) e)
       go (some f) e =
           out-is f e
           ∙ demand-3 .untouched t (allEvents cs) terms k (arrivalOf (p .payload) (p .source) (p .destination) (p .time) f) (bytesOf (p .payload) f) out
@@ -251,7 +251,7 @@ module _ (t : Table) (cs : List Call) (terms : Terms t (allEvents cs)) (k : ℕ)
       silent (Reading.reads r) e = let z : _≡_ {A = ℕ} 0 1 = cc in omega arith
 
       go : (o : Option Fragment) → pieceIn (readingOf p) ≡ o → ⊥
-      go none e = silent (readingOf p) (sym (ap (λ (x : Outcome′). x .fate) (not-received k p out (tableAfter t cs) e)) ∙ q)
+      go none e = silent (readingOf p) (sym (ap (λ (x : Receipt). x .fate) (not-received k p out (tableAfter t cs) e)) ∙ q)
       go (some f) e = demand-3 .sound t (allEvents cs) terms k (offerOf p f out) (reply-of f e (refused 22) q)
 
 isolated : (t : Table) (cs cs′ : List Call) → Terms t (allEvents cs) → Terms t (allEvents cs′) → (k : ℕ) → ownCalls k cs ≡ ownCalls k cs′

@@ -34,7 +34,7 @@ use Rattle.table_receiver.specs.Receive.{
   unread,
   whole,
   offered,
-  Outcome′,
+  Receipt,
   fateOf,
   receiveOn,
 }
@@ -64,7 +64,7 @@ toldOf (unread n) out = []
 toldOf (whole r) out = []
 toldOf (offered reply) out = record { reply = reply; out = out } ∷ []
 
-abbrev pub toldBy : Outcome′ → List Given
+abbrev pub toldBy : Receipt → List Given
 toldBy o = toldOf (o .fate) (o .out)
 
 -- what the table answered to client k's fragments, clocks and accounts, and to the set-ups
