@@ -4,6 +4,7 @@ use Prim.Native.Nat.{ℕ}
 use mathlib.Core.Path.{_≡_, refl, ap, ap₂, _∙_}
 use mathlib.Core.List.{List, [], _∷_, map}
 use lib.ListN.{length, getD, length-replicate}
+use Rattle.number_tests.specs.Tests.{firstOf}
 use Rattle.number_octets.specs.Octets.{number, octets}
 use Rattle.number_offsets.specs.Offsets.{udpHeader}
 use Rattle.number_checksum.specs.Checksum.{wordSum, folded, sent}
@@ -14,7 +15,7 @@ use Rattle.wire_options.specs.Step.{headerOf, stepOf}
 use Rattle.wire_options.specs.Walk.{optionLimit, walkFrom}
 use Rattle.wire_area.specs.Area.{nopsOf, areaOf}
 use Rattle.wire_surplus.specs.Surplus.{startOf}
-use Rattle.wire_datagram.specs.Reading.{payloadLimit, firstOf, accepted, reading}
+use Rattle.wire_datagram.specs.Reading.{payloadLimit, accepted, reading}
 use Rattle.list_encoding.specs.Shape.{shapeOf}
 use Rattle.list_encoding.specs.Encoding.{readNumber, readFields, readBody, readKind, readOption, readOptions, decodedList}
 use Rattle.list_payload.specs.Payload as Payload
@@ -118,7 +119,7 @@ on-book es keeps =
     (demand-3 .answers table es (terms es keeps) 0 ∙ ap (λ (l : Lent). owes 0 l [] (opening es)) sizes)
 
 book : Unit {0}
-unfolding lent owed countOff storeOff misfits noClient lentTests answered keeping bookOf owes offerOf Answer.firstOf empty size endOf total heldBytes held sameKey of mine
+unfolding lent owed countOff storeOff misfits noClient lentTests answered keeping bookOf owes offerOf firstOf empty size endOf total heldBytes held sameKey of mine
     keep others openedAt keys due outdated advance repeats overlap contradicts within complete lastOne byteAt bytesTo rejecting conflicting
     storing taking noRoom isRepeat isConflict isFull fate entry offerTests clockTests figures sameFlow sameBytes any sum datagramLimit
     fragmentLimit assemblyLimit lifetime offeredLimit shareSize clientLimit stated

@@ -3,16 +3,17 @@
 -- Assumes nothing.
 use Prim.Native.Nat.{ℕ, zero, suc, _+_, _<_, _≤_}
 use mathlib.Core.Path.{_≡_, refl, sym, ap, ap₂, _∙_, subst}
-use mathlib.Core.Bool.{Bool, true, false, not, _&&_, _||_}
+use mathlib.Core.Bool.{Bool, true, false, not, _&&_, _||_, cond}
 use mathlib.Core.List.{List, [], _∷_, map}
 use native.Mathlib.Omega.{arith}
 use lib.ListN.{length, getD}
 use borrow.Author.Tests.{leb-true, eqb-true, eqb-false, not-true, not-false}
+use Rattle.number_tests.proofs.Tests.{both-true, cond-yes}
 use Rattle.number_octets.proofs.Laws.{length-part}
 use Rattle.client_record.specs.declared.Fragment.{Fragment}
 use Rattle.client_record.specs.declared.Assembly.{Assembly}
 use Rattle.client_record.specs.Limits.{datagramLimit, assemblyLimit, shareSize}
-use Rattle.client_record.specs.Lists.{if, all, any, pairs, sum}
+use Rattle.client_record.specs.Lists.{all, any, pairs, sum}
 use Rattle.client_record.specs.Record.{
   freshAssembly,
   end,
@@ -32,10 +33,8 @@ use Rattle.client_record.specs.Record.{
 }
 use Rattle.client_record.proofs.Lists.{all-not}
 use Rattle.client_record.proofs.SoundParts.{all-weaker, all-at}
-use Rattle.client_record.proofs.Tests.{both-true}
 use Rattle.client_reassembly.specs.Offer.{base}
 use Rattle.client_reassembly.proofs.Kept.{LiveParts, live-parts}
-use Rattle.client_reassembly.proofs.Laws.{if-yes}
 use Rattle.client_reassembly.proofs.Steady.{empty-bytes}
 use Rattle.client_ledger.specs.Book.{Key, Content, Entry, size, total, heldBytes, sameKey, mine, others}
 use Rattle.client_ledger.specs.Stands.{keyOf, owns, at, contentOf, Agrees}
@@ -107,7 +106,7 @@ keys-rest a xs e = both-true (all (λ b. not (sameLiveKey a b)) xs) (keysDiffer 
 -- F of entries is G of a key's and F of the others: it is the sum of G over the live assemblies
 module _ (F : List Entry → ℕ) (G : List Content → ℕ) (nothing : F [] ≡ 0) (split : (k : Key) (es : List Entry) → F es ≡ G (mine k es) + F (others k es)) where
   pub parts-sum : (xs : List Assembly) (es : List Entry) → keysDiffer xs ≡ true → ((k : Key) → any (owns k) xs ≡ false → mine k es ≡ [])
-      → F es ≡ sum (λ a. if (live a) (G (mine (keyOf a) es)) 0) xs
+      → F es ≡ sum (λ a. cond (live a) (G (mine (keyOf a) es)) 0) xs
   unfolding sum any
   parts-sum [] es d h = ap F (no-entries es (λ k. h k refl)) ∙ nothing
   parts-sum (a ∷ xs) es d h = go (live a) refl (parts-sum xs)
@@ -115,10 +114,10 @@ module _ (F : List Entry → ℕ) (G : List Content → ℕ) (nothing : F [] ≡
       k : Key
       k = keyOf a
 
-      same-parts : (x : Assembly) → owns k x ≡ false → if (live x) (G (mine (keyOf x) (others k es))) 0 ≡ if (live x) (G (mine (keyOf x) es)) 0
+      same-parts : (x : Assembly) → owns k x ≡ false → cond (live x) (G (mine (keyOf x) (others k es))) 0 ≡ cond (live x) (G (mine (keyOf x) es)) 0
       same-parts x e = by (live x) refl
         where
-          by : (b : Bool) → live x ≡ b → if b (G (mine (keyOf x) (others k es))) 0 ≡ if b (G (mine (keyOf x) es)) 0
+          by : (b : Bool) → live x ≡ b → cond b (G (mine (keyOf x) (others k es))) 0 ≡ cond b (G (mine (keyOf x) es)) 0
           by true l = ap G (mine-others k es (keyOf x) (not-owned k x e l))
           by false l = refl
 
@@ -131,13 +130,13 @@ module _ (F : List Entry → ℕ) (G : List Content → ℕ) (nothing : F [] ≡
 
       go : (b : Bool) → live a ≡ b
           → ((es : List Entry) → keysDiffer xs ≡ true → ((k : Key) → any (owns k) xs ≡ false → mine k es ≡ [])
-          → F es ≡ sum (λ a. if (live a) (G (mine (keyOf a) es)) 0) xs)
-          → F es ≡ (if b (G (mine k es)) 0) + sum (λ a. if (live a) (G (mine (keyOf a) es)) 0) xs
+          → F es ≡ sum (λ a. cond (live a) (G (mine (keyOf a) es)) 0) xs)
+          → F es ≡ (cond b (G (mine k es)) 0) + sum (λ a. cond (live a) (G (mine (keyOf a) es)) 0) xs
       go true l ih =
           split k es
           ∙ ap (λ (n : ℕ). G (mine k es) + n)
           (ih (others k es) (keys-rest a xs d) rest-known
-          ∙ sum-failing (λ x. if (live x) (G (mine (keyOf x) (others k es))) 0) (λ x. if (live x) (G (mine (keyOf x) es)) 0) (owns k) same-parts xs
+          ∙ sum-failing (λ x. cond (live x) (G (mine (keyOf x) (others k es))) 0) (λ x. cond (live x) (G (mine (keyOf x) es)) 0) (owns k) same-parts xs
           (keys-front a xs d l))
       go false l ih = omega (arith, ih es (keys-rest a xs d) (λ j e. h j (owned-else j a xs (not-live-owned j a l) e)))
 
@@ -157,7 +156,7 @@ live-count a e = let n = eqb-false (a .count) 0 (not-true _ e) in go (a .count) 
 
 pub live-sound : (t : ℕ) (a : Assembly) → live a ≡ true → soundAssembly t a ≡ true → LiveParts t a
 unfolding soundAssembly
-live-sound t a l e = live-parts t a (sym (if-yes (live a) (soundLive t a) (isFreshAssembly a) l) ∙ e)
+live-sound t a l e = live-parts t a (sym (cond-yes (live a) (soundLive t a) (isFreshAssembly a) l) ∙ e)
 
 sound-fits : (f : Fragment) → soundFragment f ≡ true → fits f ≡ true
 unfolding soundFragment
@@ -191,9 +190,9 @@ module _ (t : ℕ) (share : List ℕ) (es : List Entry) (xs : List Assembly) (wh
   unfolding bytesHeld heldBytes sum
   held-sum =
       parts-sum heldBytes total refl mine-bytes xs es differ (agree .known)
-      ∙ sum-at (λ a. if (live a) (total (mine (keyOf a) es)) 0) bytesHeld freshAssembly xs (λ i k. here i k (live (at xs i)) refl)
+      ∙ sum-at (λ a. cond (live a) (total (mine (keyOf a) es)) 0) bytesHeld freshAssembly xs (λ i k. here i k (live (at xs i)) refl)
     where
-      here : (i : ℕ) → i < length xs → (b : Bool) → live (at xs i) ≡ b → if b (total (mine (keyOf (at xs i)) es)) 0 ≡ bytesHeld (at xs i)
+      here : (i : ℕ) → i < length xs → (b : Bool) → live (at xs i) ≡ b → cond b (total (mine (keyOf (at xs i)) es)) 0 ≡ bytesHeld (at xs i)
       here i k true l =
           ap total (agree .each i k l .fragments)
           ∙ content-bytes share i whole (omega arith) (heldFragments (at xs i))

@@ -2,15 +2,15 @@
 -- Assumes nothing.
 use Prim.Native.Nat.{ℕ, _+_, _-_}
 use mathlib.Core.Path.{_≡_, refl, sym, ap, subst, _∙_}
-use mathlib.Core.Bool.{Bool, true, false, not, _&&_}
+use mathlib.Core.Bool.{Bool, true, false, not, _&&_, cond}
 use mathlib.Core.List.{List, [], _∷_, _++_}
 use mathlib.Core.Option.{Option, none, some}
 use lib.ListN.{length}
-use Rattle.client_record.specs.Lists.{if, all, any, pairs}
+use Rattle.number_tests.proofs.Tests.{both-true, cond-either}
+use Rattle.number_tests.specs.Tests.{firstOf}
+use Rattle.client_record.specs.Lists.{all, any, pairs}
 use Rattle.client_record.proofs.Lists.{pairs-append, all-not}
-use Rattle.client_record.proofs.Tests.{both-true}
 use Rattle.client_reassembly.specs.Answer as Answer
-use Rattle.client_reassembly.specs.Answer.{firstOf}
 use Rattle.client_ledger.specs.Book.{Key, Content, Entry, Book, Result, empty, size, endOf, of, mine, keep, others}
 use Rattle.client_ledger.specs.Book.{outdated, advance, contradicts, lastOne, rejecting, repeating, conflicting, storing, delivering, leaving, with, finished}
 use Rattle.client_ledger.specs.Book.{taking, noRoom, isRepeat, isConflict, isFull, fate, Call, fragment, clock, bill, entry, offerTests}
@@ -33,18 +33,18 @@ Peaceful es = (k : Key) → pairs follows (mine k es) ≡ true
 
 -- a list of contents that is made from a front and a rest, as `mine` makes it
 abbrev front : Bool → Content → List Content → List Content
-front y c cs = if y (c ∷ cs) cs
+front y c cs = cond y (c ∷ cs) cs
 
 mine-front : (k : Key) (e : Entry) (es : List Entry) → mine k (e ∷ es) ≡ front (of k e) (e .content) (mine k es)
 unfolding mine
 mine-front k e es = refl
 
 module _ (p : Entry → Bool) (k : Key) where
-  kept-front : (e : Entry) (es : List Entry) → mine k (keep p (e ∷ es)) ≡ if (p e) (front (of k e) (e .content) (mine k (keep p es))) (mine k (keep p es))
+  kept-front : (e : Entry) (es : List Entry) → mine k (keep p (e ∷ es)) ≡ cond (p e) (front (of k e) (e .content) (mine k (keep p es))) (mine k (keep p es))
   unfolding mine keep
   kept-front e es = go (p e)
     where
-      go : (x : Bool) → mine k (if x (e ∷ keep p es) (keep p es)) ≡ if x (front (of k e) (e .content) (mine k (keep p es))) (mine k (keep p es))
+      go : (x : Bool) → mine k (cond x (e ∷ keep p es) (keep p es)) ≡ cond x (front (of k e) (e .content) (mine k (keep p es))) (mine k (keep p es))
       go true = refl
       go false = refl
 
@@ -56,7 +56,7 @@ module _ (p : Entry → Bool) (k : Key) where
       (go (p e) (of k e) (all-kept q es) (subst (λ (l : List Content). all q l ≡ true) (mine-front k e es) h))
     where
       go : (x y : Bool) → (all q (mine k es) ≡ true → all q (mine k (keep p es)) ≡ true) → all q (front y (e .content) (mine k es)) ≡ true
-          → all q (if x (front y (e .content) (mine k (keep p es))) (mine k (keep p es))) ≡ true
+          → all q (cond x (front y (e .content) (mine k (keep p es))) (mine k (keep p es))) ≡ true
       go true true ih h =
           let b = both-true (q (e .content)) (all q (mine k es)) h in ap (λ (z : Bool). z && all q (mine k (keep p es))) (b .0) ∙ ih (b .1)
       go true false ih h = ih h
@@ -71,7 +71,7 @@ module _ (p : Entry → Bool) (k : Key) where
       (go (p e) (of k e) (pairs-kept q es) (subst (λ (l : List Content). pairs q l ≡ true) (mine-front k e es) h))
     where
       go : (x y : Bool) → (pairs q (mine k es) ≡ true → pairs q (mine k (keep p es)) ≡ true) → pairs q (front y (e .content) (mine k es)) ≡ true
-          → pairs q (if x (front y (e .content) (mine k (keep p es))) (mine k (keep p es))) ≡ true
+          → pairs q (cond x (front y (e .content) (mine k (keep p es))) (mine k (keep p es))) ≡ true
       go true true ih h =
           let b = both-true (all (q (e .content)) (mine k es)) (pairs q (mine k es)) h in
           ap (λ (z : Bool). z && pairs q (mine k (keep p es))) (all-kept (q (e .content)) es (b .0)) ∙ ih (b .1)
@@ -107,9 +107,8 @@ pub advance-peaceful : (t : ℕ) (b : Book) → Peaceful (b .open-ones) → Peac
 unfolding advance
 advance-peaceful t b h = kept-peaceful (λ e. not (outdated t (b .open-ones) e)) (b .open-ones) h
 
-if-peaceful : (x : Bool) (r s : Result) → Peaceful (r .book .open-ones) → Peaceful (s .book .open-ones) → Peaceful (if x r s .book .open-ones)
-if-peaceful true r s p q = p
-if-peaceful false r s p q = q
+cond-peaceful : (x : Bool) (r s : Result) → Peaceful (r .book .open-ones) → Peaceful (s .book .open-ones) → Peaceful (cond x r s .book .open-ones)
+cond-peaceful = cond-either (λ (z : Result). Peaceful (z .book .open-ones))
 
 module _ (e : Entry) (out : List ℕ) (b : Book) (h : Peaceful (b .open-ones)) where
   left-peaceful : Peaceful (others (e .key) (b .open-ones))
@@ -120,18 +119,18 @@ module _ (e : Entry) (out : List ℕ) (b : Book) (h : Peaceful (b .open-ones)) w
   unfolding storing delivering isConflict
   finished-peaceful n none = joined-peaceful e (b .open-ones) h n
   finished-peaceful n (some l) =
-      if-peaceful (Book.complete (endOf l) (with e b)) _ _ left-peaceful (joined-peaceful e (b .open-ones) h n)
+      cond-peaceful (Book.complete (endOf l) (with e b)) _ _ left-peaceful (joined-peaceful e (b .open-ones) h n)
 
   fate-peaceful : Peaceful (fate e out b .book .open-ones)
   unfolding fate rejecting repeating conflicting taking
   fate-peaceful =
-      if-peaceful (noRoom e b) _ _ h (if-peaceful (isRepeat e b) _ _ h (go (isConflict e b) refl))
+      cond-peaceful (noRoom e b) _ _ h (cond-peaceful (isRepeat e b) _ _ h (go (isConflict e b) refl))
     where
       go : (x : Bool) → isConflict e b ≡ x
-          → Peaceful ((if x (leaving Answer.conflict out (conflicting (e .key) (size (e .content)) b))
-          (if (isFull e b) (leaving (Answer.refused 30) out (rejecting (size (e .content)) b)) (taking e out b))) .book .open-ones)
+          → Peaceful ((cond x (leaving Answer.conflict out (conflicting (e .key) (size (e .content)) b))
+          (cond (isFull e b) (leaving (Answer.refused 30) out (rejecting (size (e .content)) b)) (taking e out b))) .book .open-ones)
       go true n = left-peaceful
-      go false n = if-peaceful (isFull e b) _ _ h (finished-peaceful n (lastOne (with e b)))
+      go false n = cond-peaceful (isFull e b) _ _ h (finished-peaceful n (lastOne (with e b)))
 
 refused-peaceful : (out : List ℕ) (b : Book) (n : Option ℕ) (r : Result) → Peaceful (b .open-ones) → Peaceful (r .book .open-ones)
     → Peaceful (refuseOr out b n r .book .open-ones)

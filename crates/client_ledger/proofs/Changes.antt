@@ -3,28 +3,29 @@
 -- Assumes nothing.
 use Prim.Native.Nat.{ℕ, zero, suc, _+_, _-_, _<_, _≤_}
 use mathlib.Core.Path.{_≡_, refl, sym, ap, ap₂, _∙_, subst}
-use mathlib.Core.Bool.{Bool, true, false, _&&_, _||_}
+use mathlib.Core.Bool.{Bool, true, false, _&&_, _||_, cond}
 use mathlib.Core.List.{List, [], _∷_, _++_, map, map-append}
 use native.Mathlib.Omega.{arith}
 use lib.Dec.{eqb, ltb}
 use lib.ListN.{length, take, drop, getD, set, length-set}
 use lib.Seq.{take-add, drop-at, drop-drop, take-take, length-take-le, getD-set-same, getD-set-other}
 use borrow.Author.Tests.{ltb-true, ltb-false, leb-true, eqb-true, eqb-false}
+use Rattle.number_tests.proofs.Tests.{both-true}
 use Rattle.number_octets.specs.Octets.{part, overlay}
 use Rattle.number_octets.proofs.Laws.{length-overlay, take-overlay, drop-overlay, part-overlay}
 use Rattle.client_record.specs.declared.Fragment.{Fragment}
 use Rattle.client_record.specs.declared.Assembly.{Assembly}
 use Rattle.client_record.specs.declared.Client.{Client}
 use Rattle.client_record.specs.Limits.{datagramLimit, fragmentLimit, assemblyLimit, shareSize}
-use Rattle.client_record.specs.Lists.{if, all, any}
+use Rattle.client_record.specs.Lists.{all, any}
 use Rattle.client_record.specs.Record.{freshAssembly, isLast, end, fits, overlaps, conflicts, live, heldFragments}
-use Rattle.client_record.proofs.Tests.{both-true}
 use Rattle.client_record.proofs.Held.{marks-last}
 use Rattle.client_reassembly.specs.declared.Arrival.{Arrival}
 use Rattle.client_reassembly.specs.Offer
 use Rattle.client_reassembly.specs.Offer.{fragmentOf, added, base, startOf}
 use Rattle.client_reassembly.proofs.Joins.{held-added}
 use Rattle.client_reassembly.proofs.Kept.{any-at}
+use Rattle.client_reassembly.proofs.Lasting.{slots-of}
 use Rattle.client_ledger.specs.Book
 use Rattle.client_ledger.specs.Book.{Key, Content, Entry, Book, sameKey, of, mine, others, openedAt, entry, with}
 use Rattle.client_ledger.specs.Stands.{keyOf, owns, at, contentOf, Shows, Agrees, Stands, offerOf}
@@ -41,7 +42,7 @@ use Rattle.client_ledger.proofs.Keys.{
 }
 use Rattle.client_ledger.proofs.Agreement.{or-none, differs, not-owned, parts-fit, in-share}
 use Rattle.client_ledger.proofs.Clock.{fresh-not-live}
-use Rattle.client_ledger.proofs.Home.{Home, below, slots-of, parts-at}
+use Rattle.client_ledger.proofs.Home.{Home, below, parts-at}
 
 -- ---- a part of a list that another is laid over
 
@@ -98,7 +99,7 @@ content-same : (s t : List ℕ) (j : ℕ) (g : Fragment) → part (base j + g .o
     → contentOf s j g ≡ contentOf t j g
 unfolding contentOf
 content-same s t j g q =
-    λ i. record { place = g .offset; bytes = q i; last = isLast g; start = if (isLast g) (g .«option_start») 0 }
+    λ i. record { place = g .offset; bytes = q i; last = isLast g; start = cond (isLast g) (g .«option_start») 0 }
 
 -- fragments at other places than p say the same in both shares
 pub record Unmoved (s t : List ℕ) (p : ℕ) : Type 0 where
@@ -269,7 +270,7 @@ module _ (c : Client) (share : List ℕ) (b : Book) (st : Stands c share b) (e :
 -- ---- the fragment that joins
 
 -- r of a fragment that is stored is already 0 unless it is the last one
-start-twice : (l : Bool) (r : ℕ) → if l (if l r 0) 0 ≡ if l r 0
+start-twice : (l : Bool) (r : ℕ) → cond l (cond l r 0) 0 ≡ cond l r 0
 start-twice true r = refl
 start-twice false r = refl
 
@@ -282,7 +283,7 @@ module _ (c : Client) (share : List ℕ) (b : Book) (o : Arrival) (bytes : List 
       let twice = start-twice (o .last) (o .«option_start» .0) in
       let mark = marks-last (fragmentOf o (length bytes)) (o .last) refl in
       ap
-      (λ (m : Bool). record { place = o .offset .0; bytes = part (base p + o .offset .0) (length bytes) (overlay share (base p + o .offset .0) bytes); last = m; start = if m (if (o .last) (o .«option_start» .0) 0) 0 })
+      (λ (m : Bool). record { place = o .offset .0; bytes = part (base p + o .offset .0) (length bytes) (overlay share (base p + o .offset .0) bytes); last = m; start = cond m (cond (o .last) (o .«option_start» .0) 0) 0 })
       mark
       ∙ (λ i. record { place = o .offset .0; bytes = there i; last = o .last; start = twice i })
 

@@ -3,45 +3,28 @@
 -- Assumes nothing.
 use Prim.Native.Nat.{ℕ, zero, suc, _+_, _<_, _≤_}
 use mathlib.Core.Path.{_≡_, refl, sym, ap, _∙_, subst}
-use mathlib.Core.Bool.{Bool, true, false, not, _&&_}
+use mathlib.Core.Bool.{Bool, true, false, not, _&&_, cond}
 use mathlib.Core.List.{List, [], _∷_, map}
 use mathlib.Core.Option.{none, some}
 use native.Mathlib.Omega.{arith}
 use lib.Dec.{leb, ltb}
-use lib.ListN.{length, getD, replicate, length-replicate, length-map, List·getD-map}
-use borrow.Author.Tests.{ltb-true, ltb-false, eq-eqb}
+use lib.ListN.{length, getD, replicate, length-map, List·getD-map}
+use borrow.Author.Tests.{ltb-true, ltb-false}
+use Rattle.number_tests.proofs.Tests.{both-true}
+use Rattle.number_tests.specs.Tests.{firstOf}
 use Rattle.client_record.specs.declared.Assembly.{Assembly}
 use Rattle.client_record.specs.declared.Client.{Client}
-use Rattle.client_record.specs.Limits.{fragmentLimit, assemblyLimit, addressSize, lifetime, offeredLimit, shareSize}
-use Rattle.client_record.specs.Lists.{if, sameBytes, all, any, pairs, sum}
-use Rattle.client_record.specs.Record.{
-  freshFragment,
-  freshFlow,
-  freshAssembly,
-  freshClient,
-  isFreshFragment,
-  live,
-  heldFragments,
-  bytesHeld,
-  sameFlow,
-  isFreshAssembly,
-  soundAssembly,
-  sameLiveKey,
-  keysDiffer,
-  heldRight,
-  figureSum,
-  sumsTo,
-  balanced,
-  soundRecord,
-}
-use Rattle.client_record.proofs.SoundParts.{sound-parts, all-weaker, all-map}
-use Rattle.client_record.proofs.Tests.{both-true}
-use Rattle.client_reassembly.specs.Answer.{advanced, account, firstOf}
+use Rattle.client_record.specs.Limits.{assemblyLimit, lifetime, shareSize}
+use Rattle.client_record.specs.Lists.{any, sum}
+use Rattle.client_record.specs.Record.{freshAssembly, freshClient, live, soundRecord}
+use Rattle.client_record.proofs.SoundParts.{sound-parts}
+use Rattle.client_reassembly.specs.Answer.{advanced, account}
 use Rattle.client_reassembly.specs.Advance
 use Rattle.client_reassembly.specs.Advance.{old, expire, elapse, Turn, advanceOn, accountOn}
 use Rattle.client_reassembly.specs.Offer.{firstIndex}
 use Rattle.client_reassembly.proofs.Expiry.{gone}
 use Rattle.client_reassembly.proofs.Kept.{any-at, elapse-sound}
+use Rattle.client_reassembly.proofs.Lasting.{elapse-shaped as elapse-lists, fresh-client-sound, fresh-client-shaped}
 use Rattle.client_reassembly.proofs.Places.{any-first, first-passes}
 use Rattle.client_ledger.specs.Book
 use Rattle.client_ledger.specs.Book.{
@@ -66,7 +49,7 @@ use Rattle.client_ledger.specs.Book.{
   figures,
   call,
 }
-use Rattle.client_ledger.specs.Stands.{keyOf, owns, at, Shows, Agrees, slotted, Shaped, Stands, Follows}
+use Rattle.client_ledger.specs.Stands.{keyOf, owns, at, Shows, Agrees, Shaped, Stands, Follows}
 use Rattle.client_ledger.proofs.Keys.{true-false, same-key, of-key, mine-kept, opened-kept, mine-dropped, mine-none}
 use Rattle.client_ledger.proofs.Sum.{keep-bytes}
 use Rattle.client_ledger.proofs.Agreement.{held-sum}
@@ -76,7 +59,7 @@ pub held-stands : (c : Client) (share : List ℕ) (es : List Entry) → Shaped c
     → c .held ≡ heldBytes es
 held-stands c share es shape sound agree =
     let s = sound-parts c sound in
-    s .held ∙ sym (held-sum (c .time) share es (c .assemblies) (shape .size) (shape .places) (s .each) (s .keys) agree)
+    s .held ∙ sym (held-sum (c .time) share es (c .assemblies) (shape .size) (shape .lists .places) (s .each) (s .keys) agree)
 
 -- ---- a fresh record
 
@@ -89,16 +72,6 @@ pub fresh-not-live : live freshAssembly ≡ false
 unfolding live freshAssembly
 fresh-not-live = refl
 
-fresh-client-sound : soundRecord freshClient ≡ true
-unfolding soundRecord freshClient soundAssembly live freshAssembly isFreshAssembly sameFlow sameBytes freshFlow addressSize fragmentLimit
-    assemblyLimit all isFreshFragment freshFragment keysDiffer pairs sameLiveKey heldRight sum bytesHeld heldFragments balanced sumsTo figureSum
-    offeredLimit
-fresh-client-sound = refl
-
-pub fresh-slotted : slotted freshAssembly ≡ true
-unfolding slotted freshAssembly
-fresh-slotted = eq-eqb _ _ (length-replicate fragmentLimit freshFragment)
-
 fresh-agrees : (share : List ℕ) → Agrees share [] (freshClient .assemblies)
 unfolding freshClient mine
 fresh-agrees share = record {
@@ -107,12 +80,7 @@ fresh-agrees share = record {
 }
 
 fresh-shaped : (share : List ℕ) → length share ≡ shareSize → Shaped freshClient share
-unfolding freshClient all assemblyLimit
-fresh-shaped share h = record {
-  places = length-replicate assemblyLimit freshAssembly;
-  slots = ap (λ (b : Bool). b && (b && (b && (b && true)))) fresh-slotted;
-  size = h;
-}
+fresh-shaped share h = record { lists = fresh-client-shaped; size = h }
 
 pub stands-fresh : (share : List ℕ) → length share ≡ shareSize → Stands freshClient share empty
 unfolding freshClient empty held heldBytes sum
@@ -171,7 +139,7 @@ module _ (t : ℕ) (share : List ℕ) (es : List Entry) (xs : List Assembly) (ag
       fresh-stays : expire t freshAssembly ≡ freshAssembly
       fresh-stays = go (old t freshAssembly)
         where
-          go : (b : Bool) → if b freshAssembly freshAssembly ≡ freshAssembly
+          go : (b : Bool) → cond b freshAssembly freshAssembly ≡ freshAssembly
           go true = refl
           go false = refl
 
@@ -192,8 +160,8 @@ module _ (t : ℕ) (share : List ℕ) (es : List Entry) (xs : List Assembly) (ag
       subst (Shows share (keep (λ e. not (outdated t es e)) es) p) (sym (expire-at p))
       (go k (old t (at xs p)) refl (sym (ap live (expire-at p)) ∙ l))
     where
-      go : p < length xs → (b : Bool) → old t (at xs p) ≡ b → live (if b freshAssembly (at xs p)) ≡ true
-          → Shows share (keep (λ e. not (outdated t es e)) es) p (if b freshAssembly (at xs p))
+      go : p < length xs → (b : Bool) → old t (at xs p) ≡ b → live (cond b freshAssembly (at xs p)) ≡ true
+          → Shows share (keep (λ e. not (outdated t es e)) es) p (cond b freshAssembly (at xs p))
       go k true o n = absurd (true-false (sym n ∙ fresh-not-live))
       go k false o n = young p k n o
 
@@ -209,7 +177,7 @@ module _ (t : ℕ) (share : List ℕ) (es : List Entry) (xs : List Assembly) (ag
       e : k ≡ keyOf (at xs p)
       e = same-key k (keyOf (at xs p)) (both-true (live (at xs p)) (sameKey k (keyOf (at xs p))) m .1)
 
-      go : (b : Bool) → old t (at xs p) ≡ b → live (if b freshAssembly (at xs p)) && sameKey k (keyOf (if b freshAssembly (at xs p))) ≡ false
+      go : (b : Bool) → old t (at xs p) ≡ b → live (cond b freshAssembly (at xs p)) && sameKey k (keyOf (cond b freshAssembly (at xs p))) ≡ false
           → mine k (keep (λ e. not (outdated t es e)) es) ≡ []
       go true o q =
           mine-dropped k (λ e. not (outdated t es e))
@@ -231,21 +199,8 @@ module _ (t : ℕ) (share : List ℕ) (es : List Entry) (xs : List Assembly) (ag
   pub agrees-kept : Agrees share (keep (λ e. not (outdated t es e)) es) (map (expire t) xs)
   agrees-kept = record { each = each-kept; known = known-kept }
 
-expire-slotted : (t : ℕ) (a : Assembly) → slotted a ≡ true → slotted (expire t a) ≡ true
-unfolding expire
-expire-slotted t a e = go (old t a)
-  where
-    go : (b : Bool) → slotted (if b freshAssembly a) ≡ true
-    go true = fresh-slotted
-    go false = e
-
 elapse-shaped : (t : ℕ) (c : Client) (share : List ℕ) → Shaped c share → Shaped (elapse t c) share
-unfolding elapse
-elapse-shaped t c share s = record {
-  places = length-map (c .assemblies) (expire t) ∙ s .places;
-  slots = all-map slotted (expire t) (c .assemblies) ∙ all-weaker slotted (λ a. slotted (expire t a)) (expire-slotted t) (c .assemblies) (s .slots);
-  size = s .size;
-}
+elapse-shaped t c share s = record { lists = elapse-lists t c (s .lists); size = s .size }
 
 module _ (t : ℕ) (c : Client) (share : List ℕ) (b : Book) (st : Stands c share b) where
   elapse-agrees : Agrees share (advance t b .open-ones) (elapse t c .assemblies)
@@ -284,25 +239,25 @@ module _ (t : ℕ) (c : Client) (share : List ℕ) (b : Book) (st : Stands c sha
       elapse-same le sound same (elapse-expired le same)
 
   advance-is : advanceOn c t
-      ≡ Advance.refuseOr c (if (ltb t (c .time)) (some 27) none) (record { client = elapse t c; reply = advanced })
+      ≡ Advance.refuseOr c (cond (ltb t (c .time)) (some 27) none) (record { client = elapse t c; reply = advanced })
   unfolding advanceOn firstOf
   advance-is =
       ap (λ (s : Bool). Advance.refuseOr c (firstOf ((not s, 22) ∷ (ltb t (c .time), 27) ∷ [])) (record { client = elapse t c; reply = advanced })) (st .sound)
 
-  book-is : call (clock t) b ≡ Book.refuseOr [] b (if (ltb t (c .time)) (some 27) none) (record { reply = advanced; out = []; book = advance t b })
+  book-is : call (clock t) b ≡ Book.refuseOr [] b (cond (ltb t (c .time)) (some 27) none) (record { reply = advanced; out = []; book = advance t b })
   unfolding firstOf clockTests
-  book-is = ap (λ (m : ℕ). Book.refuseOr [] b (if (ltb t m) (some 27) none) (record { reply = advanced; out = []; book = advance t b })) (sym (st .time))
+  book-is = ap (λ (m : ℕ). Book.refuseOr [] b (cond (ltb t m) (some 27) none) (record { reply = advanced; out = []; book = advance t b })) (sym (st .time))
 
   pub advance-stands : Follows (advanceOn c t) share (call (clock t) b)
   advance-stands =
       subst (λ (x : Turn). Follows x share (call (clock t) b)) (sym advance-is)
       (subst
       (λ (r : Result).
-      Follows (Advance.refuseOr c (if (ltb t (c .time)) (some 27) none) (record { client = elapse t c; reply = advanced })) share r)
+      Follows (Advance.refuseOr c (cond (ltb t (c .time)) (some 27) none) (record { client = elapse t c; reply = advanced })) share r)
       (sym book-is) (go (ltb t (c .time)) refl))
     where
       go : (x : Bool) → ltb t (c .time) ≡ x
-          → Follows (Advance.refuseOr c (if x (some 27) none) (record { client = elapse t c; reply = advanced })) share
-          (Book.refuseOr [] b (if x (some 27) none) (record { reply = advanced; out = []; book = advance t b }))
+          → Follows (Advance.refuseOr c (cond x (some 27) none) (record { client = elapse t c; reply = advanced })) share
+          (Book.refuseOr [] b (cond x (some 27) none) (record { reply = advanced; out = []; book = advance t b }))
       go true e = record { reply = refl; stands = st }
       go false e = record { reply = refl; stands = elapse-stands (ltb-false t (c .time) e) }

@@ -3,14 +3,14 @@
 -- Assumes nothing.
 use Prim.Native.Nat.{ℕ}
 use mathlib.Core.Path.{_≡_, refl, sym, ap, subst, _∙_}
-use mathlib.Core.Bool.{Bool, true, false}
+use mathlib.Core.Bool.{Bool, true, false, cond}
 use mathlib.Core.List.{List}
 use mathlib.Core.Option.{Option, none, some}
 use mathlib.Core.Logic.{_↔_}
 use native.Mathlib.Omega.{arith}
 use lib.ListN.{length}
-use Rattle.client_record.specs.Lists.{if}
-use Rattle.client_reassembly.specs.Answer.{refused, repeated, conflict, delivered, firstOf}
+use Rattle.number_tests.specs.Tests.{firstOf}
+use Rattle.client_reassembly.specs.Answer.{refused, repeated, conflict, delivered}
 use Rattle.client_ledger.specs.Book.{Entry, Book, Result, Offer, leaving, size, advance, rejecting, repeating, conflicting, taking, noRoom, isRepeat}
 use Rattle.client_ledger.specs.Book.{isConflict, isFull, fate, fragment, entry, offerTests, refuseOr, call}
 use Rattle.client_ledger.specs.Book as Book
@@ -32,10 +32,10 @@ module _ (e : Entry) (out : List ℕ) (b : Book) (n r : ℕ) where
   passes = go (noRoom e b) (isRepeat e b) (isConflict e b) (isFull e b) refl refl refl refl
     where
       go : (w x y z : Bool) → noRoom e b ≡ w → isRepeat e b ≡ x → isConflict e b ≡ y → isFull e b ≡ z
-          → (if w (leaving (refused 29) out (rejecting (size (e .content)) b))
-          (if x (leaving repeated out (repeating (size (e .content)) b))
-          (if y (leaving conflict out (conflicting (e .key) (size (e .content)) b))
-          (if z (leaving (refused 30) out (rejecting (size (e .content)) b)) (taking e out b))))) .reply ≡ delivered n r
+          → (cond w (leaving (refused 29) out (rejecting (size (e .content)) b))
+          (cond x (leaving repeated out (repeating (size (e .content)) b))
+          (cond y (leaving conflict out (conflicting (e .key) (size (e .content)) b))
+          (cond z (leaving (refused 30) out (rejecting (size (e .content)) b)) (taking e out b))))) .reply ≡ delivered n r
           → Passes e b
       go true x y z p q s t d = absurd (let w : _≡_ {A = ℕ} 0 1 = cc in omega arith)
       go false true y z p q s t d = absurd (let w : _≡_ {A = ℕ} 0 1 = cc in omega arith)

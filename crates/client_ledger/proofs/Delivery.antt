@@ -2,7 +2,7 @@
 -- Assumes nothing.
 use Prim.Native.Nat.{ℕ, zero, suc, _+_, _-_, _<_, _≤_}
 use mathlib.Core.Path.{_≡_, refl, sym, ap, ap₂, _∙_}
-use mathlib.Core.Bool.{Bool, true, false, _||_}
+use mathlib.Core.Bool.{Bool, true, false, _||_, cond}
 use mathlib.Core.List.{List, [], _∷_, _++_, map}
 use mathlib.Core.Option.{none, some}
 use native.Mathlib.Omega.{arith}
@@ -10,12 +10,12 @@ use lib.Dec.{ltb, leb}
 use lib.ListN.{length, drop, getD, length-drop}
 use lib.Seq.{take-suc, getD-take, getD-drop}
 use borrow.Author.Tests.{ltb-true, leb-true, le-leb}
+use Rattle.number_tests.proofs.Tests.{both-true}
 use Rattle.number_octets.specs.Octets.{part}
 use Rattle.client_record.specs.declared.Fragment.{Fragment}
 use Rattle.client_record.specs.Limits.{datagramLimit, assemblyLimit, shareSize}
-use Rattle.client_record.specs.Lists.{if, all, any}
+use Rattle.client_record.specs.Lists.{all, any}
 use Rattle.client_record.specs.Record.{freshFragment, isLast, end, fits, covers, coveredTo, lastOf}
-use Rattle.client_record.proofs.Tests.{both-true}
 use Rattle.client_reassembly.specs.Offer.{base}
 use Rattle.client_ledger.specs.Book.{lastOne, byteAt, bytesTo}
 use Rattle.client_ledger.specs.Stands.{contentOf}
@@ -29,7 +29,7 @@ unfolding lastOf all fits end freshFragment
 last-fits [] e = le-leb 0 datagramLimit (omega arith)
 last-fits (f ∷ fs) e = go (isLast f) (both-true (fits f) (all fits fs) e .0) (last-fits fs (both-true (fits f) (all fits fs) e .1))
   where
-    go : (t : Bool) → fits f ≡ true → fits (lastOf fs) ≡ true → fits (if t f (lastOf fs)) ≡ true
+    go : (t : Bool) → fits f ≡ true → fits (lastOf fs) ≡ true → fits (cond t f (lastOf fs)) ≡ true
     go true h k = h
     go false h k = k
 
@@ -39,8 +39,8 @@ module _ (share : List ℕ) (p : ℕ) where
   last-none [] e = refl
   last-none (f ∷ fs) e = go (isLast f) refl (last-none fs) e
     where
-      go : (t : Bool) → isLast f ≡ t → (isLast (lastOf fs) ≡ false → lastOne (map (contentOf share p) fs) ≡ none) → isLast (if t f (lastOf fs)) ≡ false
-          → if t (some (contentOf share p f)) (lastOne (map (contentOf share p) fs)) ≡ none
+      go : (t : Bool) → isLast f ≡ t → (isLast (lastOf fs) ≡ false → lastOne (map (contentOf share p) fs) ≡ none) → isLast (cond t f (lastOf fs)) ≡ false
+          → cond t (some (contentOf share p f)) (lastOne (map (contentOf share p) fs)) ≡ none
       go true t ih e = absurd (true-false (sym t ∙ e))
       go false t ih e = ih e
 
@@ -50,8 +50,8 @@ module _ (share : List ℕ) (p : ℕ) where
   last-some (f ∷ fs) e = go (isLast f) (last-some fs) e
     where
       go : (t : Bool) → (isLast (lastOf fs) ≡ true → lastOne (map (contentOf share p) fs) ≡ some (contentOf share p (lastOf fs)))
-          → isLast (if t f (lastOf fs)) ≡ true
-          → if t (some (contentOf share p f)) (lastOne (map (contentOf share p) fs)) ≡ some (contentOf share p (if t f (lastOf fs)))
+          → isLast (cond t f (lastOf fs)) ≡ true
+          → cond t (some (contentOf share p f)) (lastOne (map (contentOf share p) fs)) ≡ some (contentOf share p (cond t f (lastOf fs)))
       go true ih e = refl
       go false ih e = ih e
 
@@ -80,7 +80,7 @@ module _ (share : List ℕ) (p : ℕ) (size-of : length share ≡ shareSize) (h 
   byte-there i [] e c = absurd (true-false (sym c))
   byte-there i (f ∷ fs) e c =
       let t = both-true (fits f) (all fits fs) e in
-      ap (λ (b : Bool). if b (getD (contentOf share p f .bytes) (i - contentOf share p f .place) 0) (byteAt (map (contentOf share p) fs) i))
+      ap (λ (b : Bool). cond b (getD (contentOf share p f .bytes) (i - contentOf share p f .place) 0) (byteAt (map (contentOf share p) fs) i))
       (same-within share p size-of h i f (t .0))
       ∙ go (covers i f) refl (byte-there i fs (t .1)) c
     where
@@ -89,7 +89,7 @@ module _ (share : List ℕ) (p : ℕ) (size-of : length share ≡ shareSize) (h 
 
       go : (b : Bool) → covers i f ≡ b → (any (covers i) fs ≡ true → byteAt (map (contentOf share p) fs) i ≡ getD share (base p + i) 0)
           → b || any (covers i) fs ≡ true
-          → if b (getD (contentOf share p f .bytes) (i - contentOf share p f .place) 0) (byteAt (map (contentOf share p) fs) i) ≡ getD share (base p + i) 0
+          → cond b (getD (contentOf share p f .bytes) (i - contentOf share p f .place) 0) (byteAt (map (contentOf share p) fs) i) ≡ getD share (base p + i) 0
       go true b ih c = ap (λ (n : ℕ). getD (contentOf share p f .bytes) (i - n) 0) place-of ∙ byte-of i f b
       go false b ih c = ih c
 

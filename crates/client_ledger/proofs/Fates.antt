@@ -3,35 +3,37 @@
 -- Assumes nothing.
 use Prim.Native.Nat.{ℕ, _+_, _<_, _≤_}
 use mathlib.Core.Path.{_≡_, refl, sym, ap, ap₂, _∙_, subst}
-use mathlib.Core.Bool.{Bool, true, false, not, _&&_}
+use mathlib.Core.Bool.{Bool, true, false, _&&_, cond}
 use mathlib.Core.List.{List, [], _∷_, _++_, map}
 use native.Mathlib.Omega.{arith}
-use lib.Dec.{eqb}
 use lib.ListN.{length, drop, set, length-set}
-use borrow.Author.Tests.{eqb-false, ne-eqb, leb-true}
+use borrow.Author.Tests.{eqb-false, leb-true}
 use Rattle.number_octets.specs.Octets.{part, overlay}
 use Rattle.number_octets.proofs.Laws.{length-overlay, length-part}
 use Rattle.client_record.specs.declared.Fragment.{Fragment}
 use Rattle.client_record.specs.declared.Assembly.{Assembly}
 use Rattle.client_record.specs.declared.Client.{Client}
 use Rattle.client_record.specs.Limits.{datagramLimit, fragmentLimit, assemblyLimit, shareSize}
-use Rattle.client_record.specs.Lists.{if, all}
+use Rattle.client_record.specs.Lists.{all}
 use Rattle.client_record.specs.Record.{freshAssembly, isLast, end, fits, coveredTo, lastOf, live, heldFragments, bytesHeld, soundRecord}
 use Rattle.client_record.proofs.Lists.{all-append}
 use Rattle.client_reassembly.specs.declared.Arrival.{Arrival}
 use Rattle.client_reassembly.specs.Answer.{stored, repeated, delivered}
+use Rattle.client_reassembly.specs.Shapes.{slotted}
 use Rattle.client_reassembly.specs.Offer
 use Rattle.client_reassembly.specs.Offer.{Outcome, fragmentOf, added, base, startOf}
 use Rattle.client_reassembly.proofs.Joins.{held-added}
 use Rattle.client_reassembly.proofs.Kept.{all-set}
+use Rattle.client_reassembly.proofs.Lasting.{slots-of, fresh-slotted, added-slotted}
+use Rattle.client_reassembly.proofs.Stored.{added-live}
 use Rattle.client_ledger.specs.Book
 use Rattle.client_ledger.specs.Book.{Content, Entry, Book, size, total, endOf, held, mine, complete, bytesTo, Result, with, entry}
-use Rattle.client_ledger.specs.Stands.{keyOf, contentOf, Agrees, slotted, Shaped, Stands, offerOf, Fulfils}
+use Rattle.client_ledger.specs.Stands.{keyOf, contentOf, Agrees, Shaped, Stands, offerOf, Fulfils}
 use Rattle.client_ledger.proofs.Agreement.{content-bytes}
 use Rattle.client_ledger.proofs.Changes.{Unmoved, unmoved-laid, freed-agrees, stored-agrees, joined-content, room}
-use Rattle.client_ledger.proofs.Clock.{held-stands, fresh-slotted}
+use Rattle.client_ledger.proofs.Clock.{held-stands}
 use Rattle.client_ledger.proofs.Delivery.{last-fits, bytes-there}
-use Rattle.client_ledger.proofs.Home.{Home, below, slots-of}
+use Rattle.client_ledger.proofs.Home.{Home, below}
 use Rattle.client_ledger.proofs.Tests.{same-end, same-cover}
 
 -- ---- figures only
@@ -40,7 +42,7 @@ module _ (c : Client) (share : List ℕ) (b : Book) (st : Stands c share b) (n :
   pub rejecting-stands : soundRecord (Offer.rejecting n c) ≡ true → Stands (Offer.rejecting n c) share (Book.rejecting n b)
   unfolding Offer.rejecting Book.rejecting held
   rejecting-stands s = record {
-    shape = record { places = st .shape .places; slots = st .shape .slots; size = st .shape .size };
+    shape = record { lists = record { places = st .shape .lists .places; slots = st .shape .lists .slots }; size = st .shape .size };
     sound = s;
     time = st .time;
     offered = ap (λ (x : ℕ). x + n) (st .offered);
@@ -56,7 +58,7 @@ module _ (c : Client) (share : List ℕ) (b : Book) (st : Stands c share b) (n :
   pub repeating-stands : soundRecord (Offer.repeating n c) ≡ true → Stands (Offer.repeating n c) share (Book.repeating n b)
   unfolding Offer.repeating Book.repeating held
   repeating-stands s = record {
-    shape = record { places = st .shape .places; slots = st .shape .slots; size = st .shape .size };
+    shape = record { lists = record { places = st .shape .lists .places; slots = st .shape .lists .slots }; size = st .shape .size };
     sound = s;
     time = st .time;
     offered = ap (λ (x : ℕ). x + n) (st .offered);
@@ -73,7 +75,7 @@ module _ (c : Client) (share : List ℕ) (b : Book) (st : Stands c share b) (n :
 
 module _ (c : Client) (share : List ℕ) (b : Book) (st : Stands c share b) (e : Entry) (p : ℕ) (a : Assembly) (at-home : Home c share b e p a) where
   pub home-place : p < assemblyLimit
-  home-place = omega (arith, at-home .within, st .shape .places)
+  home-place = omega (arith, at-home .within, st .shape .lists .places)
 
   home-bytes : bytesHeld a ≡ total (mine (e .key) (b .open-ones))
   unfolding bytesHeld
@@ -81,15 +83,15 @@ module _ (c : Client) (share : List ℕ) (b : Book) (st : Stands c share b) (e :
       sym (ap total (at-home .fragments) ∙ content-bytes share p (st .shape .size) home-place (heldFragments a) (at-home .fitting))
 
   set-places : (x : Assembly) → length (set (c .assemblies) p x) ≡ assemblyLimit
-  set-places x = length-set (c .assemblies) p x ∙ st .shape .places
+  set-places x = length-set (c .assemblies) p x ∙ st .shape .lists .places
 
   set-slots : (x : Assembly) → slotted x ≡ true → all slotted (set (c .assemblies) p x) ≡ true
-  set-slots x h = all-set slotted (c .assemblies) p x (st .shape .slots) h
+  set-slots x h = all-set slotted (c .assemblies) p x (st .shape .lists .slots) h
 
   module _ (s′ : List ℕ) (size-of : length s′ ≡ shareSize) (stay : Unmoved s′ share p) (n : ℕ) where
     conflicting-shaped : Shaped (Offer.conflicting p a n c) s′
     unfolding Offer.conflicting
-    conflicting-shaped = record { places = set-places freshAssembly; slots = set-slots freshAssembly fresh-slotted; size = size-of }
+    conflicting-shaped = record { lists = record { places = set-places freshAssembly; slots = set-slots freshAssembly fresh-slotted }; size = size-of }
 
     conflicting-agrees : Agrees s′ (Book.conflicting (e .key) n b .open-ones) (Offer.conflicting p a n c .assemblies)
     unfolding Offer.conflicting Book.conflicting
@@ -120,7 +122,7 @@ module _ (c : Client) (share : List ℕ) (b : Book) (st : Stands c share b) (e :
 
     delivering-shaped : Shaped (Offer.delivering p a n c) s′
     unfolding Offer.delivering
-    delivering-shaped = record { places = set-places freshAssembly; slots = set-slots freshAssembly fresh-slotted; size = size-of }
+    delivering-shaped = record { lists = record { places = set-places freshAssembly; slots = set-slots freshAssembly fresh-slotted }; size = size-of }
 
     delivering-agrees : Agrees s′ (Book.delivering (e .key) n b .open-ones) (Offer.delivering p a n c .assemblies)
     unfolding Offer.delivering Book.delivering
@@ -155,7 +157,7 @@ module _ (c : Client) (share : List ℕ) (b : Book) (st : Stands c share b) (e :
         (size-is : n ≡ size (e .content)) where
       storing-shaped : Shaped (Offer.storing p a′ n c) s′
       unfolding Offer.storing
-      storing-shaped = record { places = set-places a′; slots = set-slots a′ slots; size = size-of }
+      storing-shaped = record { lists = record { places = set-places a′; slots = set-slots a′ slots }; size = size-of }
 
       storing-agrees : Agrees s′ (Book.storing e b .open-ones) (Offer.storing p a′ n c .assemblies)
       unfolding Offer.storing Book.storing
@@ -197,17 +199,9 @@ added-key : (a : Assembly) (f : Fragment) → keyOf (added a f) ≡ keyOf a
 unfolding keyOf added
 added-key a f = refl
 
-added-live : (a : Assembly) (f : Fragment) → live (added a f) ≡ true
-unfolding live added
-added-live a f = ap not (ne-eqb (a .count + 1) 0 (λ q. omega arith))
-
 added-opened : (a : Assembly) (f : Fragment) → added a f .opened ≡ a .opened
 unfolding added
 added-opened a f = refl
-
-added-slotted : (a : Assembly) (f : Fragment) → slotted a ≡ true → slotted (added a f) ≡ true
-unfolding slotted added
-added-slotted a f e = ap (λ (n : ℕ). eqb n fragmentLimit) (length-set (a .fragments) (a .count) f) ∙ e
 
 -- the fragment as the record has it, the entry as the book has it, and the share with its bytes
 abbrev pub held-as : Arrival → List ℕ → Fragment
@@ -221,7 +215,7 @@ laid share p o bytes = overlay share (startOf p (fragmentOf o (length bytes))) b
 
 last-start : (share : List ℕ) (p : ℕ) (g : Fragment) → isLast g ≡ true → g .«option_start» ≡ contentOf share p g .start
 unfolding contentOf
-last-start share p g t = sym (ap (λ (x : Bool). if x (g .«option_start») 0) t)
+last-start share p g t = sym (ap (λ (x : Bool). cond x (g .«option_start») 0) t)
 
 pub new-length : (o : Arrival) (bytes : List ℕ) → held-as o bytes .length ≡ length bytes
 unfolding fragmentOf

@@ -3,7 +3,7 @@
 -- Assumes nothing.
 use Prim.Native.Nat.{ℕ, suc, _+_, _<_, _≤_}
 use mathlib.Core.Path.{_≡_, refl, sym, ap, ap₂, _∙_, subst}
-use mathlib.Core.Bool.{Bool, true, false, not, _&&_}
+use mathlib.Core.Bool.{Bool, true, false, not, _&&_, cond}
 use mathlib.Core.List.{List, [], _∷_, _++_, map}
 use native.Mathlib.Omega.{arith}
 use native.Mathlib.Nat.{not-suc-le-zero}
@@ -11,25 +11,25 @@ use lib.Dec.{eqb, ltb}
 use lib.ListN.{length, length-map}
 use lib.Seq.{length-take-le}
 use borrow.Author.Tests.{ltb-true, ltb-false, eqb-true, eqb-false, eq-eqb, ne-eqb, not-true}
+use Rattle.number_tests.proofs.Tests.{both-true, cond-yes, cond-no}
 use Rattle.client_record.specs.declared.Assembly.{Assembly}
 use Rattle.client_record.specs.declared.Client.{Client}
 use Rattle.client_record.specs.Limits.{fragmentLimit, assemblyLimit}
-use Rattle.client_record.specs.Lists.{if, all, any, sum}
+use Rattle.client_record.specs.Lists.{all, any, sum}
 use Rattle.client_record.specs.Record.{freshAssembly, fits, live, heldFragments, hasKey, sameLiveKey, keysDiffer, soundAssembly}
 use Rattle.client_record.proofs.SoundParts.{sound-parts, all-at}
-use Rattle.client_record.proofs.Tests.{both-true}
 use Rattle.client_reassembly.specs.declared.Arrival.{Arrival}
 use Rattle.client_reassembly.specs.Offer
 use Rattle.client_reassembly.specs.Offer.{matches, firstIndex, placeFor, opening, assemblyFor}
 use Rattle.client_reassembly.proofs.Kept.{LiveParts, any-at, pairs-at}
-use Rattle.client_reassembly.proofs.Laws.{if-yes, if-no}
 use Rattle.client_reassembly.proofs.Places.{any-first, first-passes, place-of-key, place-le, room-place, live-at}
 use Rattle.client_reassembly.proofs.Steady.{empty-held}
+use Rattle.client_reassembly.specs.Shapes.{slotted}
+use Rattle.client_reassembly.proofs.Lasting.{slots-of, fresh-slotted}
 use Rattle.client_ledger.specs.Book
 use Rattle.client_ledger.specs.Book.{Key, Content, Entry, Book, sameKey, mine, openedAt, keys, entry}
-use Rattle.client_ledger.specs.Stands.{keyOf, owns, at, contentOf, slotted, Stands, offerOf}
+use Rattle.client_ledger.specs.Stands.{keyOf, owns, at, contentOf, Stands, offerOf}
 use Rattle.client_ledger.proofs.Keys.{true-false, same-key, own-key, opened-first, opened-later, some, keys-split}
-use Rattle.client_ledger.proofs.Clock.{fresh-slotted}
 use Rattle.client_ledger.proofs.Agreement.{parts-sum, sum-at, differs, not-owned, not-live-owned, not-same-owned, live-count, live-sound, parts-fit}
 
 -- the key that an arrival has
@@ -52,10 +52,6 @@ pub owned-key : (k : Key) (a : Assembly) → owns k a ≡ true → k ≡ keyOf a
 unfolding owns
 owned-key k a e = same-key k (keyOf a) (both-true (live a) (sameKey k (keyOf a)) e .1)
 
-pub slots-of : (a : Assembly) → slotted a ≡ true → length (a .fragments) ≡ fragmentLimit
-unfolding slotted
-slots-of a e = eqb-true _ _ e
-
 pub held-length : (a : Assembly) → slotted a ≡ true → a .count ≤ fragmentLimit → length (heldFragments a) ≡ a .count
 unfolding heldFragments
 held-length a s h = length-take-le (a .count) (a .fragments) (omega (arith, slots-of a s))
@@ -70,14 +66,14 @@ below i n le m = go (ltb i n) refl
 -- ---- the number of live assemblies
 
 abbrev one : Assembly → ℕ
-one a = if (live a) 1 0
+one a = cond (live a) 1 0
 
 lives-le : (xs : List Assembly) → sum one xs ≤ length xs
 unfolding sum
 lives-le [] = omega arith
 lives-le (a ∷ xs) = go (live a) (lives-le xs)
   where
-    go : (b : Bool) → sum one xs ≤ length xs → (if b 1 0) + sum one xs ≤ suc (length xs)
+    go : (b : Bool) → sum one xs ≤ length xs → (cond b 1 0) + sum one xs ≤ suc (length xs)
     go true h = omega arith
     go false h = omega arith
 
@@ -86,7 +82,7 @@ unfolding sum all
 lives-all [] e = refl
 lives-all (a ∷ xs) e =
     let t = both-true (live a) (all live xs) e in
-    let n : one a ≡ 1 = ap (λ (b : Bool). if b 1 0) (t .0) in
+    let n : one a ≡ 1 = ap (λ (b : Bool). cond b 1 0) (t .0) in
     omega (arith, n, lives-all xs (t .1))
 
 lives-some : (xs : List Assembly) → all live xs ≡ false → sum one xs < length xs
@@ -95,7 +91,7 @@ lives-some [] e = absurd (true-false e)
 lives-some (a ∷ xs) e = go (live a) (lives-some xs) (lives-le xs) e
   where
     go : (b : Bool) → (all live xs ≡ false → sum one xs < length xs) → sum one xs ≤ length xs → b && all live xs ≡ false
-        → (if b 1 0) + sum one xs < suc (length xs)
+        → (cond b 1 0) + sum one xs < suc (length xs)
     go true h k e = let m = h e in omega arith
     go false h k e = omega arith
 
@@ -111,7 +107,7 @@ module _ (c : Client) (share : List ℕ) (b : Book) (st : Stands c share b) wher
       live-sound (c .time) (at (c .assemblies) p) l (all-at (soundAssembly (c .time)) (c .assemblies) p freshAssembly h (sound-parts c (st .sound) .each))
 
   slotted-at : (p : ℕ) → p < length (c .assemblies) → slotted (at (c .assemblies) p) ≡ true
-  slotted-at p h = all-at slotted (c .assemblies) p freshAssembly h (st .shape .slots)
+  slotted-at p h = all-at slotted (c .assemblies) p freshAssembly h (st .shape .lists .slots)
 
   -- a live assembly has entries
   has-entries : (p : ℕ) → p < length (c .assemblies) → live (at (c .assemblies) p) ≡ true → 0 < length (mine (keyOf (at (c .assemblies) p)) (b .open-ones))
@@ -129,11 +125,11 @@ module _ (c : Client) (share : List ℕ) (b : Book) (st : Stands c share b) wher
   unfolding keys
   keys-lives =
       parts-sum keys some refl keys-split (c .assemblies) (b .open-ones) (sound-parts c (st .sound) .keys) (st .agrees .known)
-      ∙ sum-at (λ a. if (live a) (some (mine (keyOf a) (b .open-ones))) 0) one freshAssembly (c .assemblies)
+      ∙ sum-at (λ a. cond (live a) (some (mine (keyOf a) (b .open-ones))) 0) one freshAssembly (c .assemblies)
       (λ i k. here i k (live (at (c .assemblies) i)) refl)
     where
       here : (i : ℕ) → i < length (c .assemblies) → (t : Bool) → live (at (c .assemblies) i) ≡ t
-          → if t (some (mine (keyOf (at (c .assemblies) i)) (b .open-ones))) 0 ≡ if t 1 0
+          → cond t (some (mine (keyOf (at (c .assemblies) i)) (b .open-ones))) 0 ≡ cond t 1 0
       here i k true l = some-one (mine (keyOf (at (c .assemblies) i)) (b .open-ones)) (has-entries i k l)
       here i k false l = refl
 
@@ -141,8 +137,8 @@ module _ (c : Client) (share : List ℕ) (b : Book) (st : Stands c share b) wher
   all-live-keys = go (all live (c .assemblies)) refl
     where
       go : (t : Bool) → all live (c .assemblies) ≡ t → t ≡ eqb (keys (b .open-ones)) assemblyLimit
-      go true e = sym (eq-eqb _ _ (keys-lives ∙ lives-all (c .assemblies) e ∙ st .shape .places))
-      go false e = sym (ne-eqb (keys (b .open-ones)) assemblyLimit (λ q. omega (arith, keys-lives, lives-some (c .assemblies) e, st .shape .places)))
+      go true e = sym (eq-eqb _ _ (keys-lives ∙ lives-all (c .assemblies) e ∙ st .shape .lists .places))
+      go false e = sym (ne-eqb (keys (b .open-ones)) assemblyLimit (λ q. omega (arith, keys-lives, lives-some (c .assemblies) e, st .shape .lists .places)))
 
   -- 29 in the record and in the book
   pub same-room : (o : Arrival) (bytes : List ℕ) → Offer.noRoom o (c .assemblies) ≡ Book.noRoom (entry (offerOf o bytes)) b
@@ -271,7 +267,7 @@ home c share b st o bytes room = go (any (matches o) xs) refl
 
     go : (t : Bool) → any (matches o) xs ≡ t → Home c share b e p (assemblyFor o p xs)
     go true m =
-        subst (Home c share b e p) (sym (if-yes (any (matches o) xs) (at xs p) (opening o) m))
+        subst (Home c share b e p) (sym (cond-yes (any (matches o) xs) (at xs p) (opening o) m))
         (home-live c share b st e p h (sym (match-owns o (at xs p)) ∙ passes))
       where
         first : p ≡ firstIndex (matches o) xs
@@ -282,5 +278,5 @@ home c share b st o bytes room = go (any (matches o) xs) refl
             ap (λ (i : ℕ). matches o (at xs i)) first
             ∙ first-passes (matches o) xs freshAssembly (subst (λ (i : ℕ). i < length xs) first h)
     go false m =
-        subst (Home c share b e p) (sym (if-no (any (matches o) xs) (at xs p) (opening o) m))
+        subst (Home c share b e p) (sym (cond-no (any (matches o) xs) (at xs p) (opening o) m))
         (home-new c share b st e p h o refl refl (sym (same-match o xs) ∙ m) (live-at o xs p freshAssembly refl h ∙ m))

@@ -2,16 +2,16 @@
 -- Assumes nothing.
 use Prim.Native.Nat.{ℕ, suc, _+_}
 use mathlib.Core.Path.{_≡_, refl, sym, ap, ap₂, _∙_}
-use mathlib.Core.Bool.{Bool, true, false, not, _&&_, _||_}
+use mathlib.Core.Bool.{Bool, true, false, not, _&&_, _||_, cond}
 use mathlib.Core.List.{List, [], _∷_, _++_}
 use mathlib.Core.Logic.{_↔_}
 use native.Mathlib.Omega.{arith}
 use lib.Dec.{eqb}
 use borrow.Author.Tests.{eqb-true, eq-eqb}
+use Rattle.number_tests.proofs.Tests.{both-true}
 use Rattle.client_record.specs.declared.Flow.{Flow}
-use Rattle.client_record.specs.Lists.{if, sameBytes, any}
+use Rattle.client_record.specs.Lists.{sameBytes, any}
 use Rattle.client_record.specs.Record.{sameFlow}
-use Rattle.client_record.proofs.Tests.{both-true}
 use Rattle.client_ledger.specs.Book.{Key, Content, Entry, sameKey, of, mine, keep, others, openedAt, keys}
 
 -- ---- keys
@@ -101,10 +101,10 @@ module _ (j : Key) (p : Entry → Bool) where
   mine-kept h (e ∷ es) = go (of j e) (p e) refl refl (mine-kept h es)
     where
       go : (b c : Bool) → of j e ≡ b → p e ≡ c → mine j (keep p es) ≡ mine j es
-          → mine j (if c (e ∷ keep p es) (keep p es)) ≡ if b (e .content ∷ mine j es) (mine j es)
-      go true true m k ih = ap (λ (x : Bool). if x (e .content ∷ mine j (keep p es)) (mine j (keep p es))) m ∙ ap (λ (l : List Content). e .content ∷ l) ih
+          → mine j (cond c (e ∷ keep p es) (keep p es)) ≡ cond b (e .content ∷ mine j es) (mine j es)
+      go true true m k ih = ap (λ (x : Bool). cond x (e .content ∷ mine j (keep p es)) (mine j (keep p es))) m ∙ ap (λ (l : List Content). e .content ∷ l) ih
       go true false m k ih = absurd (true-false (sym (h e m) ∙ k))
-      go false true m k ih = ap (λ (x : Bool). if x (e .content ∷ mine j (keep p es)) (mine j (keep p es))) m ∙ ih
+      go false true m k ih = ap (λ (x : Bool). cond x (e .content ∷ mine j (keep p es)) (mine j (keep p es))) m ∙ ih
       go false false m k ih = ih
 
   pub opened-kept : ((e : Entry) → of j e ≡ true → p e ≡ true) → (es : List Entry) → openedAt j (keep p es) ≡ openedAt j es
@@ -113,10 +113,10 @@ module _ (j : Key) (p : Entry → Bool) where
   opened-kept h (e ∷ es) = go (of j e) (p e) refl refl (opened-kept h es)
     where
       go : (b c : Bool) → of j e ≡ b → p e ≡ c → openedAt j (keep p es) ≡ openedAt j es
-          → openedAt j (if c (e ∷ keep p es) (keep p es)) ≡ if b (e .time) (openedAt j es)
-      go true true m k ih = ap (λ (x : Bool). if x (e .time) (openedAt j (keep p es))) m
+          → openedAt j (cond c (e ∷ keep p es) (keep p es)) ≡ cond b (e .time) (openedAt j es)
+      go true true m k ih = ap (λ (x : Bool). cond x (e .time) (openedAt j (keep p es))) m
       go true false m k ih = absurd (true-false (sym (h e m) ∙ k))
-      go false true m k ih = ap (λ (x : Bool). if x (e .time) (openedAt j (keep p es))) m ∙ ih
+      go false true m k ih = ap (λ (x : Bool). cond x (e .time) (openedAt j (keep p es))) m ∙ ih
       go false false m k ih = ih
 
   -- no entry of the key is kept
@@ -125,10 +125,10 @@ module _ (j : Key) (p : Entry → Bool) where
   mine-dropped h [] = refl
   mine-dropped h (e ∷ es) = go (of j e) (p e) refl refl (mine-dropped h es)
     where
-      go : (b c : Bool) → of j e ≡ b → p e ≡ c → mine j (keep p es) ≡ [] → mine j (if c (e ∷ keep p es) (keep p es)) ≡ []
+      go : (b c : Bool) → of j e ≡ b → p e ≡ c → mine j (keep p es) ≡ [] → mine j (cond c (e ∷ keep p es) (keep p es)) ≡ []
       go true true m k ih = absurd (true-false (sym k ∙ h e m))
       go true false m k ih = ih
-      go false true m k ih = ap (λ (x : Bool). if x (e .content ∷ mine j (keep p es)) (mine j (keep p es))) m ∙ ih
+      go false true m k ih = ap (λ (x : Bool). cond x (e .content ∷ mine j (keep p es)) (mine j (keep p es))) m ∙ ih
       go false false m k ih = ih
 
   -- where the key had none, it has none of what is kept
@@ -138,9 +138,9 @@ module _ (j : Key) (p : Entry → Bool) where
   mine-none (x ∷ es) e = go (of j x) (p x) refl refl (mine-none es) e
     where
       go : (b c : Bool) → of j x ≡ b → p x ≡ c → (mine j es ≡ [] → mine j (keep p es) ≡ [])
-          → if b (x .content ∷ mine j es) (mine j es) ≡ [] → mine j (if c (x ∷ keep p es) (keep p es)) ≡ []
+          → cond b (x .content ∷ mine j es) (mine j es) ≡ [] → mine j (cond c (x ∷ keep p es) (keep p es)) ≡ []
       go true c m k ih h = let z : _≡_ {A = ℕ} 0 1 = cc in absurd (omega arith)
-      go false true m k ih h = ap (λ (t : Bool). if t (x .content ∷ mine j (keep p es)) (mine j (keep p es))) m ∙ ih h
+      go false true m k ih h = ap (λ (t : Bool). cond t (x .content ∷ mine j (keep p es)) (mine j (keep p es))) m ∙ ih h
       go false false m k ih h = ih h
 
 -- the fragments of a key leave: that key has none, and every other key's stay
@@ -162,32 +162,32 @@ module _ (k : Key) (es : List Entry) where
 module _ (j : Key) (x : Entry) where
   pub mine-joined : (es : List Entry) → of j x ≡ true → mine j (es ++ x ∷ []) ≡ mine j es ++ x .content ∷ []
   unfolding mine
-  mine-joined [] m = ap (λ (b : Bool). if b (x .content ∷ []) []) m
+  mine-joined [] m = ap (λ (b : Bool). cond b (x .content ∷ []) []) m
   mine-joined (e ∷ es) m = go (of j e) (mine-joined es m)
     where
       go : (b : Bool) → mine j (es ++ x ∷ []) ≡ mine j es ++ x .content ∷ []
-          → if b (e .content ∷ mine j (es ++ x ∷ [])) (mine j (es ++ x ∷ [])) ≡ if b (e .content ∷ mine j es) (mine j es) ++ x .content ∷ []
+          → cond b (e .content ∷ mine j (es ++ x ∷ [])) (mine j (es ++ x ∷ [])) ≡ cond b (e .content ∷ mine j es) (mine j es) ++ x .content ∷ []
       go true h = ap (λ (l : List Content). e .content ∷ l) h
       go false h = h
 
   pub mine-other : (es : List Entry) → of j x ≡ false → mine j (es ++ x ∷ []) ≡ mine j es
   unfolding mine
-  mine-other [] m = ap (λ (b : Bool). if b (x .content ∷ []) []) m
+  mine-other [] m = ap (λ (b : Bool). cond b (x .content ∷ []) []) m
   mine-other (e ∷ es) m = go (of j e) (mine-other es m)
     where
       go : (b : Bool) → mine j (es ++ x ∷ []) ≡ mine j es
-          → if b (e .content ∷ mine j (es ++ x ∷ [])) (mine j (es ++ x ∷ [])) ≡ if b (e .content ∷ mine j es) (mine j es)
+          → cond b (e .content ∷ mine j (es ++ x ∷ [])) (mine j (es ++ x ∷ [])) ≡ cond b (e .content ∷ mine j es) (mine j es)
       go true h = ap (λ (l : List Content). e .content ∷ l) h
       go false h = h
 
   -- the first to come opens the assembly; a later one does not change that
   pub opened-first : (es : List Entry) → of j x ≡ true → mine j es ≡ [] → openedAt j (es ++ x ∷ []) ≡ x .time
   unfolding openedAt mine
-  opened-first [] m e = ap (λ (b : Bool). if b (x .time) 0) m
+  opened-first [] m e = ap (λ (b : Bool). cond b (x .time) 0) m
   opened-first (y ∷ es) m e = go (of j y) (opened-first es m) e
     where
-      go : (b : Bool) → (mine j es ≡ [] → openedAt j (es ++ x ∷ []) ≡ x .time) → if b (y .content ∷ mine j es) (mine j es) ≡ []
-          → if b (y .time) (openedAt j (es ++ x ∷ [])) ≡ x .time
+      go : (b : Bool) → (mine j es ≡ [] → openedAt j (es ++ x ∷ []) ≡ x .time) → cond b (y .content ∷ mine j es) (mine j es) ≡ []
+          → cond b (y .time) (openedAt j (es ++ x ∷ [])) ≡ x .time
       go true h n = let z : _≡_ {A = ℕ} 0 1 = cc in absurd (omega arith)
       go false h n = h n
 
@@ -196,15 +196,15 @@ module _ (j : Key) (x : Entry) where
   opened-later [] n = absurd (n refl)
   opened-later (y ∷ es) n = go (of j y) (opened-later es) n
     where
-      go : (b : Bool) → ((mine j es ≡ [] → ⊥) → openedAt j (es ++ x ∷ []) ≡ openedAt j es) → (if b (y .content ∷ mine j es) (mine j es) ≡ [] → ⊥)
-          → if b (y .time) (openedAt j (es ++ x ∷ [])) ≡ if b (y .time) (openedAt j es)
+      go : (b : Bool) → ((mine j es ≡ [] → ⊥) → openedAt j (es ++ x ∷ []) ≡ openedAt j es) → (cond b (y .content ∷ mine j es) (mine j es) ≡ [] → ⊥)
+          → cond b (y .time) (openedAt j (es ++ x ∷ [])) ≡ cond b (y .time) (openedAt j es)
       go true h k = refl
       go false h k = h k
 
   pub opened-other : (es : List Entry) → of j x ≡ false → openedAt j (es ++ x ∷ []) ≡ openedAt j es
   unfolding openedAt
-  opened-other [] m = ap (λ (b : Bool). if b (x .time) 0) m
-  opened-other (y ∷ es) m = ap (λ (t : ℕ). if (of j y) (y .time) t) (opened-other es m)
+  opened-other [] m = ap (λ (b : Bool). cond b (x .time) 0) m
+  opened-other (y ∷ es) m = ap (λ (t : ℕ). cond (of j y) (y .time) t) (opened-other es m)
 
 -- ---- a list of entries whose every key has no entry
 
@@ -212,7 +212,7 @@ pub no-entries : (es : List Entry) → ((k : Key) → mine k es ≡ []) → es �
 unfolding mine
 no-entries [] h = refl
 no-entries (e ∷ es) h =
-    let n : e .content ∷ mine (e .key) es ≡ [] = sym (ap (λ (b : Bool). if b (e .content ∷ mine (e .key) es) (mine (e .key) es)) (own-key e)) ∙ h (e .key) in
+    let n : e .content ∷ mine (e .key) es ≡ [] = sym (ap (λ (b : Bool). cond b (e .content ∷ mine (e .key) es) (mine (e .key) es)) (own-key e)) ∙ h (e .key) in
     let z : _≡_ {A = ℕ} 0 1 = cc in
     absurd (omega arith)
 
@@ -228,7 +228,7 @@ unfolding any mine
 any-mine k [] e = refl
 any-mine k (x ∷ es) e = go (of k x) (any-mine k es) e
   where
-    go : (b : Bool) → (any (of k) es ≡ false → some (mine k es) ≡ 0) → b || any (of k) es ≡ false → some (if b (x .content ∷ mine k es) (mine k es)) ≡ 0
+    go : (b : Bool) → (any (of k) es ≡ false → some (mine k es) ≡ 0) → b || any (of k) es ≡ false → some (cond b (x .content ∷ mine k es) (mine k es)) ≡ 0
     go true h e = absurd (true-false e)
     go false h e = h e
 
@@ -237,7 +237,7 @@ unfolding any mine
 any-mine-one k [] e = absurd (true-false (sym e))
 any-mine-one k (x ∷ es) e = go (of k x) (any-mine-one k es) e
   where
-    go : (b : Bool) → (any (of k) es ≡ true → some (mine k es) ≡ 1) → b || any (of k) es ≡ true → some (if b (x .content ∷ mine k es) (mine k es)) ≡ 1
+    go : (b : Bool) → (any (of k) es ≡ true → some (mine k es) ≡ 1) → b || any (of k) es ≡ true → some (cond b (x .content ∷ mine k es) (mine k es)) ≡ 1
     go true h e = refl
     go false h e = h e
 
@@ -247,7 +247,7 @@ any-others k j d [] = refl
 any-others k j d (x ∷ es) = go (of k x) (of j x) refl refl (any-others k j d es)
   where
     go : (b c : Bool) → of k x ≡ b → of j x ≡ c → any (of j) (others k es) ≡ any (of j) es
-        → any (of j) (if (not b) (x ∷ others k es) (others k es)) ≡ c || any (of j) es
+        → any (of j) (cond (not b) (x ∷ others k es) (others k es)) ≡ c || any (of j) es
     go true true m n h = absurd (true-false (sym m ∙ apart k j x d n))
     go true false m n h = h
     go false c m n h = ap₂ _||_ n h
@@ -261,19 +261,19 @@ keys-split k (x ∷ es) = go (of k x) refl (keys-split k es)
     own : of k x ≡ true → (b : Bool) → any (of (x .key)) es ≡ b → any (of k) es ≡ b
     own m b e = ap (λ (j : Key). any (of j) es) (of-key k x m) ∙ e
 
-    one : (b : Bool) → any (of k) es ≡ b → keys es ≡ some (mine k es) + keys (others k es) → if b (keys es) (suc (keys es)) ≡ 1 + keys (others k es)
+    one : (b : Bool) → any (of k) es ≡ b → keys es ≡ some (mine k es) + keys (others k es) → cond b (keys es) (suc (keys es)) ≡ 1 + keys (others k es)
     one true e h = omega (arith, any-mine-one k es e)
     one false e h = omega (arith, any-mine k es e)
 
     two : (b : Bool) → keys es ≡ some (mine k es) + keys (others k es)
-        → if b (keys es) (suc (keys es)) ≡ some (mine k es) + (if b (keys (others k es)) (suc (keys (others k es))))
+        → cond b (keys es) (suc (keys es)) ≡ some (mine k es) + (cond b (keys (others k es)) (suc (keys (others k es))))
     two true h = h
     two false h = omega arith
 
     go : (b : Bool) → of k x ≡ b → keys es ≡ some (mine k es) + keys (others k es)
-        → if (any (of (x .key)) es) (keys es) (suc (keys es))
-        ≡ some (if b (x .content ∷ mine k es) (mine k es)) + keys (if (not b) (x ∷ others k es) (others k es))
+        → cond (any (of (x .key)) es) (keys es) (suc (keys es))
+        ≡ some (cond b (x .content ∷ mine k es) (mine k es)) + keys (cond (not b) (x ∷ others k es) (others k es))
     go true m h = one (any (of (x .key)) es) (own m (any (of (x .key)) es) refl) h
     go false m h =
         two (any (of (x .key)) es) h
-        ∙ ap (λ (b : Bool). some (mine k es) + (if b (keys (others k es)) (suc (keys (others k es))))) (sym (any-others k (x .key) (of-differ k x m) es))
+        ∙ ap (λ (b : Bool). some (mine k es) + (cond b (keys (others k es)) (suc (keys (others k es))))) (sym (any-others k (x .key) (of-differ k x m) es))

@@ -2,17 +2,18 @@
 -- Assumes nothing.
 use Prim.Native.Nat.{ℕ}
 use mathlib.Core.Path.{_≡_, refl, sym, _∙_}
-use mathlib.Core.Bool.{Bool, true, false, not}
+use mathlib.Core.Bool.{Bool, true, false, not, cond}
 use mathlib.Core.List.{List, [], _∷_}
 use mathlib.Core.Option.{Option, none, some}
 use native.Mathlib.Omega.{arith}
 use lib.Dec.{eqb}
 use lib.ListN.{length}
 use borrow.Author.Tests.{eqb-false, not-true}
+use Rattle.number_tests.proofs.Tests.{both-true, cond-either}
+use Rattle.number_tests.specs.Tests.{firstOf}
 use Rattle.client_record.specs.declared.Client.{Client}
-use Rattle.client_record.specs.Lists.{if, all}
-use Rattle.client_record.proofs.Tests.{both-true}
-use Rattle.client_reassembly.specs.Answer.{Reply, refused, advanced, firstOf}
+use Rattle.client_record.specs.Lists.{all}
+use Rattle.client_reassembly.specs.Answer.{Reply, refused, advanced}
 use Rattle.client_ledger.specs.Book.{
   Content,
   Entry,
@@ -46,7 +47,6 @@ use Rattle.client_ledger.specs.History.{Ask, offering, advancing, accoun
 use Rattle.client_ledger.specs.Bookkeeping.{callOf}
 use Rattle.client_ledger.specs.OneClient.{Lasts, OneClient}
 use Rattle.client_ledger.proofs.Clock.{stands-fresh, account-stands, advance-stands}
-use Rattle.client_ledger.proofs.Sum.{if-either}
 use Rattle.client_ledger.proofs.Taken.{fragment-stands}
 
 -- ---- the book never gives 22
@@ -60,16 +60,16 @@ other-number n h e = let z : n ≡ 22 = cc in h z
 finished-other : (e : Entry) (out : List ℕ) (b : Book) (l : Option Content) → Other (finished e out b l .reply)
 finished-other e out b none = λ q. let z : _≡_ {A = ℕ} 0 1 = cc in omega arith
 finished-other e out b (some l) =
-    if-either (λ (r : Result). Other (r .reply)) (complete (endOf l) (with e b)) _ _ (λ q. let z : _≡_ {A = ℕ} 0 1 = cc in omega arith)
+    cond-either (λ (r : Result). Other (r .reply)) (complete (endOf l) (with e b)) _ _ (λ q. let z : _≡_ {A = ℕ} 0 1 = cc in omega arith)
     (λ q. let z : _≡_ {A = ℕ} 0 1 = cc in omega arith)
 
 fate-other : (e : Entry) (out : List ℕ) (b : Book) → Other (fate e out b .reply)
 unfolding fate taking
 fate-other e out b =
-    if-either (λ (r : Result). Other (r .reply)) (noRoom e b) _ _ (other-number 29 (λ q. omega arith))
-    (if-either (λ (r : Result). Other (r .reply)) (isRepeat e b) _ _ (λ q. let z : _≡_ {A = ℕ} 0 1 = cc in omega arith)
-    (if-either (λ (r : Result). Other (r .reply)) (isConflict e b) _ _ (λ q. let z : _≡_ {A = ℕ} 0 1 = cc in omega arith)
-    (if-either (λ (r : Result). Other (r .reply)) (isFull e b) _ _ (other-number 30 (λ q. omega arith)) (finished-other e out b (lastOne (with e b))))))
+    cond-either (λ (r : Result). Other (r .reply)) (noRoom e b) _ _ (other-number 29 (λ q. omega arith))
+    (cond-either (λ (r : Result). Other (r .reply)) (isRepeat e b) _ _ (λ q. let z : _≡_ {A = ℕ} 0 1 = cc in omega arith)
+    (cond-either (λ (r : Result). Other (r .reply)) (isConflict e b) _ _ (λ q. let z : _≡_ {A = ℕ} 0 1 = cc in omega arith)
+    (cond-either (λ (r : Result). Other (r .reply)) (isFull e b) _ _ (other-number 30 (λ q. omega arith)) (finished-other e out b (lastOne (with e b))))))
 
 -- none of the tests has the number 22
 first-other : (xs : List (Bool × ℕ)) → all (λ x. not (eqb (x .1) 22)) xs ≡ true → (n : ℕ) → firstOf xs ≡ some n → n ≡ 22 → ⊥
@@ -77,7 +77,7 @@ unfolding firstOf all
 first-other [] a n e = let z : _≡_ {A = ℕ} 0 1 = cc in absurd (omega arith)
 first-other (x ∷ xs) a n e = go (x .0) (first-other xs (both-true (not (eqb (x .1) 22)) (all (λ y. not (eqb (y .1) 22)) xs) a .1) n) e
   where
-    go : (t : Bool) → (firstOf xs ≡ some n → n ≡ 22 → ⊥) → if t (some (x .1)) (firstOf xs) ≡ some n → n ≡ 22 → ⊥
+    go : (t : Bool) → (firstOf xs ≡ some n → n ≡ 22 → ⊥) → cond t (some (x .1)) (firstOf xs) ≡ some n → n ≡ 22 → ⊥
     go true ih e q =
         let z : x .1 ≡ n = cc in
         eqb-false (x .1) 22 (not-true (eqb (x .1) 22) (both-true (not (eqb (x .1) 22)) (all (λ y. not (eqb (y .1) 22)) xs) a .0)) (z ∙ q)

@@ -2,7 +2,7 @@
 -- Assumes nothing.
 use Prim.Native.Nat.{ℕ, _+_, _-_, _<_, _≤_}
 use mathlib.Core.Path.{_≡_, refl, sym, ap, subst, _∙_}
-use mathlib.Core.Bool.{Bool, true, false, _&&_, _||_}
+use mathlib.Core.Bool.{Bool, true, false, _&&_, _||_, cond}
 use mathlib.Core.List.{List, [], _∷_, _++_}
 use mathlib.Core.Option.{none, some}
 use native.Mathlib.Omega.{arith}
@@ -10,11 +10,10 @@ use lib.Dec.{leb, ltb}
 use lib.ListN.{length, drop, getD, length-append, List·getD-append}
 use lib.Seq.{getD-take, getD-drop, ext-getD}
 use borrow.Author.Tests.{ltb-true, ltb-false, leb-true, lt-ltb, le-leb, not-true}
+use Rattle.number_tests.proofs.Tests.{both-true, cond-yes}
 use Rattle.number_octets.specs.Octets.{part}
 use Rattle.number_octets.proofs.Laws.{length-part}
-use Rattle.client_record.specs.Lists.{if, all, pairs}
-use Rattle.client_record.proofs.Tests.{both-true}
-use Rattle.client_reassembly.proofs.Laws.{if-yes}
+use Rattle.client_record.specs.Lists.{all, pairs}
 use Rattle.client_ledger.specs.Book.{Content, size, endOf, of, overlap, contradicts, within, lastOne, byteAt, bytesTo, fragment}
 use Rattle.client_ledger.proofs.Apart.{follows}
 use Rattle.client_ledger.proofs.Keys.{true-false}
@@ -71,7 +70,7 @@ unfolding lastOne
 last-marked [] l e = absurd (let z : _≡_ {A = ℕ} 0 1 = cc in omega arith)
 last-marked (f ∷ cs) l e = go (f .last) refl (last-marked cs l) e
   where
-    go : (x : Bool) → f .last ≡ x → (lastOne cs ≡ some l → l .last ≡ true) → if x (some f) (lastOne cs) ≡ some l → l .last ≡ true
+    go : (x : Bool) → f .last ≡ x → (lastOne cs ≡ some l → l .last ≡ true) → cond x (some f) (lastOne cs) ≡ some l → l .last ≡ true
     go true p ih e = let same : f ≡ l = cc in ap (λ (c : Content). c .last) (sym same) ∙ p
     go false p ih e = ih e
 
@@ -83,7 +82,7 @@ last-in q (f ∷ cs) l h e = go (f .last) (last-in q cs l (b .1)) e
     b : (q f ≡ true) × (all q cs ≡ true)
     b = both-true (q f) (all q cs) h
 
-    go : (x : Bool) → (lastOne cs ≡ some l → q l ≡ true) → if x (some f) (lastOne cs) ≡ some l → q l ≡ true
+    go : (x : Bool) → (lastOne cs ≡ some l → q l ≡ true) → cond x (some f) (lastOne cs) ≡ some l → q l ≡ true
     go true ih e = let same : f ≡ l = cc in ap q (sym same) ∙ b .0
     go false ih e = ih e
 
@@ -102,7 +101,7 @@ last-ends (f ∷ cs) l h e = go (f .last) refl (last-ends cs l (b .1)) e
     b : (all (follows f) cs ≡ true) × (pairs follows cs ≡ true)
     b = both-true (all (follows f) cs) (pairs follows cs) h
 
-    go : (x : Bool) → f .last ≡ x → (lastOne cs ≡ some l → all (λ c. leb (endOf c) (endOf l)) cs ≡ true) → if x (some f) (lastOne cs) ≡ some l
+    go : (x : Bool) → f .last ≡ x → (lastOne cs ≡ some l → all (λ c. leb (endOf c) (endOf l)) cs ≡ true) → cond x (some f) (lastOne cs) ≡ some l
         → leb (endOf f) (endOf l) && all (λ c. leb (endOf c) (endOf l)) cs ≡ true
     go true p ih e =
         let same : f ≡ l = cc in
@@ -119,14 +118,14 @@ last-ends (f ∷ cs) l h e = go (f .last) refl (last-ends cs l (b .1)) e
 byte-of : (before : List Content) (g : Content) (behind : List Content) → pairs follows (before ++ g ∷ behind) ≡ true → (i : ℕ) → within i g ≡ true
     → byteAt (before ++ g ∷ behind) i ≡ getD (g .bytes) (i - g .place) 0
 unfolding byteAt pairs
-byte-of [] g behind h i w = if-yes (within i g) _ _ w
+byte-of [] g behind h i w = cond-yes (within i g) _ _ w
 byte-of (f ∷ before) g behind h i w = go (within i f) refl (byte-of before g behind (b .1) i w)
   where
     b : (all (follows f) (before ++ g ∷ behind) ≡ true) × (pairs follows (before ++ g ∷ behind) ≡ true)
     b = both-true (all (follows f) (before ++ g ∷ behind)) (pairs follows (before ++ g ∷ behind)) h
 
     go : (x : Bool) → within i f ≡ x → byteAt (before ++ g ∷ behind) i ≡ getD (g .bytes) (i - g .place) 0
-        → if x (getD (f .bytes) (i - f .place) 0) (byteAt (before ++ g ∷ behind) i) ≡ getD (g .bytes) (i - g .place) 0
+        → cond x (getD (f .bytes) (i - f .place) 0) (byteAt (before ++ g ∷ behind) i) ≡ getD (g .bytes) (i - g .place) 0
     go true p ih = absurd (no-place f g (in-all (follows f) before g behind (b .0)) i p w)
     go false p ih = ih
 

@@ -3,23 +3,23 @@
 -- Assumes nothing.
 use Prim.Native.Nat.{ℕ, _+_, _*_, _<_, _≤_}
 use mathlib.Core.Path.{_≡_, refl, sym, subst, _∙_}
-use mathlib.Core.Bool.{Bool, true, false}
+use mathlib.Core.Bool.{Bool, true, false, cond}
 use mathlib.Core.List.{List}
 use mathlib.Core.Option.{Option, none, some}
 use native.Mathlib.Nat.{suc-mul, mul-le-mul-right}
 use native.Mathlib.Omega.{arith}
 use lib.ListN.{length, length-map}
 use borrow.Author.Tests.{eqb-false}
+use Rattle.number_tests.specs.Tests.{firstOf}
 use Rattle.number_octets.specs.Octets.{part, overlay}
 use Rattle.number_octets.proofs.Laws.{length-overlay}
 use Rattle.client_record.specs.declared.Fragment.{Fragment}
 use Rattle.client_record.specs.declared.Assembly.{Assembly}
 use Rattle.client_record.specs.declared.Client.{Client}
 use Rattle.client_record.specs.Limits.{datagramLimit, assemblyLimit, shareSize}
-use Rattle.client_record.specs.Lists.{if}
 use Rattle.client_record.specs.Record.{whole, heldFragments}
 use Rattle.client_reassembly.specs.declared.Arrival.{Arrival}
-use Rattle.client_reassembly.specs.Answer.{refused, stored, repeated, conflict, firstOf}
+use Rattle.client_reassembly.specs.Answer.{refused, stored, repeated, conflict}
 use Rattle.client_reassembly.specs.Advance.{expire, elapse}
 use Rattle.client_reassembly.specs.Offer.{
   offerTests,
@@ -71,10 +71,10 @@ placed-share c share out p a f bytes h e size =
     laid = length-overlay share (startOf p f) bytes (place-fits p f bytes share h e size) ∙ size
 
     go : (x y z w : Bool)
-        → FullShare (if x (leaving (repeating (f .length) c) share out repeated)
-        (if y (leaving (conflicting p a (f .length) c) share out conflict)
-        (if z (leaving (rejecting (f .length) c) share out (refused 30))
-        (if w (handedOut c (overlay share (startOf p f) bytes) out p a f)
+        → FullShare (cond x (leaving (repeating (f .length) c) share out repeated)
+        (cond y (leaving (conflicting p a (f .length) c) share out conflict)
+        (cond z (leaving (rejecting (f .length) c) share out (refused 30))
+        (cond w (handedOut c (overlay share (startOf p f) bytes) out p a f)
         (leaving (storing p (added a f) (f .length) c) (overlay share (startOf p f) bytes) out stored)))))
     go true y z w = size
     go false true z w = size
@@ -118,6 +118,6 @@ fragment-call-share c share out o bytes shape = go (firstOf (offerTests c (lengt
     go : (r : Option ℕ) → firstOf (offerTests c (length out) o (length bytes)) ≡ r
         → FullShare (refuseOr c share out r (taken (elapse (o .time) c) share out o bytes))
     go none e =
-        taken-share (elapse (o .time) c) share out o bytes (elapse-places (o .time) c (shape .places))
+        taken-share (elapse (o .time) c) share out o bytes (elapse-places (o .time) c (shape .lists .places))
         (passes c (length out) o (length bytes) e .sized .ends) (shape .size)
     go (some n) e = shape .size

@@ -3,14 +3,15 @@
 -- Assumes nothing.
 use Prim.Native.Nat.{ℕ, _+_}
 use mathlib.Core.Path.{_≡_, refl}
-use mathlib.Core.Bool.{Bool, true, false, not}
+use mathlib.Core.Bool.{Bool, true, false, not, cond}
 use mathlib.Core.List.{List, [], _∷_, _++_}
 use mathlib.Core.Option.{Option, none, some}
 use native.Mathlib.Omega.{arith}
 use lib.ListN.{length}
-use Rattle.client_record.specs.Lists.{if, sum}
+use Rattle.number_tests.proofs.Tests.{cond-either}
+use Rattle.number_tests.specs.Tests.{firstOf}
+use Rattle.client_record.specs.Lists.{sum}
 use Rattle.client_record.proofs.Lists.{sum-append}
-use Rattle.client_reassembly.specs.Answer.{firstOf}
 use Rattle.client_ledger.specs.Book.{
   Key,
   Content,
@@ -65,7 +66,7 @@ keep-bytes p (e ∷ es) = go (p e) (keep-bytes p es)
   where
     go : (b : Bool) → heldBytes es ≡ heldBytes (keep p es) + heldBytes (keep (λ x. not (p x)) es)
         → size (e .content) + heldBytes es
-        ≡ heldBytes (if b (e ∷ keep p es) (keep p es)) + heldBytes (if (not b) (e ∷ keep (λ x. not (p x)) es) (keep (λ x. not (p x)) es))
+        ≡ heldBytes (cond b (e ∷ keep p es) (keep p es)) + heldBytes (cond (not b) (e ∷ keep (λ x. not (p x)) es) (keep (λ x. not (p x)) es))
     go true h = omega arith
     go false h = omega arith
 
@@ -81,17 +82,13 @@ mine-bytes k (e ∷ es) = go (of k e) (mine-bytes k es)
   where
     go : (b : Bool) → heldBytes es ≡ total (mine k es) + heldBytes (others k es)
         → size (e .content) + heldBytes es
-        ≡ total (if b (e .content ∷ mine k es) (mine k es)) + heldBytes (if (not b) (e ∷ others k es) (others k es))
+        ≡ total (cond b (e .content ∷ mine k es) (mine k es)) + heldBytes (cond (not b) (e ∷ others k es) (others k es))
     go true h = omega arith
     go false h = omega arith
 
 advance-balanced : (t : ℕ) (b : Book) → Balanced b → Balanced (advance t b)
 unfolding Balanced advance held
 advance-balanced t b h = omega (arith, keep-bytes (outdated t (b .open-ones)) (b .open-ones))
-
-pub if-either {ℓ κ} : {A : Type ℓ} (P : A → Type κ) (b : Bool) (x y : A) → P x → P y → P (if b x y)
-if-either P true x y p q = p
-if-either P false x y p q = q
 
 module _ (b : Book) (h : Balanced b) where
   rejecting-balanced : (n : ℕ) → Balanced (rejecting n b)
@@ -117,16 +114,16 @@ module _ (b : Book) (h : Balanced b) where
   finished-balanced : (e : Entry) (out : List ℕ) (o : Option Content) → Balanced (finished e out b o .book)
   finished-balanced e out none = storing-balanced e
   finished-balanced e out (some l) =
-      if-either (λ (r : Result). Balanced (r .book)) (complete (endOf l) (with e b)) _ _ (delivering-balanced (e .key) (size (e .content))) (storing-balanced e)
+      cond-either (λ (r : Result). Balanced (r .book)) (complete (endOf l) (with e b)) _ _ (delivering-balanced (e .key) (size (e .content))) (storing-balanced e)
 
   fate-balanced : (e : Entry) (out : List ℕ) → Balanced (fate e out b .book)
   unfolding fate taking
   fate-balanced e out =
       let n = size (e .content) in
-      if-either (λ (r : Result). Balanced (r .book)) (noRoom e b) _ _ (rejecting-balanced n)
-      (if-either (λ (r : Result). Balanced (r .book)) (isRepeat e b) _ _ (repeating-balanced n)
-      (if-either (λ (r : Result). Balanced (r .book)) (isConflict e b) _ _ (conflicting-balanced (e .key) n)
-      (if-either (λ (r : Result). Balanced (r .book)) (isFull e b) _ _ (rejecting-balanced n) (finished-balanced e out (lastOne (with e b))))))
+      cond-either (λ (r : Result). Balanced (r .book)) (noRoom e b) _ _ (rejecting-balanced n)
+      (cond-either (λ (r : Result). Balanced (r .book)) (isRepeat e b) _ _ (repeating-balanced n)
+      (cond-either (λ (r : Result). Balanced (r .book)) (isConflict e b) _ _ (conflicting-balanced (e .key) n)
+      (cond-either (λ (r : Result). Balanced (r .book)) (isFull e b) _ _ (rejecting-balanced n) (finished-balanced e out (lastOne (with e b))))))
 
 refuse-balanced : (out : List ℕ) (b : Book) (o : Option ℕ) (r : Result) → Balanced b → Balanced (r .book) → Balanced (refuseOr out b o r .book)
 refuse-balanced out b none r h k = k

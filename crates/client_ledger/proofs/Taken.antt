@@ -9,6 +9,8 @@ use mathlib.Core.Option.{Option, none, some}
 use lib.Dec.{eqb, ltb}
 use lib.ListN.{length, drop}
 use borrow.Author.Tests.{le-leb}
+use Rattle.number_tests.proofs.Tests.{cond-yes, cond-no}
+use Rattle.number_tests.specs.Tests.{firstOf}
 use Rattle.number_octets.specs.Octets.{part}
 use Rattle.client_record.specs.declared.Fragment.{Fragment}
 use Rattle.client_record.specs.declared.Assembly.{Assembly}
@@ -16,12 +18,11 @@ use Rattle.client_record.specs.declared.Client.{Client}
 use Rattle.client_record.specs.Limits.{datagramLimit, offeredLimit, assemblyLimit}
 use Rattle.client_record.specs.Record.{isLast, end, fits, coveredTo, lastOf, whole, heldFragments, soundRecord}
 use Rattle.client_reassembly.specs.declared.Arrival.{Arrival}
-use Rattle.client_reassembly.specs.Answer.{refused, stored, repeated, conflict, delivered, firstOf}
+use Rattle.client_reassembly.specs.Answer.{refused, stored, repeated, conflict, delivered}
 use Rattle.client_reassembly.specs.Advance.{elapse}
 use Rattle.client_reassembly.specs.Offer
 use Rattle.client_reassembly.specs.Offer.{Outcome, fragmentOf, placeFor, assemblyFor, added, startOf, handedOut, placed, taken, fragmentOn}
 use Rattle.client_reassembly.proofs.Fates.{placed-repeated, placed-conflict, placed-full, placed-joined, taken-rejected, taken-placed}
-use Rattle.client_reassembly.proofs.Laws.{if-yes, if-no}
 use Rattle.client_reassembly.proofs.Passes.{passes}
 use Rattle.client_ledger.specs.Book
 use Rattle.client_ledger.specs.Book.{
@@ -104,22 +105,22 @@ module _ (c : Client) (share : List ℕ) (b : Book) (st : Stands c share b) (out
           → Fulfils (Offer.joined c s′ out p a (held-as o bytes)) (taking e out b)
       cover t true u =
           fulfil-of (Offer.joined c s′ out p a (held-as o bytes)) hand-out (taking e out b) handed
-          (if-yes (isLast (lastOf fs) && coveredTo (end (lastOf fs)) fs) hand-out keep-on (ap₂ _&&_ t u))
+          (cond-yes (isLast (lastOf fs) && coveredTo (end (lastOf fs)) fs) hand-out keep-on (ap₂ _&&_ t u))
           (ap (finished e out b) (ap lastOne (joins c share b st out o bytes fit p a at-home free slot) ∙ last-some s′ p fs t)
-          ∙ if-yes (complete (endOf l) (with e b)) handed listed (final-cover c share b st out o bytes fit p a at-home free slot t ∙ u)) s
+          ∙ cond-yes (complete (endOf l) (with e b)) handed listed (final-cover c share b st out o bytes fit p a at-home free slot t ∙ u)) s
           (delivered-fulfils c share b st out o bytes fit p a at-home free slot t u)
       cover t false u =
           fulfil-of (Offer.joined c s′ out p a (held-as o bytes)) keep-on (taking e out b) listed
-          (if-no (isLast (lastOf fs) && coveredTo (end (lastOf fs)) fs) hand-out keep-on (ap₂ _&&_ t u))
+          (cond-no (isLast (lastOf fs) && coveredTo (end (lastOf fs)) fs) hand-out keep-on (ap₂ _&&_ t u))
           (ap (finished e out b) (ap lastOne (joins c share b st out o bytes fit p a at-home free slot) ∙ last-some s′ p fs t)
-          ∙ if-no (complete (endOf l) (with e b)) handed listed (final-cover c share b st out o bytes fit p a at-home free slot t ∙ u)) s
+          ∙ cond-no (complete (endOf l) (with e b)) handed listed (final-cover c share b st out o bytes fit p a at-home free slot t ∙ u)) s
           (stored-fulfils c share b st out o bytes fit p a at-home free slot)
 
       go : (t : Bool) → isLast (lastOf fs) ≡ t → Fulfils (Offer.joined c s′ out p a (held-as o bytes)) (taking e out b)
       go true t = cover t (coveredTo (end (lastOf fs)) fs) refl
       go false t =
           fulfil-of (Offer.joined c s′ out p a (held-as o bytes)) keep-on (taking e out b) listed
-          (if-no (isLast (lastOf fs) && coveredTo (end (lastOf fs)) fs) hand-out keep-on (ap (λ (x : Bool). x && coveredTo (end (lastOf fs)) fs) t))
+          (cond-no (isLast (lastOf fs) && coveredTo (end (lastOf fs)) fs) hand-out keep-on (ap (λ (x : Bool). x && coveredTo (end (lastOf fs)) fs) t))
           (ap (finished e out b) (ap lastOne (joins c share b st out o bytes fit p a at-home free slot) ∙ last-none s′ p fs t)) s
           (stored-fulfils c share b st out o bytes fit p a at-home free slot)
 
@@ -128,28 +129,28 @@ module _ (c : Client) (share : List ℕ) (b : Book) (st : Stands c share b) (out
 module _ (e : Entry) (out : List ℕ) (b : Book) where
   book-no-room : Book.noRoom e b ≡ true → fate e out b ≡ Book.leaving (refused 29) out (Book.rejecting (size (e .content)) b)
   unfolding fate
-  book-no-room r = if-yes (Book.noRoom e b) _ _ r
+  book-no-room r = cond-yes (Book.noRoom e b) _ _ r
 
   book-repeat : Book.noRoom e b ≡ false → Book.isRepeat e b ≡ true → fate e out b ≡ Book.leaving repeated out (Book.repeating (size (e .content)) b)
   unfolding fate
-  book-repeat r k = if-no (Book.noRoom e b) _ _ r ∙ if-yes (Book.isRepeat e b) _ _ k
+  book-repeat r k = cond-no (Book.noRoom e b) _ _ r ∙ cond-yes (Book.isRepeat e b) _ _ k
 
   book-conflict : Book.noRoom e b ≡ false → Book.isRepeat e b ≡ false → Book.isConflict e b ≡ true
       → fate e out b ≡ Book.leaving conflict out (Book.conflicting (e .key) (size (e .content)) b)
   unfolding fate
-  book-conflict r k q = if-no (Book.noRoom e b) _ _ r ∙ if-no (Book.isRepeat e b) _ _ k ∙ if-yes (Book.isConflict e b) _ _ q
+  book-conflict r k q = cond-no (Book.noRoom e b) _ _ r ∙ cond-no (Book.isRepeat e b) _ _ k ∙ cond-yes (Book.isConflict e b) _ _ q
 
   book-full : Book.noRoom e b ≡ false → Book.isRepeat e b ≡ false → Book.isConflict e b ≡ false → Book.isFull e b ≡ true
       → fate e out b ≡ Book.leaving (refused 30) out (Book.rejecting (size (e .content)) b)
   unfolding fate
   book-full r k q m =
-      if-no (Book.noRoom e b) _ _ r ∙ if-no (Book.isRepeat e b) _ _ k ∙ if-no (Book.isConflict e b) _ _ q ∙ if-yes (Book.isFull e b) _ _ m
+      cond-no (Book.noRoom e b) _ _ r ∙ cond-no (Book.isRepeat e b) _ _ k ∙ cond-no (Book.isConflict e b) _ _ q ∙ cond-yes (Book.isFull e b) _ _ m
 
   pub book-taken : Book.noRoom e b ≡ false → Book.isRepeat e b ≡ false → Book.isConflict e b ≡ false → Book.isFull e b ≡ false
       → fate e out b ≡ taking e out b
   unfolding fate
   book-taken r k q m =
-      if-no (Book.noRoom e b) _ _ r ∙ if-no (Book.isRepeat e b) _ _ k ∙ if-no (Book.isConflict e b) _ _ q ∙ if-no (Book.isFull e b) _ _ m
+      cond-no (Book.noRoom e b) _ _ r ∙ cond-no (Book.isRepeat e b) _ _ k ∙ cond-no (Book.isConflict e b) _ _ q ∙ cond-no (Book.isFull e b) _ _ m
 
 -- ---- the fates in order
 

@@ -3,20 +3,20 @@
 -- Assumes nothing.
 use Prim.Native.Nat.{ℕ, zero, suc, _+_, _<_}
 use mathlib.Core.Path.{_≡_, refl, sym, ap, ap₂, _∙_}
-use mathlib.Core.Bool.{Bool, true, false, not, _&&_, _||_}
+use mathlib.Core.Bool.{Bool, true, false, not, _&&_, _||_, cond}
 use mathlib.Core.List.{List, [], _∷_, map}
 use lib.Dec.{eqb, ltb, leb}
 use lib.ListN.{length, length-map}
 use borrow.Author.Tests.{eqb-true, eqb-false, eq-eqb}
+use Rattle.number_tests.proofs.Tests.{both-true}
 use Rattle.number_octets.specs.Octets.{part}
 use Rattle.client_record.specs.declared.Fragment.{Fragment}
 use Rattle.client_record.specs.declared.Assembly.{Assembly}
 use Rattle.client_record.specs.declared.Client.{Client}
 use Rattle.client_record.specs.Limits.{fragmentLimit, assemblyLimit, shareSize}
-use Rattle.client_record.specs.Lists.{if, sameMark, sameBytes, all, any}
+use Rattle.client_record.specs.Lists.{sameMark, sameBytes, all, any}
 use Rattle.client_record.specs.Record.{isLast, end, fits, overlaps, bothLast, outruns, conflicts, covers, coveredTo, heldFragments}
 use Rattle.client_record.proofs.Lists.{and-true, and-false}
-use Rattle.client_record.proofs.Tests.{both-true}
 use Rattle.client_record.proofs.Held.{marks-last}
 use Rattle.client_reassembly.specs.declared.Arrival.{Arrival}
 use Rattle.client_reassembly.specs.Offer
@@ -74,7 +74,7 @@ swap false true t u h = sym (and-false u)
 swap false false t u h = refl
 
 -- r counts only where the marks are those of a last one
-starts : (f g : Bool) (r s : ℕ) → sameMark f g ≡ true → eqb (if f r 0) (if g s 0) ≡ not f || eqb (if f r 0) s
+starts : (f g : Bool) (r s : ℕ) → sameMark f g ≡ true → eqb (cond f r 0) (cond g s 0) ≡ not f || eqb (cond f r 0) s
 starts true true r s e = refl
 starts true false r s e = absurd (true-false (sym e))
 starts false true r s e = absurd (true-false (sym e))
@@ -122,10 +122,10 @@ module _ (share : List ℕ) (p : ℕ) (size-of : length share ≡ shareSize) (h 
         marks = sameMark (o .last) (isLast g)
 
         left : Bool
-        left = eqb (if (o .last) (o .«option_start» .0) 0) (if (isLast g) (g .«option_start») 0)
+        left = eqb (cond (o .last) (o .«option_start» .0) 0) (cond (isLast g) (g .«option_start») 0)
 
         starting : Bool
-        starting = eqb (if (o .last) (o .«option_start» .0) 0) (g .«option_start»)
+        starting = eqb (cond (o .last) (o .«option_start» .0) 0) (g .«option_start»)
 
         right : Bool
         right = not (o .last) || starting

@@ -6,9 +6,8 @@ use lib.ListN.{length}
 use Prim.Native.Nat.{ℕ}
 use Rattle.client_record.specs.Limits.{shareSize}
 use Rattle.client_record.specs.Record.{freshClient}
-use Rattle.client_reassembly.proofs.Lasting.{shaped, fragment-call-sound}
+use Rattle.client_reassembly.proofs.Lasting.{fragment-call-sound}
 use Rattle.client_ledger.specs.Book.{empty}
-use Rattle.client_ledger.specs.Shapes.{slotted}
 use Rattle.client_ledger.specs.OneClient.{Lasts, OneClient}
 use Rattle.client_ledger.specs.History.{Ask, recordGives}
 use Rattle.client_ledger.specs.Bookkeeping.{bookGives}
@@ -16,9 +15,8 @@ use Rattle.client_ledger.proofs.OneClient.{one-client}
 use Rattle.client_ledger.proofs.History.{whole-history}
 
 lasts : Lasts
-unfolding Lasts slotted shaped
-lasts c share out o bytes sound shape =
-    fragment-call-sound c share out o bytes sound (record { places = shape .places; slots = shape .slots })
+unfolding Lasts
+lasts c share out o bytes sound shape = fragment-call-sound c share out o bytes sound (shape .lists)
 
 -- a client's record and share do, call after call, what its plain book does
 pub one-client-theorem : OneClient

@@ -2,7 +2,7 @@
 -- Assumes nothing.
 use Prim.Native.Nat.{ℕ, zero, suc, _<_}
 use mathlib.Core.Path.{_≡_, refl, ap, _∙_, subst}
-use mathlib.Core.Bool.{Bool, true, false}
+use mathlib.Core.Bool.{Bool, true, false, cond}
 use mathlib.Core.List.{List, [], _∷_, _++_}
 use mathlib.Core.Option.{Option, none, some}
 use native.Mathlib.Omega.{arith}
@@ -11,20 +11,18 @@ use lib.Dec.{ltb}
 use lib.ListN.{length, drop, getD, length-append, List·getD-append}
 use lib.Seq.{getD-at}
 use borrow.Author.Tests.{ltb-true, ltb-false}
-use Rattle.client_record.specs.Lists.{if}
+use Rattle.number_tests.proofs.Tests.{cond-yes, cond-either}
 use Rattle.client_reassembly.specs.Answer.{stored, delivered}
 use Rattle.client_ledger.specs.Book.{Content, Entry, Book, size, endOf, complete, lastOne, byteAt, bytesTo, Result, storing, delivering}
 use Rattle.client_ledger.specs.Book.{leaving, with, finished, taking, noRoom, isRepeat, isConflict, isFull, fate}
 use Rattle.client_ledger.specs.Whole.{Whole, handed}
-use Rattle.client_reassembly.proofs.Laws.{if-yes}
-use Rattle.client_ledger.proofs.Sum.{if-either}
 use Rattle.client_ledger.proofs.Taken.{book-taken}
 
 taken-reply : (e : Entry) (out : List ℕ) (b : Book) (l : Content) → lastOne (with e b) ≡ some l → complete (endOf l) (with e b) ≡ true
     → taking e out b .reply ≡ delivered (endOf l) (l .start)
 unfolding taking
 taken-reply e out b l f c =
-    ap (λ (x : Result). x .reply) (ap (finished e out b) f ∙ if-yes (complete (endOf l) (with e b)) _ _ c)
+    ap (λ (x : Result). x .reply) (ap (finished e out b) f ∙ cond-yes (complete (endOf l) (with e b)) _ _ c)
 
 module _ (e : Entry) (out : List ℕ) (b : Book) where
   -- a delivery is of a whole original
@@ -34,7 +32,7 @@ module _ (e : Entry) (out : List ℕ) (b : Book) where
 
     handed-out : (l : Content) → lastOne (with e b) ≡ some l → (t : Bool) → complete (endOf l) (with e b) ≡ t
         → Owed
-        (if t
+        (cond t
         (leaving (delivered (endOf l) (l .start)) (bytesTo (endOf l) (with e b) ++ drop (endOf l) out) (delivering (e .key) (size (e .content)) b))
         (leaving stored out (storing e b)))
     handed-out l f true c q =
@@ -58,10 +56,10 @@ module _ (e : Entry) (out : List ℕ) (b : Book) where
     pub delivered-whole : fate e out b .reply ≡ delivered n r → Whole (with e b) n r × (fate e out b .out ≡ handed (with e b) n out)
     unfolding fate taking
     delivered-whole =
-        if-either Owed (noRoom e b) _ _ (λ q. let z : _≡_ {A = ℕ} 0 1 = cc in absurd (omega arith))
-        (if-either Owed (isRepeat e b) _ _ (λ q. let z : _≡_ {A = ℕ} 0 1 = cc in absurd (omega arith))
-        (if-either Owed (isConflict e b) _ _ (λ q. let z : _≡_ {A = ℕ} 0 1 = cc in absurd (omega arith))
-        (if-either Owed (isFull e b) _ _ (λ q. let z : _≡_ {A = ℕ} 0 1 = cc in absurd (omega arith))
+        cond-either Owed (noRoom e b) _ _ (λ q. let z : _≡_ {A = ℕ} 0 1 = cc in absurd (omega arith))
+        (cond-either Owed (isRepeat e b) _ _ (λ q. let z : _≡_ {A = ℕ} 0 1 = cc in absurd (omega arith))
+        (cond-either Owed (isConflict e b) _ _ (λ q. let z : _≡_ {A = ℕ} 0 1 = cc in absurd (omega arith))
+        (cond-either Owed (isFull e b) _ _ (λ q. let z : _≡_ {A = ℕ} 0 1 = cc in absurd (omega arith))
         (finished-whole (lastOne (with e b)) refl))))
 
   -- a fragment that is taken and makes its original whole is delivered
@@ -73,16 +71,16 @@ module _ (e : Entry) (out : List ℕ) (b : Book) where
   pub untouched : ((n r : ℕ) → fate e out b .reply ≡ delivered n r → ⊥) → fate e out b .out ≡ out
   unfolding fate taking
   untouched =
-      if-either (λ (x : Result). ((n r : ℕ) → x .reply ≡ delivered n r → ⊥) → x .out ≡ out) (noRoom e b) _ _ (λ h. refl)
-      (if-either (λ (x : Result). ((n r : ℕ) → x .reply ≡ delivered n r → ⊥) → x .out ≡ out) (isRepeat e b) _ _ (λ h. refl)
-      (if-either (λ (x : Result). ((n r : ℕ) → x .reply ≡ delivered n r → ⊥) → x .out ≡ out) (isConflict e b) _ _ (λ h. refl)
-      (if-either (λ (x : Result). ((n r : ℕ) → x .reply ≡ delivered n r → ⊥) → x .out ≡ out) (isFull e b) _ _ (λ h. refl)
+      cond-either (λ (x : Result). ((n r : ℕ) → x .reply ≡ delivered n r → ⊥) → x .out ≡ out) (noRoom e b) _ _ (λ h. refl)
+      (cond-either (λ (x : Result). ((n r : ℕ) → x .reply ≡ delivered n r → ⊥) → x .out ≡ out) (isRepeat e b) _ _ (λ h. refl)
+      (cond-either (λ (x : Result). ((n r : ℕ) → x .reply ≡ delivered n r → ⊥) → x .out ≡ out) (isConflict e b) _ _ (λ h. refl)
+      (cond-either (λ (x : Result). ((n r : ℕ) → x .reply ≡ delivered n r → ⊥) → x .out ≡ out) (isFull e b) _ _ (λ h. refl)
       (go (lastOne (with e b))))))
     where
       go : (o : Option Content) → ((n r : ℕ) → finished e out b o .reply ≡ delivered n r → ⊥) → finished e out b o .out ≡ out
       go none = λ h. refl
       go (some l) =
-          if-either (λ (x : Result). ((n r : ℕ) → x .reply ≡ delivered n r → ⊥) → x .out ≡ out) (complete (endOf l) (with e b)) _ _
+          cond-either (λ (x : Result). ((n r : ℕ) → x .reply ≡ delivered n r → ⊥) → x .out ≡ out) (complete (endOf l) (with e b)) _ _
           (λ h. absurd (h (endOf l) (l .start) refl)) (λ h. refl)
 
 -- ---- each byte at its place

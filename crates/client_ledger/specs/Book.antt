@@ -1,16 +1,17 @@
 -- Document 01's plain book of one client: what its own calls alone say of it. It knows no places, no slots and no store.
 use Prim.Native.Nat.{ℕ, zero, suc, _+_, _-_}
-use mathlib.Core.Bool.{Bool, true, not, _&&_, _||_}
+use mathlib.Core.Bool.{Bool, true, not, _&&_, _||_, cond}
 use mathlib.Core.List.{List, [], _∷_, _++_}
 use mathlib.Core.Path.{_≡_}
 use mathlib.Core.Option.{Option, none, some}
 use lib.Dec.{leb, ltb, eqb}
 use lib.ListN.{length, getD, drop}
+use Rattle.number_tests.specs.Tests.{firstOf}
 use Rattle.client_record.specs.declared.Flow.{Flow}
 use Rattle.client_record.specs.Limits.{datagramLimit, fragmentLimit, assemblyLimit, lifetime, offeredLimit}
-use Rattle.client_record.specs.Lists.{if, sameMark, sameBytes, any, sum}
+use Rattle.client_record.specs.Lists.{sameMark, sameBytes, any, sum}
 use Rattle.client_record.specs.Record.{sameFlow}
-use Rattle.client_reassembly.specs.Answer.{Reply, refused, stored, repeated, conflict, delivered, advanced, account, firstOf}
+use Rattle.client_reassembly.specs.Answer.{Reply, refused, stored, repeated, conflict, delivered, advanced, account}
 
 -- ---- what is written down
 
@@ -75,12 +76,12 @@ of k e = sameKey k (e .key)
 -- what the open fragments of a key say, in order
 unfoldable pub mine : Key → List Entry → List Content
 mine k [] = []
-mine k (e ∷ es) = if (of k e) (e .content ∷ mine k es) (mine k es)
+mine k (e ∷ es) = cond (of k e) (e .content ∷ mine k es) (mine k es)
 
 -- the entries that pass, in order
 unfoldable pub keep : (Entry → Bool) → List Entry → List Entry
 keep p [] = []
-keep p (e ∷ es) = if (p e) (e ∷ keep p es) (keep p es)
+keep p (e ∷ es) = cond (p e) (e ∷ keep p es) (keep p es)
 
 unfoldable pub others : Key → List Entry → List Entry
 others k es = keep (λ e. not (of k e)) es
@@ -88,12 +89,12 @@ others k es = keep (λ e. not (of k e)) es
 -- a key's assembly was opened when the first of its open fragments came
 unfoldable pub openedAt : Key → List Entry → ℕ
 openedAt k [] = 0
-openedAt k (e ∷ es) = if (of k e) (e .time) (openedAt k es)
+openedAt k (e ∷ es) = cond (of k e) (e .time) (openedAt k es)
 
 -- how many different keys are open
 unfoldable pub keys : List Entry → ℕ
 keys [] = 0
-keys (e ∷ es) = if (any (of (e .key)) es) (keys es) (suc (keys es))
+keys (e ∷ es) = cond (any (of (e .key)) es) (keys es) (suc (keys es))
 
 -- ---- the time
 
@@ -142,12 +143,12 @@ complete (suc n) fs = complete n fs && any (within n) fs
 -- the fragment that is marked last
 unfoldable pub lastOne : List Content → Option Content
 lastOne [] = none
-lastOne (f ∷ fs) = if (f .last) (some f) (lastOne fs)
+lastOne (f ∷ fs) = cond (f .last) (some f) (lastOne fs)
 
 -- the byte at place i
 unfoldable pub byteAt : List Content → ℕ → ℕ
 byteAt [] i = 0
-byteAt (f ∷ fs) i = if (within i f) (getD (f .bytes) (i - f .place) 0) (byteAt fs i)
+byteAt (f ∷ fs) i = cond (within i f) (getD (f .bytes) (i - f .place) 0) (byteAt fs i)
 
 -- the bytes before place n
 unfoldable pub bytesTo : ℕ → List Content → List ℕ
@@ -235,7 +236,7 @@ with e b = mine (e .key) (b .open-ones) ++ e .content ∷ []
 abbrev pub finished : Entry → List ℕ → Book → Option Content → Result
 finished e out b none = leaving stored out (storing e b)
 finished e out b (some l) =
-    if (complete (endOf l) (with e b))
+    cond (complete (endOf l) (with e b))
     (leaving (delivered (endOf l) (l .start)) (bytesTo (endOf l) (with e b) ++ drop (endOf l) out) (delivering (e .key) (size (e .content)) b))
     (leaving stored out (storing e b))
 
@@ -258,10 +259,10 @@ isFull e b = eqb (length (mine (e .key) (b .open-ones))) fragmentLimit
 
 unfoldable pub fate : Entry → List ℕ → Book → Result
 fate e out b =
-    if (noRoom e b) (leaving (refused 29) out (rejecting (size (e .content)) b))
-    (if (isRepeat e b) (leaving repeated out (repeating (size (e .content)) b))
-    (if (isConflict e b) (leaving conflict out (conflicting (e .key) (size (e .content)) b))
-    (if (isFull e b) (leaving (refused 30) out (rejecting (size (e .content)) b))
+    cond (noRoom e b) (leaving (refused 29) out (rejecting (size (e .content)) b))
+    (cond (isRepeat e b) (leaving repeated out (repeating (size (e .content)) b))
+    (cond (isConflict e b) (leaving conflict out (conflicting (e .key) (size (e .content)) b))
+    (cond (isFull e b) (leaving (refused 30) out (rejecting (size (e .content)) b))
     (taking e out b))))
 
 -- ---- the calls
@@ -286,7 +287,7 @@ unfoldable pub entry : Offer → Entry
 entry o = record {
   key = o .key;
   time = o .time;
-  content = record { place = o .place; bytes = o .bytes; last = o .last; start = if (o .last) (o .start) 0 };
+  content = record { place = o .place; bytes = o .bytes; last = o .last; start = cond (o .last) (o .start) 0 };
 }
 
 -- 20 and 21 are the table's, and come before these

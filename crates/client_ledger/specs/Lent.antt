@@ -5,8 +5,8 @@ use Prim.Native.Nat.{ℕ, _*_}
 use mathlib.Core.Bool.{Bool, not, _||_}
 use mathlib.Core.List.{List, [], _∷_}
 use lib.Dec.{ltb, eqb}
+use Rattle.number_tests.specs.Tests.{firstOf}
 use Rattle.client_record.specs.Limits.{shareSize, clientLimit}
-use Rattle.client_reassembly.specs.Answer.{firstOf}
 use Rattle.client_ledger.specs.Book.{Book, empty, Result, Call, fragment, clock, bill, refuseOr, call}
 use Rattle.client_ledger.specs.History.{Lent}
 

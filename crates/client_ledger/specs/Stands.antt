@@ -2,19 +2,18 @@
 -- open fragments. The order of different keys differs between the two (places against arrival), so they are compared key by key.
 use Prim.Native.Nat.{ℕ, _+_, _<_}
 use mathlib.Core.Path.{_≡_}
-use mathlib.Core.Bool.{Bool, true, false, _&&_}
+use mathlib.Core.Bool.{Bool, true, false, _&&_, cond}
 use mathlib.Core.List.{List, [], map}
 use lib.ListN.{length, getD}
 use Rattle.number_octets.specs.Octets.{part}
 use Rattle.client_record.specs.declared.Fragment.{Fragment}
 use Rattle.client_record.specs.declared.Assembly.{Assembly}
 use Rattle.client_record.specs.declared.Client.{Client}
-use Rattle.client_record.specs.Lists.{if, any}
+use Rattle.client_record.specs.Lists.{any}
 use Rattle.client_record.specs.Record.{isLast, freshAssembly, live, heldFragments, soundRecord}
 use Rattle.client_reassembly.specs.declared.Arrival.{Arrival}
 use Rattle.client_reassembly.specs.Advance.{Turn}
 use Rattle.client_reassembly.specs.Offer.{base, Outcome}
-unfoldable pub use Rattle.client_ledger.specs.Shapes.{slotted}
 pub use Rattle.client_ledger.specs.Shapes.{Shaped}
 use Rattle.client_ledger.specs.Book.{Key, Content, Entry, Book, held, sameKey, mine, openedAt, Result, Offer}
 
@@ -35,7 +34,7 @@ contentOf share p f = record {
   place = f .offset;
   bytes = part (base p + f .offset) (f .length) share;
   last = isLast f;
-  start = if (isLast f) (f .«option_start») 0;
+  start = cond (isLast f) (f .«option_start») 0;
 }
 
 -- the live assembly a at place p is what the entries have of its key, in order, opened when the first came

@@ -5,7 +5,7 @@ use mathlib.Core.Bool.{true, false}
 use mathlib.Core.List.{List, _++_}
 use mathlib.Core.Option.{none, some}
 use lib.ListN.{drop}
-use Rattle.client_reassembly.specs.Answer.{firstOf}
+use Rattle.number_tests.specs.Tests.{firstOf}
 use Rattle.client_ledger.specs.Book.{
   Content,
   Book,

@@ -10,12 +10,12 @@ use lib.Dec.{leb, ltb}
 use lib.ListN.{length, take, drop, getD, length-take, length-drop, take-append-drop}
 use lib.Seq.{take-append-le, drop-append-le, drop-drop, getD-take, getD-drop}
 use borrow.Author.Tests.{leb-true, ltb-true, ltb-false}
+use Rattle.number_tests.proofs.Tests.{both-true}
 use Rattle.number_octets.specs.Octets.{part, overlay}
 use Rattle.number_octets.proofs.Laws.{part-overlay, drop-overlay}
 use Rattle.client_record.specs.declared.Fragment.{Fragment}
 use Rattle.client_record.specs.Limits.{datagramLimit, assemblyLimit, shareSize}
 use Rattle.client_record.specs.Record.{end, covers, overlaps}
-use Rattle.client_record.proofs.Tests.{both-true}
 use Rattle.client_reassembly.specs.Offer.{base, startOf}
 
 -- ---- a part beside what was laid over

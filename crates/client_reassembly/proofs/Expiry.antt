@@ -1,13 +1,13 @@
 -- What expires is held: the bytes lost are at most those held, and the figures stay within the limit.
 -- Assumes nothing.
 use mathlib.Core.Path.{_≡_}
-use mathlib.Core.Bool.{Bool, true, false}
+use mathlib.Core.Bool.{Bool, true, false, cond}
 use Prim.Native.Nat.{ℕ, _+_, _≤_}
 use native.Mathlib.Omega.{arith}
 use Rattle.client_record.specs.declared.Assembly.{Assembly}
 use Rattle.client_record.specs.declared.Client.{Client}
 use Rattle.client_record.specs.Limits.{offeredLimit}
-use Rattle.client_record.specs.Lists.{if, sum}
+use Rattle.client_record.specs.Lists.{sum}
 use Rattle.client_record.specs.Record.{bytesHeld, figureSum, soundRecord}
 use Rattle.client_record.proofs.SoundParts.{sound-parts, sum-le}
 use Rattle.client_reassembly.specs.Advance.{old, lost}
@@ -16,7 +16,7 @@ lost-le : (t : ℕ) (a : Assembly) → lost t a ≤ bytesHeld a
 unfolding lost
 lost-le t a = go (old t a)
   where
-    go : (b : Bool) → if b (bytesHeld a) 0 ≤ bytesHeld a
+    go : (b : Bool) → cond b (bytesHeld a) 0 ≤ bytesHeld a
     go true = omega arith
     go false = omega arith
 

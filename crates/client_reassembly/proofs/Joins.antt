@@ -1,7 +1,7 @@
 -- Laws of a fragment that joins an assembly: what is held with it, and that the end of the last one is within the limit.
 -- Assumes nothing.
 use mathlib.Core.Path.{_≡_, ap, ap₂, _∙_}
-use mathlib.Core.Bool.{Bool, true, false, _&&_}
+use mathlib.Core.Bool.{Bool, true, false, _&&_, cond}
 use mathlib.Core.List.{List, [], _∷_, _++_}
 use Prim.Native.Nat.{ℕ, _<_, _≤_}
 use native.Mathlib.Numerals.{add-one}
@@ -9,13 +9,13 @@ use native.Mathlib.Omega.{arith}
 use lib.ListN.{length, take, set}
 use lib.Seq.{take-suc-set}
 use borrow.Author.Tests.{leb-true, le-leb}
+use Rattle.number_tests.proofs.Tests.{both-true}
 use Rattle.client_record.specs.declared.Fragment.{Fragment}
 use Rattle.client_record.specs.declared.Assembly.{Assembly}
 use Rattle.client_record.specs.Limits.{datagramLimit}
-use Rattle.client_record.specs.Lists.{if, all}
+use Rattle.client_record.specs.Lists.{all}
 use Rattle.client_record.specs.Record.{freshFragment, isLast, end, fits, lastOf, heldFragments}
 use Rattle.client_record.proofs.Lists.{all-append}
-use Rattle.client_record.proofs.Tests.{both-true}
 use Rattle.client_reassembly.specs.Offer.{added}
 
 -- the fragment is listed after the earlier ones
@@ -37,7 +37,7 @@ unfolding lastOf all
 last-within [] e = none-within
 last-within (f ∷ fs) e = go (isLast f) (last-within fs (both-true (fits f) (all fits fs) e .1)) (fits-within f (both-true (fits f) (all fits fs) e .0))
   where
-    go : (b : Bool) → end (lastOf fs) ≤ datagramLimit → end f ≤ datagramLimit → end (if b f (lastOf fs)) ≤ datagramLimit
+    go : (b : Bool) → end (lastOf fs) ≤ datagramLimit → end f ≤ datagramLimit → end (cond b f (lastOf fs)) ≤ datagramLimit
     go true h k = k
     go false h k = h
 

@@ -1,7 +1,7 @@
 -- The record test passes again after every call: what the one-client theorem rests on.
 -- Assumes nothing.
 use mathlib.Core.Path.{_≡_, refl, sym, ap, ap₂, _∙_}
-use mathlib.Core.Bool.{Bool, true, false, not, _&&_, _||_}
+use mathlib.Core.Bool.{Bool, true, false, not, _&&_, _||_, cond}
 use mathlib.Core.List.{List, [], _∷_, map}
 use Prim.Native.Nat.{ℕ, zero, suc, _+_, _<_, _≤_}
 use native.Mathlib.Nat.{not-suc-le-zero, le-of-suc-le-suc}
@@ -9,10 +9,11 @@ use native.Mathlib.Omega.{arith}
 use lib.Dec.{leb, ltb}
 use lib.ListN.{length, getD, set}
 use borrow.Author.Tests.{leb-true, leb-false, eq-eqb, le-leb, lt-ltb}
+use Rattle.number_tests.proofs.Tests.{both-true}
 use Rattle.client_record.specs.declared.Assembly.{Assembly}
 use Rattle.client_record.specs.declared.Client.{Client}
 use Rattle.client_record.specs.Limits.{fragmentLimit, addressSize, lifetime, offeredLimit}
-use Rattle.client_record.specs.Lists.{if, sameBytes, all, any, pairs, sum}
+use Rattle.client_record.specs.Lists.{sameBytes, all, any, pairs, sum}
 use Rattle.client_record.specs.Record.{
   freshFragment,
   freshFlow,
@@ -41,7 +42,6 @@ use Rattle.client_record.specs.Record.{
 }
 use Rattle.client_record.proofs.Lists.{and-false}
 use Rattle.client_record.proofs.SoundParts.{Sound, sound-parts, all-at, all-weaker, all-map}
-use Rattle.client_record.proofs.Tests.{both-true}
 use Rattle.client_reassembly.specs.Advance.{old, expire, elapse}
 use Rattle.client_reassembly.specs.Offer.{rejecting, repeating, conflicting, delivering}
 use Rattle.client_reassembly.proofs.Expiry.{gone}
@@ -167,9 +167,9 @@ unfolding live freshAssembly
 fresh-not-live = refl
 
 -- an assembly is sound by its live test, or as an unused one
-pub sound-by : (t : ℕ) (a : Assembly) (b : Bool) → live a ≡ b → if b (soundLive t a) (isFreshAssembly a) ≡ true → soundAssembly t a ≡ true
+pub sound-by : (t : ℕ) (a : Assembly) (b : Bool) → live a ≡ b → cond b (soundLive t a) (isFreshAssembly a) ≡ true → soundAssembly t a ≡ true
 unfolding soundAssembly
-sound-by t a b l h = ap (λ (x : Bool). if x (soundLive t a) (isFreshAssembly a)) l ∙ h
+sound-by t a b l h = ap (λ (x : Bool). cond x (soundLive t a) (isFreshAssembly a)) l ∙ h
 
 pub fresh-sound : (t : ℕ) → soundAssembly t freshAssembly ≡ true
 fresh-sound t = sound-by t freshAssembly false fresh-not-live fresh-is-fresh
@@ -186,10 +186,10 @@ later-sound : (u t : ℕ) (a : Assembly) → u ≤ t → old t a ≡ false → s
 unfolding soundAssembly
 later-sound u t a le o s = go (live a) refl s
   where
-    go : (b : Bool) → live a ≡ b → if b (soundLive u a) (isFreshAssembly a) ≡ true → if (live a) (soundLive t a) (isFreshAssembly a) ≡ true
+    go : (b : Bool) → live a ≡ b → cond b (soundLive u a) (isFreshAssembly a) ≡ true → cond (live a) (soundLive t a) (isFreshAssembly a) ≡ true
     go true l h =
         let k = live-parts u a h in
-        ap (λ (x : Bool). if x (soundLive t a) (isFreshAssembly a)) l
+        ap (λ (x : Bool). cond x (soundLive t a) (isFreshAssembly a)) l
         ∙ live-from t a
         (record {
           slots = k .slots;
@@ -199,13 +199,13 @@ later-sound u t a le o s = go (live a) refl s
           opened = opened-later u t a le l o (k .opened);
           spare = k .spare;
         })
-    go false l h = ap (λ (x : Bool). if x (soundLive t a) (isFreshAssembly a)) l ∙ h
+    go false l h = ap (λ (x : Bool). cond x (soundLive t a) (isFreshAssembly a)) l ∙ h
 
 expire-sound : (u t : ℕ) (a : Assembly) → u ≤ t → soundAssembly u a ≡ true → soundAssembly t (expire t a) ≡ true
 unfolding expire
 expire-sound u t a le s = go (old t a) refl
   where
-    go : (b : Bool) → old t a ≡ b → soundAssembly t (if b freshAssembly a) ≡ true
+    go : (b : Bool) → old t a ≡ b → soundAssembly t (cond b freshAssembly a) ≡ true
     go true o = fresh-sound t
     go false o = later-sound u t a le o s
 
@@ -223,8 +223,8 @@ expire-keys : (t : ℕ) (x y : Assembly) → not (sameLiveKey x y) ≡ true → 
 unfolding expire
 expire-keys t x y e = go (old t x) (old t y)
   where
-    go : (a b : Bool) → not (sameLiveKey (if a freshAssembly x) (if b freshAssembly y)) ≡ true
-    go true b = fresh-first (if b freshAssembly y)
+    go : (a b : Bool) → not (sameLiveKey (cond a freshAssembly x) (cond b freshAssembly y)) ≡ true
+    go true b = fresh-first (cond b freshAssembly y)
     go false true = fresh-second x
     go false false = e
 

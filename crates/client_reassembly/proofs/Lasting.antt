@@ -2,7 +2,7 @@
 -- A record's lists are as long as the code's arrays are (`Shaped`); that lasts too.
 -- Assumes nothing.
 use mathlib.Core.Path.{_≡_, refl, sym, ap, ap₂, _∙_, subst}
-use mathlib.Core.Bool.{Bool, true, false, not, _&&_}
+use mathlib.Core.Bool.{Bool, true, false, not, _&&_, cond}
 use mathlib.Core.List.{List}
 use mathlib.Core.Option.{Option, none, some}
 use Prim.Native.Nat.{ℕ, zero, suc, _+_, _<_, _≤_}
@@ -10,12 +10,14 @@ use native.Mathlib.Omega.{arith}
 use lib.Dec.{eqb, ltb}
 use lib.ListN.{length, getD, set, length-set, length-map, length-replicate, replicate}
 use borrow.Author.Tests.{eqb-true, eqb-false, ltb-false, eq-eqb, not-false}
+use Rattle.number_tests.proofs.Tests.{cond-yes, cond-no}
+use Rattle.number_tests.specs.Tests.{firstOf}
 use Rattle.number_octets.specs.Octets.{part, overlay}
 use Rattle.client_record.specs.declared.Fragment.{Fragment}
 use Rattle.client_record.specs.declared.Assembly.{Assembly}
 use Rattle.client_record.specs.declared.Client.{Client}
 use Rattle.client_record.specs.Limits.{fragmentLimit, assemblyLimit, offeredLimit}
-use Rattle.client_record.specs.Lists.{if, all, any, pairs, sum}
+use Rattle.client_record.specs.Lists.{all, any, pairs, sum}
 use Rattle.client_record.specs.Record.{
   freshFragment,
   freshAssembly,
@@ -36,8 +38,9 @@ use Rattle.client_record.specs.Record.{
 }
 use Rattle.client_record.proofs.Lists.{and-false}
 use Rattle.client_record.proofs.SoundParts.{sound-parts, all-at, all-weaker, all-map}
+use Rattle.client_reassembly.specs.Shapes.{slotted, Shaped}
 use Rattle.client_reassembly.specs.declared.Arrival.{Arrival}
-use Rattle.client_reassembly.specs.Answer.{refused, stored, repeated, conflict, advanced, firstOf}
+use Rattle.client_reassembly.specs.Answer.{refused, stored, repeated, conflict, advanced}
 use Rattle.client_reassembly.specs.Advance
 use Rattle.client_reassembly.specs.Advance.{old, expire, elapse, advanceOn}
 use Rattle.client_reassembly.specs.Offer.{
@@ -88,7 +91,7 @@ use Rattle.client_reassembly.proofs.Kept.{
   conflicting-sound,
   delivering-sound,
 }
-use Rattle.client_reassembly.proofs.Laws.{if-yes, if-no, getD-any}
+use Rattle.client_reassembly.proofs.Laws.{getD-any}
 use Rattle.client_reassembly.proofs.Passes.{passes}
 use Rattle.client_reassembly.proofs.Places.{room-place, place-le, live-at}
 use Rattle.client_reassembly.proofs.Steady.{empty-bytes, fresh-count}
@@ -96,57 +99,49 @@ use Rattle.client_reassembly.proofs.Stored.{fragment-sound, added-live,
 
 -- ---- shapes
 
--- an assembly has all its slots
-unfoldable pub shaped : Assembly → Bool
-shaped a = eqb (length (a .fragments)) fragmentLimit
+pub slots-of : (a : Assembly) → slotted a ≡ true → length (a .fragments) ≡ fragmentLimit
+unfolding slotted
+slots-of a e = eqb-true _ _ e
 
-pub record Shaped (c : Client) : Type 0 where
-  pub places : length (c .assemblies) ≡ assemblyLimit
-  pub slots : all shaped (c .assemblies) ≡ true
+pub fresh-slotted : slotted freshAssembly ≡ true
+unfolding slotted freshAssembly
+fresh-slotted = eq-eqb _ _ (length-replicate fragmentLimit freshFragment)
 
-shaped-slots : (a : Assembly) → shaped a ≡ true → length (a .fragments) ≡ fragmentLimit
-unfolding shaped
-shaped-slots a e = eqb-true _ _ e
+opening-slotted : (o : Arrival) → slotted (opening o) ≡ true
+unfolding opening slotted
+opening-slotted o = eq-eqb _ _ (slots-of freshAssembly fresh-slotted)
 
-fresh-shaped : shaped freshAssembly ≡ true
-unfolding shaped freshAssembly
-fresh-shaped = eq-eqb _ _ (length-replicate fragmentLimit freshFragment)
-
-opening-shaped : (o : Arrival) → shaped (opening o) ≡ true
-unfolding opening shaped
-opening-shaped o = eq-eqb _ _ (shaped-slots freshAssembly fresh-shaped)
-
-added-shaped : (a : Assembly) (f : Fragment) → shaped a ≡ true → shaped (added a f) ≡ true
-unfolding shaped added
-added-shaped a f e = ap (λ (n : ℕ). eqb n fragmentLimit) (length-set (a .fragments) (a .count) f) ∙ e
+pub added-slotted : (a : Assembly) (f : Fragment) → slotted a ≡ true → slotted (added a f) ≡ true
+unfolding slotted added
+added-slotted a f e = ap (λ (n : ℕ). eqb n fragmentLimit) (length-set (a .fragments) (a .count) f) ∙ e
 
 -- ---- the assembly that a fragment belongs to
 
 -- what is known of the assembly a that a fragment at place p of xs belongs to, at the time t
 record Home (t p : ℕ) (xs : List Assembly) (a : Assembly) : Type 0 where
   parts : LiveParts t a
-  slots : shaped a ≡ true
+  slots : slotted a ≡ true
   bytes : bytesHeld a ≡ bytesHeld (getD xs p freshAssembly)
   before : (f : Fragment) (j : ℕ) (d : Assembly) → j < length xs → j < p → not (sameLiveKey (getD xs j d) (added a f)) ≡ true
   behind : (f : Fragment) (j : ℕ) (d : Assembly) → j < length xs → p < j → not (sameLiveKey (added a f) (getD xs j d)) ≡ true
 
 sound-live-of : (t : ℕ) (a : Assembly) → live a ≡ true → soundAssembly t a ≡ true → soundLive t a ≡ true
 unfolding soundAssembly
-sound-live-of t a l e = sym (if-yes (live a) (soundLive t a) (isFreshAssembly a) l) ∙ e
+sound-live-of t a l e = sym (cond-yes (live a) (soundLive t a) (isFreshAssembly a) l) ∙ e
 
 not-live-empty : (a : Assembly) → live a ≡ false → a .count ≡ 0
 unfolding live
 not-live-empty a e = eqb-true (a .count) 0 (not-false _ e)
 
 module _ (t p : ℕ) (xs : List Assembly) (h : p < length xs) (each : all (soundAssembly t) xs ≡ true) (keys : keysDiffer xs ≡ true)
-    (slots : all shaped xs ≡ true) where
+    (slots : all slotted xs ≡ true) where
   home-live : live (getD xs p freshAssembly) ≡ true → Home t p xs (getD xs p freshAssembly)
   unfolding keysDiffer
   home-live l =
       let a = getD xs p freshAssembly in
       record {
         parts = live-parts t a (sound-live-of t a l (all-at (soundAssembly t) xs p freshAssembly h each));
-        slots = all-at shaped xs p freshAssembly h slots;
+        slots = all-at slotted xs p freshAssembly h slots;
         bytes = refl;
         before = λ f j d k n.
             ap not (same-key-before (getD xs j d) a f l) ∙ ap (λ (x : Assembly). not (sameLiveKey x a)) (getD-any xs j d freshAssembly k)
@@ -181,7 +176,7 @@ home-opened : (o : Arrival) (p : ℕ) (xs : List Assembly) → p < length xs →
 home-opened o p xs h e l =
     record {
       parts = opening-parts o;
-      slots = opening-shaped o;
+      slots = opening-slotted o;
       bytes = empty-bytes (opening o) (opening-count o)
           ∙ sym (empty-bytes (getD xs p freshAssembly) (not-live-empty (getD xs p freshAssembly) l));
       before = λ f j d k n. opened-before o f (getD xs j d) (any-at (matches o) xs j d k e);
@@ -190,16 +185,16 @@ home-opened o p xs h e l =
 
 -- the assembly at the offer's place is at home there
 home : (o : Arrival) (p : ℕ) (xs : List Assembly) → p ≡ placeFor o xs → p < length xs → all (soundAssembly (o .time)) xs ≡ true
-    → keysDiffer xs ≡ true → all shaped xs ≡ true → Home (o .time) p xs (assemblyFor o p xs)
+    → keysDiffer xs ≡ true → all slotted xs ≡ true → Home (o .time) p xs (assemblyFor o p xs)
 unfolding assemblyFor
 home o p xs place h each keys slots = go (any (matches o) xs) refl
   where
-    go : (b : Bool) → any (matches o) xs ≡ b → Home (o .time) p xs (if (any (matches o) xs) (getD xs p freshAssembly) (opening o))
+    go : (b : Bool) → any (matches o) xs ≡ b → Home (o .time) p xs (cond (any (matches o) xs) (getD xs p freshAssembly) (opening o))
     go true e =
-        subst (Home (o .time) p xs) (sym (if-yes (any (matches o) xs) (getD xs p freshAssembly) (opening o) e))
+        subst (Home (o .time) p xs) (sym (cond-yes (any (matches o) xs) (getD xs p freshAssembly) (opening o) e))
         (home-live (o .time) p xs h each keys slots (live-at o xs p freshAssembly place h ∙ e))
     go false e =
-        subst (Home (o .time) p xs) (sym (if-no (any (matches o) xs) (getD xs p freshAssembly) (opening o) e))
+        subst (Home (o .time) p xs) (sym (cond-no (any (matches o) xs) (getD xs p freshAssembly) (opening o) e))
         (home-opened o p xs h e (live-at o xs p freshAssembly place h ∙ e))
 
 -- ---- one fragment
@@ -216,7 +211,7 @@ module _ (c : Client) (p : ℕ) (a : Assembly) (f : Fragment) (sound : soundReco
   storing-sound ok apart full still =
       let s = sound-parts c sound in
       let free = not-full a (at .parts .slots) full in
-      let slots = shaped-slots a (at .slots) in
+      let slots = slots-of a (at .slots) in
       let fits : a .count < length (a .fragments) = omega arith in
       let parts = added-parts (c .time) a f (at .parts) free slots ok apart still in
       let total = sum-set bytesHeld (c .assemblies) p (added a f) freshAssembly h in
@@ -237,7 +232,7 @@ module _ (c : Client) (p : ℕ) (a : Assembly) (f : Fragment) (sound : soundReco
   joined-sound share out ok apart full = go (whole (heldFragments (added a f))) refl
     where
       go : (b : Bool) → whole (heldFragments (added a f)) ≡ b
-          → soundRecord (if b (handedOut c share out p a f) (leaving (storing p (added a f) (f .length) c) share out stored) .client) ≡ true
+          → soundRecord (cond b (handedOut c share out p a f) (leaving (storing p (added a f) (f .length) c) share out stored) .client) ≡ true
       go true e = delivering-sound c p a freshAssembly (f .length) sound h (at .bytes) room
       go false e = storing-sound ok apart full e
 
@@ -304,12 +299,12 @@ taken-sound c share out o bytes sound shape time sized some-bytes room = go (noR
         (placed-sound c p (assemblyFor o p xs) (fragmentOf o n) sound shape (within e) (at-home (within e))
         (subst (λ (k : ℕ). c .offered + k ≤ offeredLimit) (sym (fragment-length o n)) room) share out bytes (fragment-sound o n sized some-bytes))
 
-expire-shaped : (t : ℕ) (a : Assembly) → shaped a ≡ true → shaped (expire t a) ≡ true
+expire-slotted : (t : ℕ) (a : Assembly) → slotted a ≡ true → slotted (expire t a) ≡ true
 unfolding expire
-expire-shaped t a e = go (old t a)
+expire-slotted t a e = go (old t a)
   where
-    go : (b : Bool) → shaped (if b freshAssembly a) ≡ true
-    go true = fresh-shaped
+    go : (b : Bool) → slotted (cond b freshAssembly a) ≡ true
+    go true = fresh-slotted
     go false = e
 
 pub elapse-shaped : (t : ℕ) (c : Client) → Shaped c → Shaped (elapse t c)
@@ -317,8 +312,8 @@ unfolding elapse
 elapse-shaped t c s =
     record {
       places = length-map (c .assemblies) (expire t) ∙ s .places;
-      slots = all-map shaped (expire t) (c .assemblies)
-          ∙ all-weaker shaped (λ a. shaped (expire t a)) (expire-shaped t) (c .assemblies) (s .slots);
+      slots = all-map slotted (expire t) (c .assemblies)
+          ∙ all-weaker slotted (λ a. slotted (expire t a)) (expire-slotted t) (c .assemblies) (s .slots);
     }
 
 elapse-time : (t : ℕ) (c : Client) → elapse t c .time ≡ t
@@ -346,23 +341,23 @@ fragment-call-sound c share out o bytes sound shape = go (firstOf (offerTests c 
 
 -- ---- the shape after a fragment call
 
-set-shaped : (p : ℕ) (b : Assembly) (xs : List Assembly) → length xs ≡ assemblyLimit → all shaped xs ≡ true → shaped b ≡ true
-    → (length (set xs p b) ≡ assemblyLimit) × (all shaped (set xs p b) ≡ true)
-set-shaped p b xs n e k = (length-set xs p b ∙ n, all-set shaped xs p b e k)
+set-shaped : (p : ℕ) (b : Assembly) (xs : List Assembly) → length xs ≡ assemblyLimit → all slotted xs ≡ true → slotted b ≡ true
+    → (length (set xs p b) ≡ assemblyLimit) × (all slotted (set xs p b) ≡ true)
+set-shaped p b xs n e k = (length-set xs p b ∙ n, all-set slotted xs p b e k)
 
-module _ (c : Client) (p : ℕ) (a : Assembly) (f : Fragment) (shape : Shaped c) (own : shaped a ≡ true) where
+module _ (c : Client) (p : ℕ) (a : Assembly) (f : Fragment) (shape : Shaped c) (own : slotted a ≡ true) where
   conflicting-shaped : Shaped (conflicting p a (f .length) c)
   unfolding conflicting
-  conflicting-shaped = let k = set-shaped p freshAssembly (c .assemblies) (shape .places) (shape .slots) fresh-shaped in record { places = k .0; slots = k .1 }
+  conflicting-shaped = let k = set-shaped p freshAssembly (c .assemblies) (shape .places) (shape .slots) fresh-slotted in record { places = k .0; slots = k .1 }
 
   delivering-shaped : Shaped (delivering p a (f .length) c)
   unfolding delivering
-  delivering-shaped = let k = set-shaped p freshAssembly (c .assemblies) (shape .places) (shape .slots) fresh-shaped in record { places = k .0; slots = k .1 }
+  delivering-shaped = let k = set-shaped p freshAssembly (c .assemblies) (shape .places) (shape .slots) fresh-slotted in record { places = k .0; slots = k .1 }
 
   storing-shaped : Shaped (storing p (added a f) (f .length) c)
   unfolding storing
   storing-shaped =
-      let k = set-shaped p (added a f) (c .assemblies) (shape .places) (shape .slots) (added-shaped a f own) in record { places = k .0; slots = k .1 }
+      let k = set-shaped p (added a f) (c .assemblies) (shape .places) (shape .slots) (added-slotted a f own) in record { places = k .0; slots = k .1 }
 
   rejecting-shaped : (n : ℕ) → Shaped (rejecting n c)
   unfolding rejecting
@@ -376,7 +371,7 @@ module _ (c : Client) (p : ℕ) (a : Assembly) (f : Fragment) (shape : Shaped c)
   unfolding joined handedOut
   joined-shaped share out = go (whole (heldFragments (added a f)))
     where
-      go : (b : Bool) → Shaped (if b (handedOut c share out p a f) (leaving (storing p (added a f) (f .length) c) share out stored) .client)
+      go : (b : Bool) → Shaped (cond b (handedOut c share out p a f) (leaving (storing p (added a f) (f .length) c) share out stored) .client)
       go true = delivering-shaped
       go false = storing-shaped
 
@@ -385,21 +380,21 @@ module _ (c : Client) (p : ℕ) (a : Assembly) (f : Fragment) (shape : Shaped c)
   placed-shaped share out bytes = one (repeats a f (part (startOf p f) (f .length) share) bytes) (isConflict a f) (isFull a)
     where
       one : (x y z : Bool)
-          → Shaped (if x (leaving (repeating (f .length) c) share out repeated)
-          (if y (leaving (conflicting p a (f .length) c) share out conflict)
-          (if z (leaving (rejecting (f .length) c) share out (refused 30)) (joined c (overlay share (startOf p f) bytes) out p a f))) .client)
+          → Shaped (cond x (leaving (repeating (f .length) c) share out repeated)
+          (cond y (leaving (conflicting p a (f .length) c) share out conflict)
+          (cond z (leaving (rejecting (f .length) c) share out (refused 30)) (joined c (overlay share (startOf p f) bytes) out p a f))) .client)
       one true y z = repeating-shaped (f .length)
       one false true z = conflicting-shaped
       one false false true = rejecting-shaped (f .length)
       one false false false = joined-shaped (overlay share (startOf p f) bytes) out
 
-assembly-shaped : (o : Arrival) (p : ℕ) (xs : List Assembly) → p < length xs → all shaped xs ≡ true → shaped (assemblyFor o p xs) ≡ true
+assembly-slotted : (o : Arrival) (p : ℕ) (xs : List Assembly) → p < length xs → all slotted xs ≡ true → slotted (assemblyFor o p xs) ≡ true
 unfolding assemblyFor
-assembly-shaped o p xs h e = go (any (matches o) xs)
+assembly-slotted o p xs h e = go (any (matches o) xs)
   where
-    go : (b : Bool) → shaped (if b (getD xs p freshAssembly) (opening o)) ≡ true
-    go true = all-at shaped xs p freshAssembly h e
-    go false = opening-shaped o
+    go : (b : Bool) → slotted (cond b (getD xs p freshAssembly) (opening o)) ≡ true
+    go true = all-at slotted xs p freshAssembly h e
+    go false = opening-slotted o
 
 taken-shaped : (c : Client) (share out : List ℕ) (o : Arrival) (bytes : List ℕ) → Shaped c → Shaped (taken c share out o bytes .client)
 taken-shaped c share out o bytes shape = go (noRoom o (c .assemblies)) refl
@@ -419,10 +414,10 @@ taken-shaped c share out o bytes shape = go (noRoom o (c .assemblies)) refl
         omega (arith, ne, place-le o xs)
 
     go : (b : Bool) → noRoom o xs ≡ b → Kept (taken c share out o bytes)
-    go true e = subst Kept (sym (taken-rejected c share out o bytes e)) (rejecting-shaped c p freshAssembly (fragmentOf o 0) shape fresh-shaped (length bytes))
+    go true e = subst Kept (sym (taken-rejected c share out o bytes e)) (rejecting-shaped c p freshAssembly (fragmentOf o 0) shape fresh-slotted (length bytes))
     go false e =
         subst Kept (sym (taken-placed c share out o bytes e))
-        (placed-shaped c p (assemblyFor o p xs) (fragmentOf o (length bytes)) shape (assembly-shaped o p xs (within e) (shape .slots)) share out bytes)
+        (placed-shaped c p (assemblyFor o p xs) (fragmentOf o (length bytes)) shape (assembly-slotted o p xs (within e) (shape .slots)) share out bytes)
 
 pub fragment-call-shaped : (c : Client) (share out : List ℕ) (o : Arrival) (bytes : List ℕ) → Shaped c
     → Shaped (fragmentOn c share out o bytes .client)
@@ -441,7 +436,7 @@ unfolding advanceOn firstOf
 advance-call-sound c t sound = rw sound (go (ltb t (c .time)) refl)
   where
     go : (b : Bool) → ltb t (c .time) ≡ b
-        → soundRecord (Advance.refuseOr c (if b (some 27) none) (record { client = elapse t c; reply = advanced }) .client) ≡ true
+        → soundRecord (Advance.refuseOr c (cond b (some 27) none) (record { client = elapse t c; reply = advanced }) .client) ≡ true
     go true e = sound
     go false e = elapse-sound t c sound (ltb-false t (c .time) e)
 
@@ -478,4 +473,4 @@ fresh-client-sound =
 
 pub fresh-client-shaped : Shaped freshClient
 unfolding freshClient
-fresh-client-shaped = record { places = length-replicate assemblyLimit freshAssembly; slots = all-alike shaped assemblyLimit freshAssembly fresh-shaped }
+fresh-client-shaped = record { places = length-replicate assemblyLimit freshAssembly; slots = all-alike slotted assemblyLimit freshAssembly fresh-slotted }

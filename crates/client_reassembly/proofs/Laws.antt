@@ -1,4 +1,4 @@
--- Laws that the proofs of this crate share: choices by a test, and a list whose elements are replaced from the front.
+-- Laws that the proofs of this crate share: a comparison of times, and a list whose elements are replaced from the front.
 -- Assumes nothing.
 use mathlib.Core.Path.{_≡_, refl, sym, ap, _∙_}
 use mathlib.Core.Bool.{Bool, true, false}
@@ -10,13 +10,6 @@ use native.Mathlib.Omega.{arith}
 use lib.Dec.{leb}
 use lib.ListN.{length, take, drop, getD, set}
 use borrow.Author.Tests.{leb-true, leb-false, le-leb, lt-leb}
-use Rattle.client_record.specs.Lists.{if}
-
-pub if-yes {ℓ} : {A : Type ℓ} (b : Bool) (x y : A) → b ≡ true → if b x y ≡ x
-if-yes b x y e = ap (λ (t : Bool). if t x y) e
-
-pub if-no {ℓ} : {A : Type ℓ} (b : Bool) (x y : A) → b ≡ false → if b x y ≡ y
-if-no b x y e = ap (λ (t : Bool). if t x y) e
 
 -- t is at least k behind o
 pub behind : (o t k : ℕ) → o ≤ t → leb k (t - o) ≡ leb (o + k) t

@@ -1,7 +1,7 @@
 -- Laws of the place where a fragment belongs: the first index that passes a test, found from the front, and what stands there.
 -- Assumes nothing.
 use mathlib.Core.Path.{_≡_, refl, sym, ap, _∙_}
-use mathlib.Core.Bool.{Bool, true, false, not, _&&_, _||_}
+use mathlib.Core.Bool.{Bool, true, false, not, _&&_, _||_, cond}
 use mathlib.Core.List.{List, [], _∷_}
 use Prim.Native.Nat.{ℕ, suc, _+_, _<_, _≤_}
 use native.Mathlib.Nat.{not-suc-le-zero, le-of-suc-le-suc}
@@ -10,17 +10,16 @@ use lib.Dec.{eqb, ltb, leb·suc-suc}
 use lib.ListN.{length, drop, getD}
 use lib.Seq.{drop-length}
 use borrow.Author.Tests.{ltb-true, ltb-false, lt-ltb, eq-eqb, ne-eqb, not-true}
+use Rattle.number_tests.proofs.Tests.{both-true, cond-yes, cond-no}
 use Rattle.client_record.specs.declared.Assembly.{Assembly}
-use Rattle.client_record.specs.Lists.{if, all, any}
+use Rattle.client_record.specs.Lists.{all, any}
 use Rattle.client_record.specs.Record.{live}
 use Rattle.client_record.proofs.Lists.{drop-next}
-use Rattle.client_record.proofs.Tests.{both-true}
 use Rattle.client_reassembly.specs.declared.Arrival.{Arrival}
 use Rattle.client_reassembly.specs.Offer.{matches, firstIndex, noRoom, placeFor}
-use Rattle.client_reassembly.proofs.Laws.{if-yes, if-no}
 
 module _ {ℓ} {A : Type ℓ} (p : A → Bool) where
-  first-left : (l : List A) (i : ℕ) (d : A) → i < length l → firstIndex p (drop i l) ≡ if (p (getD l i d)) 0 (suc (firstIndex p (drop (i + 1) l)))
+  first-left : (l : List A) (i : ℕ) (d : A) → i < length l → firstIndex p (drop i l) ≡ cond (p (getD l i d)) 0 (suc (firstIndex p (drop (i + 1) l)))
   unfolding firstIndex
   first-left l i d h = ap (firstIndex p) (drop-next l i d h)
 
@@ -28,13 +27,13 @@ module _ {ℓ} {A : Type ℓ} (p : A → Bool) where
   pub first-here : (l : List A) (i : ℕ) (d : A) → i < length l → p (getD l i d) ≡ true
       → i + firstIndex p (drop i l) ≡ firstIndex p l → i ≡ firstIndex p l
   first-here l i d h t e =
-      let z : firstIndex p (drop i l) ≡ 0 = first-left l i d h ∙ if-yes (p (getD l i d)) 0 (suc (firstIndex p (drop (i + 1) l))) t in omega arith
+      let z : firstIndex p (drop i l) ≡ 0 = first-left l i d h ∙ cond-yes (p (getD l i d)) 0 (suc (firstIndex p (drop (i + 1) l))) t in omega arith
 
   pub first-later : (l : List A) (i : ℕ) (d : A) → i < length l → p (getD l i d) ≡ false
       → i + firstIndex p (drop i l) ≡ firstIndex p l → i + 1 + firstIndex p (drop (i + 1) l) ≡ firstIndex p l
   first-later l i d h t e =
       let z : firstIndex p (drop i l) ≡ suc (firstIndex p (drop (i + 1) l)) =
-      first-left l i d h ∙ if-no (p (getD l i d)) 0 (suc (firstIndex p (drop (i + 1) l))) t in
+      first-left l i d h ∙ cond-no (p (getD l i d)) 0 (suc (firstIndex p (drop (i + 1) l))) t in
       omega arith
 
   pub first-never : (l : List A) (i : ℕ) → i ≡ length l → i + firstIndex p (drop i l) ≡ firstIndex p l → i ≡ firstIndex p l
@@ -47,7 +46,7 @@ module _ {ℓ} {A : Type ℓ} (p : A → Bool) where
   first-le [] = omega arith
   first-le (x ∷ l) = go (p x) (first-le l)
     where
-      go : (b : Bool) → firstIndex p l ≤ length l → if b 0 (suc (firstIndex p l)) ≤ suc (length l)
+      go : (b : Bool) → firstIndex p l ≤ length l → cond b 0 (suc (firstIndex p l)) ≤ suc (length l)
       go true h = omega arith
       go false h = omega arith
 
@@ -57,7 +56,7 @@ module _ {ℓ} {A : Type ℓ} (p : A → Bool) where
   any-first [] = refl
   any-first (x ∷ l) = go (p x) (any-first l)
     where
-      go : (b : Bool) → any p l ≡ ltb (firstIndex p l) (length l) → (b || any p l) ≡ ltb (if b 0 (suc (firstIndex p l))) (suc (length l))
+      go : (b : Bool) → any p l ≡ ltb (firstIndex p l) (length l) → (b || any p l) ≡ ltb (cond b 0 (suc (firstIndex p l))) (suc (length l))
       go true e = sym (lt-ltb 0 (suc (length l)) (omega arith))
       go false e = e ∙ sym (leb·suc-suc (suc (firstIndex p l)) (length l))
 
@@ -70,7 +69,7 @@ module _ {ℓ} {A : Type ℓ} (p : A → Bool) where
       Found i m = p (getD m i d) ≡ true
 
       go : (b : Bool) → p x ≡ b → (firstIndex p l < length l → Found (firstIndex p l) l)
-          → if b 0 (suc (firstIndex p l)) < suc (length l) → Found (if b 0 (suc (firstIndex p l))) (x ∷ l)
+          → cond b 0 (suc (firstIndex p l)) < suc (length l) → Found (cond b 0 (suc (firstIndex p l))) (x ∷ l)
       go true e ih k = e
       go false e ih k = ih (le-of-suc-le-suc k)
 
@@ -94,11 +93,11 @@ module _ (o : Arrival) (xs : List Assembly) where
   -- the key's assembly is there, or it is not
   pub place-of-key : any (matches o) xs ≡ true → placeFor o xs ≡ firstIndex (matches o) xs
   unfolding placeFor
-  place-of-key e = if-yes (any (matches o) xs) (firstIndex (matches o) xs) (firstIndex (λ a. not (live a)) xs) e
+  place-of-key e = cond-yes (any (matches o) xs) (firstIndex (matches o) xs) (firstIndex (λ a. not (live a)) xs) e
 
   pub place-free : any (matches o) xs ≡ false → placeFor o xs ≡ firstIndex (λ a. not (live a)) xs
   unfolding placeFor
-  place-free e = if-no (any (matches o) xs) (firstIndex (matches o) xs) (firstIndex (λ a. not (live a)) xs) e
+  place-free e = cond-no (any (matches o) xs) (firstIndex (matches o) xs) (firstIndex (λ a. not (live a)) xs) e
 
   -- the place is one of the places, or just past them
   pub place-le : placeFor o xs ≤ length xs

@@ -2,18 +2,19 @@
 -- of the live fragments, and assemblies within their limits.
 -- Assumes nothing.
 use mathlib.Core.Path.{_≡_, refl, ap, ap₂, _∙_}
-use mathlib.Core.Bool.{Bool, true, false, not, _&&_}
+use mathlib.Core.Bool.{Bool, true, false, not, _&&_, cond}
 use mathlib.Core.List.{List, [], _∷_, map}
 use Prim.Native.Nat.{ℕ, _+_, _<_, _≤_}
 use native.Mathlib.Omega.{arith}
 use lib.Dec.{eqb, leb}
 use lib.ListN.{length, take, getD}
 use borrow.Author.Tests.{eqb-true, leb-true, le-leb}
+use Rattle.number_tests.proofs.Tests.{both-true}
 use Rattle.client_record.specs.declared.Fragment.{Fragment}
 use Rattle.client_record.specs.declared.Assembly.{Assembly}
 use Rattle.client_record.specs.declared.Client.{Client}
 use Rattle.client_record.specs.Limits.{fragmentLimit, offeredLimit}
-use Rattle.client_record.specs.Lists.{if, all, any, sum}
+use Rattle.client_record.specs.Lists.{all, any, sum}
 use Rattle.client_record.specs.Record.{
   freshFlow,
   freshAssembly,
@@ -37,7 +38,6 @@ use Rattle.client_record.specs.Record.{
   soundRecord,
 }
 use Rattle.client_record.proofs.SoundParts.{sound-parts, part-le, all-at, all-weaker, all-map}
-use Rattle.client_record.proofs.Tests.{both-true}
 use Rattle.client_reassembly.specs.declared.Arrival.{Arrival}
 use Rattle.client_reassembly.specs.Advance.{old, expire, lost, elapse}
 use Rattle.client_reassembly.specs.Offer.{matches, opening, assemblyFor}
@@ -90,7 +90,7 @@ sound-steady : (t : ℕ) (a : Assembly) → soundAssembly t a ≡ true → stead
 unfolding soundAssembly
 sound-steady t a e = go (live a) e
   where
-    go : (b : Bool) → if b (soundLive t a) (isFreshAssembly a) ≡ true → steady a ≡ true
+    go : (b : Bool) → cond b (soundLive t a) (isFreshAssembly a) ≡ true → steady a ≡ true
     go true h = live-steady t a h
     go false h = empty-steady a (unused-count a h)
 
@@ -98,7 +98,7 @@ expire-steady : (t u : ℕ) (a : Assembly) → soundAssembly u a ≡ true → st
 unfolding expire
 expire-steady t u a e = go (old t a)
   where
-    go : (b : Bool) → steady (if b freshAssembly a) ≡ true
+    go : (b : Bool) → steady (cond b freshAssembly a) ≡ true
     go true = empty-steady freshAssembly fresh-count
     go false = sound-steady u a e
 
@@ -108,7 +108,7 @@ expire-bytes : (t : ℕ) (a : Assembly) → bytesHeld a ≡ bytesHeld (expire t 
 unfolding expire lost
 expire-bytes t a = go (old t a)
   where
-    go : (b : Bool) → bytesHeld a ≡ bytesHeld (if b freshAssembly a) + if b (bytesHeld a) 0
+    go : (b : Bool) → bytesHeld a ≡ bytesHeld (cond b freshAssembly a) + cond b (bytesHeld a) 0
     go true = omega (arith, empty-bytes freshAssembly fresh-count)
     go false = omega arith
 
@@ -152,7 +152,7 @@ assembly-fit c o p held each h = go (any (matches o) (c .assemblies))
     new-count : opening o .count ≡ 0
     new-count = refl
 
-    go : (b : Bool) → Fit c (if b (getD (c .assemblies) p freshAssembly) (opening o))
+    go : (b : Bool) → Fit c (cond b (getD (c .assemblies) p freshAssembly) (opening o))
     go true =
         steady-fit c (getD (c .assemblies) p freshAssembly) (all-at steady (c .assemblies) p freshAssembly h each)
         (omega (arith, held, part-le bytesHeld (c .assemblies) p freshAssembly h))

@@ -1,7 +1,7 @@
 -- The record test passes again after a fragment is stored, and so after every fragment call.
 -- Assumes nothing.
 use mathlib.Core.Path.{_≡_, refl, sym, ap, ap₂, _∙_}
-use mathlib.Core.Bool.{Bool, true, false, not, _&&_, _||_}
+use mathlib.Core.Bool.{Bool, true, false, not, _&&_, _||_, cond}
 use mathlib.Core.List.{List, [], _∷_}
 use Prim.Native.Nat.{ℕ, _+_, _<_, _≤_}
 use native.Mathlib.Omega.{arith}
@@ -9,11 +9,12 @@ use lib.Dec.{eqb, leb, ltb}
 use lib.ListN.{length, drop, getD}
 use lib.Seq.{drop-set-lt}
 use borrow.Author.Tests.{eqb-true, eqb-false, ltb-false, eq-eqb, ne-eqb, le-leb, lt-ltb}
+use Rattle.number_tests.proofs.Tests.{both-true}
 use Rattle.client_record.specs.declared.Fragment.{Fragment}
 use Rattle.client_record.specs.declared.Flow.{Flow}
 use Rattle.client_record.specs.declared.Assembly.{Assembly}
 use Rattle.client_record.specs.Limits.{datagramLimit, fragmentLimit, lifetime}
-use Rattle.client_record.specs.Lists.{if, sameBytes, all, pairs, sum}
+use Rattle.client_record.specs.Lists.{sameBytes, all, pairs, sum}
 use Rattle.client_record.specs.Record.{
   freshFragment,
   freshAssembly,
@@ -38,7 +39,6 @@ use Rattle.client_record.specs.Record.{
   sameLiveKey,
 }
 use Rattle.client_record.proofs.Lists.{all-append, all-not, all-left, pairs-append, sum-append}
-use Rattle.client_record.proofs.Tests.{both-true}
 use Rattle.client_record.proofs.Held.{marks-last}
 use Rattle.client_reassembly.specs.declared.Arrival.{Arrival}
 use Rattle.client_reassembly.specs.Offer.{fragmentOf, opening, isConflict, added}
@@ -52,10 +52,10 @@ pub fragment-sound : (o : Arrival) (n : ℕ) → Sized o n → (n ≡ 0 → ⊥)
 unfolding fragmentOf soundFragment nonEmpty fits end startsOptionsInside
 fragment-sound o n s some =
     ap₂ _&&_ (ap not (ne-eqb n 0 some))
-    (ap₂ _&&_ (le-leb (o .offset .0 + n) datagramLimit (s .ends)) (ap (λ (b : Bool). not b || leb (if (o .last) (o .«option_start» .0) 0) (o .offset .0 + n)) (marks-last (fragmentOf o n) (o .last) refl) ∙ inside (o .last) (s .starts)))
+    (ap₂ _&&_ (le-leb (o .offset .0 + n) datagramLimit (s .ends)) (ap (λ (b : Bool). not b || leb (cond (o .last) (o .«option_start» .0) 0) (o .offset .0 + n)) (marks-last (fragmentOf o n) (o .last) refl) ∙ inside (o .last) (s .starts)))
   where
     inside : (b : Bool) → b && ltb (o .offset .0 + n) (o .«option_start» .0) ≡ false
-        → not b || leb (if b (o .«option_start» .0) 0) (o .offset .0 + n) ≡ true
+        → not b || leb (cond b (o .«option_start» .0) 0) (o .offset .0 + n) ≡ true
     inside true e = le-leb (o .«option_start» .0) (o .offset .0 + n) (ltb-false (o .offset .0 + n) (o .«option_start» .0) e)
     inside false e = refl
 

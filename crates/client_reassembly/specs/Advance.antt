@@ -1,15 +1,16 @@
 -- The clock and the account of one client (document 01, "The table": clock, bill), and expiry, which the fragment call shares.
 use Prim.Native.Nat.{ℕ, _+_, _-_}
-use mathlib.Core.Bool.{Bool, not, _&&_}
+use mathlib.Core.Bool.{Bool, not, _&&_, cond}
 use mathlib.Core.List.{List, [], _∷_, map}
 use mathlib.Core.Option.{Option, none, some}
 use lib.Dec.{leb, ltb}
+use Rattle.number_tests.specs.Tests.{firstOf}
 use Rattle.client_record.specs.declared.Assembly.{Assembly}
 use Rattle.client_record.specs.declared.Client.{Client}
 use Rattle.client_record.specs.Limits.{lifetime}
-use Rattle.client_record.specs.Lists.{if, sum}
+use Rattle.client_record.specs.Lists.{sum}
 use Rattle.client_record.specs.Record.{freshAssembly, live, bytesHeld, soundRecord}
-use Rattle.client_reassembly.specs.Answer.{Reply, refused, advanced, account, firstOf}
+use Rattle.client_reassembly.specs.Answer.{Reply, refused, advanced, account}
 
 -- opened the lifetime ago or more
 unfoldable pub old : ℕ → Assembly → Bool
@@ -17,11 +18,11 @@ old t a = live a && leb (a .opened + lifetime) t
 
 -- an old assembly's place becomes fresh
 unfoldable pub expire : ℕ → Assembly → Assembly
-expire t a = if (old t a) freshAssembly a
+expire t a = cond (old t a) freshAssembly a
 
 -- the bytes of the fragments that expire with it
 unfoldable pub lost : ℕ → Assembly → ℕ
-lost t a = if (old t a) (bytesHeld a) 0
+lost t a = cond (old t a) (bytesHeld a) 0
 
 -- the client's time is t, and what is old expires
 unfoldable pub elapse : ℕ → Client → Client

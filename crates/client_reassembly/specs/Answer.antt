@@ -1,9 +1,6 @@
 -- What a call answers, in document 01's numbers and values, and the cases of the code's enums that stand for them.
 use Prim.Native.Nat.{ℕ}
-use mathlib.Core.Bool.{Bool}
 use mathlib.Core.List.{List, [], _∷_}
-use mathlib.Core.Option.{Option, none, some}
-use Rattle.client_record.specs.Lists.{if}
 use Rattle.client_reassembly.specs.declared.Refusal.{Refusal}
 use Rattle.client_reassembly.specs.declared.Refusal.the-variants.{
   TableMisfit,
@@ -59,8 +56,3 @@ replyOf Conflict = conflict
 replyOf (Delivered n s) = delivered n (s .0)
 replyOf Advanced = advanced
 replyOf (Account f) = account (figuresOf f)
-
--- tests in order, each with the number of its refusal: the first that applies
-unfoldable pub firstOf : List (Bool × ℕ) → Option ℕ
-firstOf [] = none
-firstOf (x ∷ xs) = if (x .0) (some (x .1)) (firstOf xs)

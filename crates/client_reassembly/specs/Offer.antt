@@ -1,16 +1,17 @@
 -- The fragment call of one client (document 01, "The table": piece), from refusal 22 on: the next record, share, out and answer.
 use Prim.Native.Nat.{ℕ, suc, _+_, _-_, _*_}
-use mathlib.Core.Bool.{Bool, not, _&&_, _||_}
+use mathlib.Core.Bool.{Bool, not, _&&_, _||_, cond}
 use mathlib.Core.List.{List, [], _∷_}
 use mathlib.Core.Option.{Option, none, some}
 use lib.Dec.{eqb, ltb}
 use lib.ListN.{length, getD, set}
+use Rattle.number_tests.specs.Tests.{firstOf}
 use Rattle.number_octets.specs.Octets.{part, overlay}
 use Rattle.client_record.specs.declared.Fragment.{Fragment}
 use Rattle.client_record.specs.declared.Assembly.{Assembly}
 use Rattle.client_record.specs.declared.Client.{Client}
 use Rattle.client_record.specs.Limits.{datagramLimit, fragmentLimit, offeredLimit}
-use Rattle.client_record.specs.Lists.{if, sameMark, sameBytes, all, any}
+use Rattle.client_record.specs.Lists.{sameMark, sameBytes, all, any}
 use Rattle.client_record.specs.Record.{
   freshAssembly,
   isLast,
@@ -26,7 +27,7 @@ use Rattle.client_record.specs.Record.{
   soundRecord,
 }
 use Rattle.client_reassembly.specs.declared.Arrival.{Arrival}
-use Rattle.client_reassembly.specs.Answer.{Reply, refused, stored, repeated, conflict, delivered, firstOf}
+use Rattle.client_reassembly.specs.Answer.{Reply, refused, stored, repeated, conflict, delivered}
 use Rattle.client_reassembly.specs.Advance.{elapse}
 
 -- ---- refusals 22 to 28
@@ -47,7 +48,7 @@ offerTests c m o n =
 
 -- the fragment as it is stored: r is 0 unless it is the last one
 unfoldable pub fragmentOf : Arrival → ℕ → Fragment
-fragmentOf o n = record { offset = o .offset .0; length = n; «option_start» = if (o .last) (o .«option_start» .0) 0; last = markOf (o .last) }
+fragmentOf o n = record { offset = o .offset .0; length = n; «option_start» = cond (o .last) (o .«option_start» .0) 0; last = markOf (o .last) }
 
 -- the live assembly of the offer's key
 unfoldable pub matches : Arrival → Assembly → Bool
@@ -56,7 +57,7 @@ matches o a = live a && hasKey (o .flow) (o .identification) a
 -- the index of the first element that passes, the length if there is none
 unfoldable pub firstIndex {ℓ} : {A : Type ℓ} → (A → Bool) → List A → ℕ
 firstIndex p [] = 0
-firstIndex p (x ∷ xs) = if (p x) 0 (suc (firstIndex p xs))
+firstIndex p (x ∷ xs) = cond (p x) 0 (suc (firstIndex p xs))
 
 -- 29: no assembly with this key, and every place live
 unfoldable pub noRoom : Arrival → List Assembly → Bool
@@ -64,7 +65,7 @@ noRoom o xs = not (any (matches o) xs) && all live xs
 
 -- the place of the key's assembly, or the lowest free one
 unfoldable pub placeFor : Arrival → List Assembly → ℕ
-placeFor o xs = if (any (matches o) xs) (firstIndex (matches o) xs) (firstIndex (λ a. not (live a)) xs)
+placeFor o xs = cond (any (matches o) xs) (firstIndex (matches o) xs) (firstIndex (λ a. not (live a)) xs)
 
 -- an assembly that the offer opens, before its first fragment
 unfoldable pub opening : Arrival → Assembly
@@ -78,7 +79,7 @@ opening o = record {
 
 -- the assembly at place p that the fragment belongs to
 unfoldable pub assemblyFor : Arrival → ℕ → List Assembly → Assembly
-assemblyFor o p xs = if (any (matches o) xs) (getD xs p freshAssembly) (opening o)
+assemblyFor o p xs = cond (any (matches o) xs) (getD xs p freshAssembly) (opening o)
 
 -- ---- what becomes of it
 
@@ -206,7 +207,7 @@ handedOut c share out p a f =
 -- a fragment whose bytes are stored joins the assembly: the original is handed out if the last one is held and 0 to T is covered
 unfoldable pub joined : Client → List ℕ → List ℕ → ℕ → Assembly → Fragment → Outcome
 joined c share out p a f =
-    if (whole (heldFragments (added a f))) (handedOut c share out p a f) (leaving (storing p (added a f) (f .length) c) share out stored)
+    cond (whole (heldFragments (added a f))) (handedOut c share out p a f) (leaving (storing p (added a f) (f .length) c) share out stored)
 
 -- where its bytes are stored in the share
 unfoldable pub startOf : ℕ → Fragment → ℕ
@@ -215,16 +216,16 @@ startOf p f = base p + f .offset
 -- a fragment f of these bytes for the assembly a at place p
 unfoldable pub placed : Client → List ℕ → List ℕ → ℕ → Assembly → Fragment → List ℕ → Outcome
 placed c share out p a f bytes =
-    if (repeats a f (part (startOf p f) (f .length) share) bytes) (leaving (repeating (f .length) c) share out repeated)
-    (if (isConflict a f) (leaving (conflicting p a (f .length) c) share out conflict)
-    (if (isFull a) (leaving (rejecting (f .length) c) share out (refused 30))
+    cond (repeats a f (part (startOf p f) (f .length) share) bytes) (leaving (repeating (f .length) c) share out repeated)
+    (cond (isConflict a f) (leaving (conflicting p a (f .length) c) share out conflict)
+    (cond (isFull a) (leaving (rejecting (f .length) c) share out (refused 30))
     (joined c (overlay share (startOf p f) bytes) out p a f)))
 
 -- after 28: c has the call's time, and what is old has expired
 unfoldable pub taken : Client → List ℕ → List ℕ → Arrival → List ℕ → Outcome
 taken c share out o bytes =
     let p = placeFor o (c .assemblies) in
-    if (noRoom o (c .assemblies)) (leaving (rejecting (length bytes) c) share out (refused 29))
+    cond (noRoom o (c .assemblies)) (leaving (rejecting (length bytes) c) share out (refused 29))
     (placed c share out p (assemblyFor o p (c .assemblies)) (fragmentOf o (length bytes)) bytes)
 
 -- a refusal changes nothing

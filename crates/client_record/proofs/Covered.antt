@@ -3,19 +3,19 @@
 -- Assumes nothing.
 use Prim.Native.Nat.{ℕ, zero, suc, _+_, _<_, _≤_}
 use mathlib.Core.Path.{_≡_, refl, sym, ap, subst, _∙_}
-use mathlib.Core.Bool.{Bool, true, false, _&&_, _||_}
+use mathlib.Core.Bool.{Bool, true, false, _&&_, _||_, cond}
 use mathlib.Core.List.{List, [], _∷_}
 use native.Mathlib.Nat.{not-suc-le-zero}
 use native.Mathlib.Omega.{arith}
 use lib.Dec.{leb, ltb}
 use lib.ListN.{length, drop, getD}
 use borrow.Author.Tests.{leb-true, ltb-true, ltb-false, le-leb, lt-ltb}
+use Rattle.number_tests.proofs.Tests.{both-true}
 use Rattle.client_record.specs.declared.Fragment.{Fragment}
-use Rattle.client_record.specs.Lists.{if, any}
+use Rattle.client_record.specs.Lists.{any}
 use Rattle.client_record.specs.Record.{end, covers, coveredTo}
 use Rattle.client_record.specs.Post.{beyond}
 use Rattle.client_record.proofs.Lists.{drop-next}
-use Rattle.client_record.proofs.Tests.{both-true}
 
 true-false : true ≡ false → ⊥
 true-false e = let z : _≡_ {A = ℕ} 0 1 = cc in omega arith
@@ -28,7 +28,7 @@ or-true false b e = e
 
 -- looked for from i on
 pub beyond-left : (at : ℕ) (fs : List Fragment) (i : ℕ) (d : Fragment) → i < length fs
-    → beyond at (drop i fs) ≡ if (covers at (getD fs i d)) (end (getD fs i d)) (beyond at (drop (i + 1) fs))
+    → beyond at (drop i fs) ≡ cond (covers at (getD fs i d)) (end (getD fs i d)) (beyond at (drop (i + 1) fs))
 unfolding beyond
 beyond-left at fs i d h = ap (beyond at) (drop-next fs i d h)
 
@@ -43,7 +43,7 @@ unfolding beyond any covers
 leads at [] = record { low = omega arith; held = λ i a b. absurd (omega arith); stuck = λ e. refl }
 leads at (f ∷ fs) = go (covers at f) refl (leads at fs)
   where
-    go : (x : Bool) → covers at f ≡ x → Leads at fs (beyond at fs) → Leads at (f ∷ fs) (if x (end f) (beyond at fs))
+    go : (x : Bool) → covers at f ≡ x → Leads at fs (beyond at fs) → Leads at (f ∷ fs) (cond x (end f) (beyond at fs))
     go true e ih =
         let b = both-true (leb (f .offset) at) (ltb at (end f)) e in
         let start : f .offset ≤ at = leb-true (f .offset) at (b .0) in

@@ -1,14 +1,13 @@
 -- Laws of the fragments that an assembly holds: the front of its slots.
 -- Assumes nothing.
 use mathlib.Core.Path.{_≡_, sym, ap}
-use mathlib.Core.Bool.{Bool, true, false, not}
+use mathlib.Core.Bool.{Bool, true, false, not, cond}
 use mathlib.Core.List.{List}
 use Prim.Native.Nat.{ℕ, _+_, _<_}
 use lib.Dec.{eqb}
 use lib.ListN.{length, getD, drop}
 use Rattle.client_record.specs.declared.Fragment.{Fragment}
 use Rattle.client_record.specs.declared.Assembly.{Assembly}
-use Rattle.client_record.specs.Lists.{if}
 use Rattle.client_record.specs.Record.{isLast, markOf, heldFragments, spareSlots, lastOf}
 use Rattle.client_record.proofs.Lists.{getD-front, drop-front, drop-next}
 
@@ -37,6 +36,6 @@ unfolding spareSlots
 spare-all a e = ap (λ (k : ℕ). drop k (a .fragments)) e
 
 -- the one marked last, looked for from i on
-pub last-left : (l : List Fragment) (i : ℕ) (d : Fragment) → i < length l → lastOf (drop i l) ≡ if (isLast (getD l i d)) (getD l i d) (lastOf (drop (i + 1) l))
+pub last-left : (l : List Fragment) (i : ℕ) (d : Fragment) → i < length l → lastOf (drop i l) ≡ cond (isLast (getD l i d)) (getD l i d) (lastOf (drop (i + 1) l))
 unfolding lastOf
 last-left l i d h = ap lastOf (drop-next l i d h)

@@ -8,11 +8,11 @@ use native.Mathlib.Nat.{not-suc-le-zero, le-of-suc-le-suc}
 use native.Mathlib.Omega.{arith}
 use lib.ListN.{length, getD}
 use borrow.Author.Tests.{eqb-true, leb-true}
+use Rattle.number_tests.proofs.Tests.{both-true}
 use Rattle.client_record.specs.declared.Client.{Client}
 use Rattle.client_record.specs.Limits.{offeredLimit}
 use Rattle.client_record.specs.Lists.{all, sum}
 use Rattle.client_record.specs.Record.{bytesHeld, soundAssembly, keysDiffer, heldRight, figureSum, sumsTo, balanced, soundRecord}
-use Rattle.client_record.proofs.Tests.{both-true}
 
 pub record Sound (c : Client) : Type 0 where
   pub each : all (soundAssembly (c .time)) (c .assemblies) ≡ true

@@ -21,13 +21,6 @@ pub within : (o t k : ℕ) → o ≤ t → ltb (t - o) k ≡ leb o t && ltb t (o
 within o t k h =
     same-test (t - o) k t (o + k) (λ p. omega arith) (λ p. omega arith) ∙ sym (ap (λ (b : Bool). b && ltb t (o + k)) (le-leb o t h))
 
-pub both-true : (a b : Bool) → a && b ≡ true → (a ≡ true) × (b ≡ true)
-both-true true b e = (refl, e)
-both-true false b e = absurd-of e
-  where
-    absurd-of : false ≡ true → (false ≡ true) × (b ≡ true)
-    absurd-of e = (e, (cc))
-
 -- the first two of three fail
 pub front-false : (a b c : Bool) → a && b ≡ false → a && (b && c) ≡ false
 front-false a b c e = sym (and-assoc a b c) ∙ ap (λ (x : Bool). x && c) e

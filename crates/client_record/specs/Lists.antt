@@ -1,12 +1,8 @@
--- Tests and sums over lists, and the choice between two values by a test.
+-- Tests and sums over lists.
 use Prim.Native.Nat.{ℕ, _+_}
 use mathlib.Core.Bool.{Bool, true, false, not, _&&_, _||_}
 use mathlib.Core.List.{List, [], _∷_}
 use lib.Dec.{eqb}
-
-abbrev pub if {ℓ} : {A : Type ℓ} → Bool → A → A → A
-if true a b = a
-if false a b = b
 
 -- the two marks are the same
 abbrev pub sameMark : Bool → Bool → Bool

@@ -3,8 +3,8 @@ use Prim.Native.Nat.{ℕ, _≤_}
 use mathlib.Core.Path.{_≡_}
 use mathlib.Core.List.{List, [], _∷_}
 use lib.ListN.{length}
+use mathlib.Core.Bool.{cond}
 use Rattle.client_record.specs.declared.Fragment.{Fragment}
-use Rattle.client_record.specs.Lists.{if}
 use Rattle.client_record.specs.declared.Assembly.{Assembly}
 use Rattle.client_record.specs.Limits.{fragmentLimit}
 use Rattle.client_record.specs.Record.{end, covers, heldFragments}
@@ -22,4 +22,4 @@ pub record HeldFront (a : Assembly) (n : ℕ) : Type 0 where
 -- the end of the first fragment that holds the place; the place itself if none does
 unfoldable pub beyond : ℕ → List Fragment → ℕ
 beyond at [] = at
-beyond at (f ∷ fs) = if (covers at f) (end f) (beyond at fs)
+beyond at (f ∷ fs) = cond (covers at f) (end f) (beyond at fs)

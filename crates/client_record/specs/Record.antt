@@ -1,6 +1,6 @@
 -- A fresh record, and document 01's record test (refusal 22): one named test for each clause of its sentence, in the sentence's order.
 use Prim.Native.Nat.{ℕ, zero, suc, _+_}
-use mathlib.Core.Bool.{Bool, true, false, not, _&&_, _||_}
+use mathlib.Core.Bool.{Bool, true, false, not, _&&_, _||_, cond}
 use mathlib.Core.List.{List, [], _∷_}
 use lib.ListN.{length, take, drop, replicate}
 use lib.Dec.{eqb, leb, ltb}
@@ -9,7 +9,7 @@ use Rattle.client_record.specs.declared.Flow.{Flow}
 use Rattle.client_record.specs.declared.Assembly.{Assembly}
 use Rattle.client_record.specs.declared.Client.{Client}
 use Rattle.client_record.specs.Limits.{datagramLimit, fragmentLimit, assemblyLimit, addressSize, lifetime, offeredLimit}
-use Rattle.client_record.specs.Lists.{if, sameBytes, all, any, pairs, sum}
+use Rattle.client_record.specs.Lists.{sameBytes, all, any, pairs, sum}
 
 -- ---- a fresh record: last time 0, no assembly, all figures 0
 
@@ -99,7 +99,7 @@ coveredTo (suc n) fs = coveredTo n fs && any (covers n) fs
 -- the fragment that is marked last; a fresh one, which is not, if there is none
 unfoldable pub lastOf : List Fragment → Fragment
 lastOf [] = freshFragment
-lastOf (f ∷ fs) = if (isLast f) f (lastOf fs)
+lastOf (f ∷ fs) = cond (isLast f) f (lastOf fs)
 
 -- the last one is held, and with it 0 to T, its end, is covered
 unfoldable pub whole : List Fragment → Bool
@@ -149,7 +149,7 @@ soundLive t a =
     && (not (whole (heldFragments a)) && (openedWithin t a && all isFreshFragment (spareSlots a)))))
 
 unfoldable pub soundAssembly : ℕ → Assembly → Bool
-soundAssembly t a = if (live a) (soundLive t a) (isFreshAssembly a)
+soundAssembly t a = cond (live a) (soundLive t a) (isFreshAssembly a)
 
 -- ---- the record
 

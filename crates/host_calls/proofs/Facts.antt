@@ -68,7 +68,7 @@ pub offers : (k : ℕ) (f : Fragment) (bytes out : List ℕ) (t : Table.Table) {
 offers k f bytes out t {told = told} {records = records} {store = store} {left = left} is h says =
     leaves (subst (Offered k bytes out t told records store left) is h) says
 
-pub receives : {o : Receive.Outcome′} {told : Receiver.Received} {answer : Received} {records : List Client} {store out : List ℕ}
+pub receives : {o : Receive.Receipt} {told : Receiver.Received} {answer : Received} {records : List Client} {store out : List ℕ}
     → Receive.Leaves o told records store out → answer ≡ hostFate (fateIn told) → Receives o answer records store out
 receives h says =
     record { answers = says ∙ ap hostFate (h .answers); records-left = h .records-left; store-left = h .store-left; out-left = h .out-left }

@@ -15,7 +15,7 @@ use prog.Memory.{size}
 use Rattle.client_record.specs.declared.Client.{Client}
 use Rattle.client_record.proofs.Client.Laws as Client′
 use Rattle.table_calls.specs.Table.{After}
-use Rattle.table_receiver.specs.Receive.{Outcome′}
+use Rattle.table_receiver.specs.Receive.{Receipt}
 use Rattle.host_values.specs.Lists.{hostListing, hostWritten}
 use Rattle.host_values.specs.Answer.{hostAnswer, hostFate}
 use Rattle.host_values.specs.declared.Listing.{Listing}
@@ -66,7 +66,7 @@ pub record Leaves (a : After) (answer : Answer) (records : List Client) (store o
   pub out-left : out ≡ a .out
 
 -- a datagram that arrived
-pub record Receives (o : Outcome′) (answer : Received) (records : List Client) (store out : List ℕ) : Type 0 where
+pub record Receives (o : Receipt) (answer : Received) (records : List Client) (store out : List ℕ) : Type 0 where
   pub answers : answer ≡ hostFate (o .fate)
   pub records-left : records ≡ o .table .records
   pub store-left : store ≡ o .table .store

@@ -7,6 +7,7 @@ use mathlib.Core.Bool.{Bool, true, false, cond}
 use mathlib.Core.List.{List, [], _∷_}
 use lib.Dec.{eqb, ltb}
 use lib.ListN.{length, take, drop}
+use Rattle.number_tests.specs.Tests.{firstOf}
 use Rattle.number_offsets.specs.Offsets.{udpHeader}
 use Rattle.wire_options.specs.Walk.{Walked, listed, faulty, walkFrom, optionLimit}
 use Rattle.wire_options.specs.declared.walk.Fault.{Fault}
@@ -164,8 +165,8 @@ started-told original r Begun.Unsummed = refl
 started-told original r Begun.BadSum = refl
 started-told original r (Begun.List at) = walked-told original r (r + at) (walkFrom optionLimit 0 (drop (r + at) original))
 
-tested-told : (long past : Bool) (a : Reread.ReAnswer) → Retold a → Retold (Reread.reAnswered (Read.firstOf ((long, 2) ∷ (past, 6) ∷ [])) a)
-unfolding Read.firstOf
+tested-told : (long past : Bool) (a : Reread.ReAnswer) → Retold a → Retold (Reread.reAnswered (firstOf ((long, 2) ∷ (past, 6) ∷ [])) a)
+unfolding firstOf
 tested-told true past a h = refl
 tested-told false true a h = refl
 tested-told false false a h = h

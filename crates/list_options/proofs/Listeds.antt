@@ -9,12 +9,12 @@ use borrow.Author.Tests.{le-leb, lt-leb}
 use lib.ListN.{length, drop}
 use Rattle.number_octets.specs.Octets.{Octets, overlay}
 use Rattle.number_varint.specs.SevenBit.{encoded}
-use Rattle.wire_options.specs.Walk.{Walked, listed, faulty, told, walkFrom, optionLimit}
+use Rattle.wire_options.specs.Walk.{Walked, listed, faulty, told, walkFrom, optionLimit, itemsOf}
 use Rattle.wire_options.specs.declared.walk.Apcs.{Apcs}
 use Rattle.wire_options.specs.declared.walk.Fault.{Fault}
 use Rattle.wire_options.specs.declared.walk.Walk.the-variants.{Listed, Faulty}
 use Rattle.list_encoding.specs.Encoding.{given, encodedOptions, encodedList, decodedList}
-use Rattle.list_options.specs.Listing.{unworkedAll, itemsOf, fillOf, Sound, listing, roomFor, ListedInto}
+use Rattle.list_options.specs.Listing.{unworkedAll, fillOf, Sound, listing, roomFor, ListedInto}
 use Rattle.list_options.specs.declared.Listed.{Listed as Answered}
 use Rattle.list_options.specs.declared.Listed.the-variants.{Written, Full}
 use Rattle.list_encoding.proofs.Laws.{decode-encode}

@@ -14,7 +14,7 @@ use Rattle.number_varint.specs.SevenBit.{encoded}
 use Rattle.number_varint.proofs.Laws.{encoded-short}
 use Rattle.wire_options.specs.Kinds.{apc, frag}
 use Rattle.wire_options.specs.Step.{stepOf}
-use Rattle.wire_options.specs.Walk.{Item, Walked, listed, faulty, before, itemOf, sound, met, walkFrom, optionLimit}
+use Rattle.wire_options.specs.Walk.{Item, Walked, listed, faulty, before, itemOf, sound, met, walkFrom, optionLimit, itemsOf}
 use Rattle.wire_options.specs.declared.step.Step.{Step}
 use Rattle.wire_options.specs.declared.step.Step.the-variants.{End, Eol, Nop, Found, Malformed, Outlawed}
 use Rattle.wire_options.specs.declared.walk.Fault.the-variants.{Malformed as Unsound}
@@ -22,7 +22,7 @@ use Rattle.wire_options.proofs.Steps.{step-found}
 use Rattle.list_encoding.specs.Shape.{Shape, fields, raw, barred, shapeOf}
 use Rattle.list_encoding.specs.Encoding.{encodedFields, encodedBody, encodedOption, encodedOptions, total, Shaped, ValidOption, Each, Valid, itemOf as optionOf}
 use Rattle.list_encoding.specs.Wire.{crcWidth, widthsOf, fieldsOnWire}
-use Rattle.list_options.specs.Listing.{unworked, unworkedAll, itemsOf}
+use Rattle.list_options.specs.Listing.{unworked, unworkedAll}
 use Rattle.list_encoding.proofs.Shapes.{shape-few}
 use Rattle.list_options.proofs.Founds.{Fitting, found-fits}
 

@@ -11,14 +11,14 @@ use lib.ListN.{length, take, drop, length-drop, drop-of-length-le}
 use lib.Seq.{drop-drop, take-all}
 use Rattle.wire_options.specs.Kinds.{frag}
 use Rattle.wire_options.specs.Step.{stepOf}
-use Rattle.wire_options.specs.Walk.{Item, Walked, listed, faulty, before, itemOf, sound, met, walkFrom}
+use Rattle.wire_options.specs.Walk.{Item, Walked, listed, faulty, before, itemOf, sound, met, walkFrom, itemsOf}
 use Rattle.wire_options.specs.declared.step.Step.{Step}
 use Rattle.wire_options.specs.declared.step.Step.the-variants.{End, Eol, Nop, Found, Malformed, Outlawed}
 use Rattle.wire_options.specs.declared.walk.Fault.the-variants.{Malformed as Unsound}
 use Rattle.wire_options.proofs.Steps.{step-found}
 use Rattle.wire_options.proofs.Walks.{walk-skip}
 use Rattle.list_encoding.specs.Encoding.{encodedOption, encodedOptions}
-use Rattle.list_options.specs.Listing.{unworked, unworkedAll, itemsOf, Sound}
+use Rattle.list_options.specs.Listing.{unworked, unworkedAll, Sound}
 
 -- the encoding of the options that a walk of `l` lists
 pub record Rest (l code : List ℕ) : Type 0 where

@@ -10,7 +10,7 @@ use Rattle.number_octets.specs.Octets.{part, overlay}
 use Rattle.number_varint.specs.SevenBit.{encoded}
 pub use Rattle.number_varint.specs.Answer.{tooSmall}
 use Rattle.wire_options.specs.Kinds.{apc}
-use Rattle.wire_options.specs.Walk.{Item, Walked, listed, faulty}
+use Rattle.wire_options.specs.Walk.{Item, Walked, listed, faulty, itemsOf}
 use Rattle.list_encoding.specs.Shape.{shapeOf}
 use Rattle.list_encoding.specs.Encoding.{Answer, given, refused, itemOf, encodedBody, encodedList, longestBody}
 use Rattle.list_options.specs.declared.Listed.{Listed}
@@ -27,10 +27,6 @@ unworkedAll [] = []
 unworkedAll (item ∷ items) = unworked item ∷ unworkedAll items
 
 -- "with no option and fill 0 unless the verdict is "read""
-abbrev pub itemsOf : Walked → List Item
-itemsOf (listed items fill) = items
-itemsOf (faulty fault) = []
-
 abbrev pub fillOf : Walked → ℕ
 fillOf (listed items fill) = fill
 fillOf (faulty fault) = 0

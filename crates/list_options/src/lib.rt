@@ -11,20 +11,9 @@ ghost use Rattle.number_octets.specs.Octets.{overlay};
 ghost use Rattle.number_varint.specs.SevenBit.{encoded};
 ghost use Rattle.wire_options.specs.Kinds.{frag};
 ghost use Rattle.wire_options.specs.Step.{stepOf};
-ghost use Rattle.wire_options.specs.Walk.{itemOf, walkFrom, optionLimit};
+ghost use Rattle.wire_options.specs.Walk.{itemOf, walkFrom, optionLimit, itemsOf};
 ghost use Rattle.list_encoding.specs.Encoding.{encodedOption, encodedOptions};
-ghost use Rattle.list_options.specs.Listing.{
-  unworked,
-  unworkedAll,
-  itemsOf,
-  fillOf,
-  Sound,
-  ListedInto,
-  contentCode,
-  Within,
-  ContentOf,
-  WrittenAt,
-};
+ghost use Rattle.list_options.specs.Listing.{unworked, unworkedAll, fillOf, Sound, ListedInto, contentCode, Within, ContentOf, WrittenAt};
 
 pub enum Listed {
     // How long the listing is, and the fill beside it.

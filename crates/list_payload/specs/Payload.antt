@@ -1,5 +1,5 @@
 -- The payload that the writer makes (document 01, "Dockets and the writer").
-use mathlib.Core.Bool.{Bool, true, false, cond}
+use mathlib.Core.Bool.{Bool, true, cond}
 use mathlib.Core.List.{List, [], _∷_, _++_}
 use Prim.Native.Nat.{ℕ, _+_}
 use lib.Dec.{eqb, leb}
@@ -10,8 +10,8 @@ use Rattle.number_checksum.specs.Checksum.{wordSum, folded, sent}
 use Rattle.number_crc32c.specs.Crc.{crcOf}
 use Rattle.wire_options.specs.Kinds.{apc}
 use Rattle.wire_options.specs.Walk.{Item}
-use Rattle.wire_datagram.specs.Reading.{pseudoHeader, isOdd}
-use Rattle.list_encoding.specs.Wire.{longestShort}
+use Rattle.wire_datagram.specs.Reading.{pseudoHeader, udpSum, isOdd}
+use Rattle.list_encoding.specs.Wire.{longestShort, crcWidth}
 
 -- an option on the wire: the extended form is used only where the short would pass 254
 unfoldable pub wireOf : Item → List ℕ
@@ -22,7 +22,7 @@ wireOf item =
 
 -- the writer works an APC out
 unfoldable pub worked : List ℕ → Item → Item
-worked user item = cond (eqb (item .kind) apc) (record { kind = apc; body = octets 4 (crcOf user) }) item
+worked user item = cond (eqb (item .kind) apc) (record { kind = apc; body = octets crcWidth (crcOf user) }) item
 
 unfoldable pub workedAll : List ℕ → List Item → List Item
 workedAll user [] = []
@@ -72,7 +72,7 @@ abbrev pub datagramWith : Datagram → List ℕ → List ℕ
 datagramWith d sum = frontOf d ++ (sum ++ d .user)
 
 unfoldable pub udpChecksumOf : Datagram → ℕ
-udpChecksumOf d = sent (folded (wordSum false (pseudoHeader (d .source) (d .destination) (sizeOf d) ++ datagramWith d (0 ∷ 0 ∷ []))))
+udpChecksumOf d = sent (udpSum (pseudoHeader (d .source) (d .destination) (sizeOf d)) (datagramWith d (0 ∷ 0 ∷ [])))
 
 -- the whole payload: header, data, pad, option checksum, options, fill
 unfoldable pub payloadOf : Datagram → List ℕ

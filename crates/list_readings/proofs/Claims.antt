@@ -9,7 +9,7 @@ use native.Mathlib.Omega.{arith}
 use borrow.Author.Tests.{le-leb}
 use lib.ListN.{length, drop}
 use Rattle.number_octets.specs.Octets.{Octets}
-use Rattle.wire_options.specs.Walk.{Item, Walked, listed, walkFrom, optionLimit}
+use Rattle.wire_options.specs.Walk.{Item, Walked, listed, walkFrom, optionLimit, itemsOf}
 use Rattle.wire_datagram.specs.Reading.{reads, reading, isRead}
 use Rattle.wire_datagram.specs.Rereading.{rereads, rereading}
 use Rattle.wire_datagram.specs.declared.reading.Verdict.{Verdict}
@@ -18,7 +18,7 @@ use Rattle.wire_datagram.specs.declared.reading.Reading.{Reading}
 use Rattle.wire_datagram.specs.declared.rereading.Rereading.{Rereading}
 use Rattle.wire_datagram.proofs.Lists.{Lists, lists-part, read-verdict, reading-lists, rereading-lists}
 use Rattle.list_encoding.specs.Encoding.{given, refused}
-use Rattle.list_options.specs.Listing.{tooSmall, itemsOf, fillOf, listing, roomFor, listedAnswer, ListedInto}
+use Rattle.list_options.specs.Listing.{tooSmall, fillOf, listing, roomFor, listedAnswer, ListedInto}
 use Rattle.list_options.specs.declared.Listed.{Listed}
 use Rattle.list_writer.specs.Answer.{written, datagramFor}
 use Rattle.list_payload.specs.Payload.{Datagram, payloadOf}

@@ -12,7 +12,7 @@ use Rattle.wire_options.specs.Walk.{Item}
 use Rattle.wire_datagram.specs.Reading.{isOdd}
 use Rattle.list_encoding.specs.Shape.{shapeOf}
 use Rattle.list_encoding.specs.Encoding.{Read, got, failed, readNumber, readOption}
-use Rattle.list_encoding.specs.Wire.{longestShort, widthsOf}
+use Rattle.list_encoding.specs.Wire.{longestShort, crcWidth, widthsOf}
 use Rattle.list_payload.specs.Payload.{wireOf, areaOf, Datagram, sizeOf, datagramWith, udpChecksumOf}
 
 -- bytes laid over a buffer from a position on, and the position behind them
@@ -32,7 +32,7 @@ fieldBytes (width ∷ other ∷ widths) first second = octets width first ++ oct
 
 -- the body of an option with fields; an APC's is the CRC
 unfoldable pub fieldBody : ℕ → ℕ → ℕ → ℕ → List ℕ
-fieldBody kind first second crc = cond (eqb kind apc) (octets 4 crc) (fieldBytes (widthsOf (shapeOf kind)) first second)
+fieldBody kind first second crc = cond (eqb kind apc) (octets crcWidth crc) (fieldBytes (widthsOf (shapeOf kind)) first second)
 
 -- an option with the CRC worked out
 unfoldable pub workedBy : ℕ → Item → Item

@@ -2,13 +2,14 @@
 -- encoded list. The payload is read back (`list_payload`), and it is what a call that is taken leaves.
 -- Assumes nothing.
 use mathlib.Core.Path.{_≡_, refl, sym, ap, _∙_}
-use mathlib.Core.Bool.{Bool, true, false, cond, _&&_}
+use mathlib.Core.Bool.{Bool, true, false, cond}
 use mathlib.Core.List.{List, _++_}
 use Prim.Native.Nat.{ℕ, _+_, _-_, _≤_}
 use native.Mathlib.Omega.{arith}
 use borrow.Author.Tests.{leb-true}
 use lib.Dec.{leb}
 use lib.ListN.{length, drop}
+use Rattle.number_tests.proofs.Tests.{both-true}
 use Rattle.number_octets.specs.Octets.{Octets}
 use Rattle.wire_options.specs.Walk.{Item}
 use Rattle.wire_datagram.specs.Reading.{payloadLimit}
@@ -26,10 +27,6 @@ pub record WroteBack (datagram : List Item → Datagram) (list buffer : List ℕ
   pub left : written datagram list buffer .buffer ≡ payloadOf (datagram items) ++ drop n buffer
   pub back : ReadBack (datagram items) list (backOf (datagram items))
 
-both-true : (a b : Bool) → (a && b) ≡ true → a ≡ true
-both-true true b e = refl
-both-true false b e = absurd (let z : _≡_ {A = ℕ} 0 1 = cc in omega arith)
-
 pub write-reads-back : (source destination : List ℕ) (sourcePort destinationPort : ℕ) (user : List ℕ) (fill : ℕ) (list buffer : List ℕ) (n : ℕ)
     → length source ≡ 4 → length destination ≡ 4 → Octets list
     → written (datagramFor source destination sourcePort destinationPort user fill) list buffer .answer ≡ given n
@@ -46,7 +43,7 @@ write-reads-back source destination sourcePort destinationPort user fill list bu
     second items e true q r =
         let p : List ℕ = payloadOf (datagram items) in
         let same : length p ≡ n = cc in
-        let small : length p ≤ payloadLimit = leb-true (length p) payloadLimit (both-true (leb (length p) payloadLimit) (leb (length p) (length buffer)) q) in
+        let small : length p ≤ payloadLimit = leb-true (length p) payloadLimit (both-true (leb (length p) payloadLimit) (leb (length p) (length buffer)) q .0) in
         record {
           items = items;
           decoded = e;

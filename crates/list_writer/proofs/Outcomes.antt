@@ -9,6 +9,7 @@ use native.Mathlib.Omega.{arith}
 use borrow.Author.Tests.{le-leb, lt-leb, leb-true}
 use lib.Dec.{leb}
 use lib.ListN.{length, drop, replicate, length-append, length-replicate}
+use Rattle.number_tests.proofs.Tests.{both-true}
 use Rattle.number_octets.specs.Octets.{octets}
 use Rattle.number_octets.proofs.Laws.{length-octets}
 use Rattle.number_offsets.specs.Offsets.{udpHeader}
@@ -32,11 +33,6 @@ over-limit size room h = sym (ap (λ (t : Bool). t && leb size room) (lt-leb siz
 pub within-limit : (size room : ℕ) → size ≤ 65515 → leb size room ≡ fits size room
 unfolding fits payloadLimit
 within-limit size room h = sym (ap (λ (t : Bool). t && leb size room) (le-leb size 65515 h))
-
-both-true : (s t : Bool) → s && t ≡ true → (s ≡ true) × (t ≡ true)
-both-true true true e = (refl, refl)
-both-true true false e = absurd (let z : _≡_ {A = ℕ} 0 1 = cc in omega arith)
-both-true false t e = absurd (let z : _≡_ {A = ℕ} 0 1 = cc in omega arith)
 
 fits-both : (size room : ℕ) → fits size room ≡ true → (size ≤ 65515) × (size ≤ room)
 unfolding fits payloadLimit

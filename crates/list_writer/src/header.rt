@@ -1,18 +1,10 @@
 // UDP header and user data, laid over the front of a buffer.
 use number_offsets::UDP_HEADER;
-ghost use mathlib.Core.Path.{_≡_};
-ghost use mathlib.Core.Bool.{false};
-ghost use mathlib.Core.List.{[], _∷_, _++_};
+ghost use mathlib.Core.List.{[], _∷_};
 ghost use Prim.Native.Nat.{_+_, _≤_};
 ghost use lib.ListN.{length};
-ghost use Rattle.number_octets.specs.Octets.{octets};
-ghost use Rattle.number_checksum.specs.Checksum.{folded, wordSum};
-ghost use Rattle.wire_datagram.specs.Reading.{pseudoHeader};
 ghost use Rattle.list_payload.specs.Payload.{datagramWith};
 ghost use Rattle.list_wire.specs.Parts.{Laid, plainly, summed};
-
-// UDP's protocol number.
-const UDP: u16 = 17;
 
 // Where the checksum stands.
 const CHECKSUM: usize = 6;
@@ -31,7 +23,7 @@ pub fn put_datagram(
         (now (buffer .exit)) r ⌝ }
 {
     let size = put_blank(source_port, destination_port, data, buffer);
-    let sum = udp_sum(&buffer[..size], source, destination);
+    let sum = wire_datagram::reading::udp_sum(&buffer[..size], source, destination);
     number_octets::put_u16(buffer, CHECKSUM, number_checksum::field(sum));
     size
 }
@@ -48,21 +40,4 @@ fn put_blank(source_port: u16, destination_port: u16, data: &[u8], buffer: &mut 
     number_octets::put_u16(buffer, CHECKSUM, 0);
     number_octets::copy(data, buffer, UDP_HEADER);
     UDP_HEADER + data.len()
-}
-
-// The sum over the pseudo-header and a datagram.
-fn udp_sum(datagram: &[u8], source: [u8; 4], destination: [u8; 4]) -> u16
-    requires { ⌜ length (now datagram) ≤ 65535 ⌝ }
-    ensures { λ r. ⌜ r ≡ folded (wordSum false (pseudoHeader source destination (length (now (datagram .entry))) ++ now (datagram .entry))) ⌝ }
-{
-    let addresses = number_checksum::add(
-        number_checksum::add(0, &source, false),
-        &destination,
-        false,
-    );
-    let rest = number_checksum::add_word(
-        number_checksum::add_word(addresses, UDP),
-        datagram.len() as u16,
-    );
-    number_checksum::add(rest, datagram, false)
 }

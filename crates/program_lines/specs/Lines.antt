@@ -1,25 +1,20 @@
 -- The lines of an option list in a report (document 01, "The program").
-use mathlib.Core.Bool.{Bool, true, false, cond}
+use mathlib.Core.Bool.{Bool, true, false}
 use mathlib.Core.List.{List, [], _∷_, _++_}
 use Prim.Native.Nat.{ℕ}
-use lib.Dec.{eqb}
 use lib.ListN.{take, drop}
 use Rattle.number_octets.specs.Octets.{number}
+use Rattle.wire_options.specs.Kinds as Kinds
 use Rattle.wire_options.specs.Walk.{Item, Walked, listed, faulty}
+pub use Rattle.wire_options.specs.Walk.{itemsOf}
 use Rattle.program_text.specs.Digits.{decimalOf, hexOf}
 use Rattle.program_text.specs.Characters.{blank, newline}
 
 -- ---- an option
 
--- the widths in bytes of the numbers that an option has, by its kind; a kind from 9 on has a body instead
+-- the widths in bytes of the numbers that are shown of an option; a kind from 9 on has a body instead
 unfoldable pub widthsOf : ℕ → List ℕ
-widthsOf kind =
-    cond (eqb kind 2) (4 ∷ [])
-    (cond (eqb kind 4) (2 ∷ [])
-    (cond (eqb kind 5) (2 ∷ 1 ∷ [])
-    (cond (eqb kind 6) (4 ∷ [])
-    (cond (eqb kind 7) (4 ∷ [])
-    (cond (eqb kind 8) (4 ∷ 4 ∷ []) [])))))
+widthsOf kind = Kinds.widthsOf kind
 
 -- each number of a body in decimal, behind a blank
 unfoldable pub numbersOf : List ℕ → List ℕ → List ℕ
@@ -57,8 +52,3 @@ itemLines (item ∷ items) = itemLine item ++ itemLines items
 abbrev pub isListed : Walked → Bool
 isListed (listed items fill) = true
 isListed (faulty fault) = false
-
--- the options of such a walk
-abbrev pub itemsOf : Walked → List Item
-itemsOf (listed items fill) = items
-itemsOf (faulty fault) = []

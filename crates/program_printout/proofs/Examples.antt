@@ -3,6 +3,7 @@
 use mathlib.Core.Path.{_≡_, refl}
 use mathlib.Core.List.{List, [], _∷_}
 use Prim.Native.Nat.{ℕ}
+use Rattle.number_tests.specs.Tests.{firstOf}
 use Rattle.number_octets.specs.Octets.{number, octets}
 use Rattle.number_offsets.specs.Offsets.{udpHeader}
 use Rattle.number_checksum.specs.Checksum.{wordSum, folded}
@@ -11,7 +12,7 @@ use Rattle.wire_options.specs.Step.{headerOf, stepOf}
 use Rattle.wire_options.specs.Walk.{walkFrom, optionLimit}
 use Rattle.wire_area.specs.Area.{nopsOf, areaOf}
 use Rattle.wire_surplus.specs.Surplus.{startOf}
-use Rattle.wire_datagram.specs.Reading.{payloadLimit, pseudoHeader, firstOf, accepted, reading}
+use Rattle.wire_datagram.specs.Reading.{payloadLimit, pseudoHeader, accepted, reading}
 use Rattle.program_text.specs.Digits.{digitsIn, decimalOf}
 use Rattle.program_lines.specs.Lines.{widthsOf, numbersOf, itemLine, itemLines}
 use Rattle.program_verdict.specs.Words.{verdictLine}

@@ -9,16 +9,17 @@ use native.Mathlib.Omega.{arith}
 use borrow.Author.Tests.{ltb-true, ltb-false}
 use lib.Dec.{eqb, ltb}
 use lib.ListN.{length, take, drop, length-append, length-take, length-drop}
+use Rattle.number_tests.proofs.Tests.{first-none}
 use Rattle.number_octets.specs.Octets.{number, part}
 use Rattle.wire_options.specs.Walk.{Item, Walked, listed, faulty, walkFrom, optionLimit}
 use Rattle.wire_options.proofs.Sizes.{bodySizes, walk-bounded}
 use Rattle.wire_datagram.specs.Extents.{bytesIn, sizeOf}
-use Rattle.wire_datagram.specs.Reading.{Answer, refused, reads, payloadLimit, reading, isRead, refusalTests, firstOf}
+use Rattle.wire_datagram.specs.Reading.{Answer, refused, reads, payloadLimit, reading, isRead, refusalTests}
 use Rattle.wire_datagram.specs.declared.reading.Extent.{Extent}
 use Rattle.wire_datagram.specs.declared.reading.Reading.{Reading}
 use Rattle.wire_datagram.specs.declared.reading.Verdict.{Verdict}
 use Rattle.wire_datagram.specs.declared.reading.Verdict.the-variants.{Bare, Short, Pad, Unsummed, BadSum, Malformed, Unsafe, FragData, Crowded, Read, Piece}
-use Rattle.wire_datagram.proofs.Claims.{met-none, first-none}
+use Rattle.wire_datagram.proofs.Claims.{met-none}
 use Rattle.program_text.specs.Digits.{digit, digitsIn, longest, decimalOf, hexDigit, hexOf}
 use Rattle.program_text.specs.Characters.{blank, newline}
 use Rattle.program_lines.specs.Lines.{kindWord, widthsOf, numbersOf, bodyOf, fieldsBy, fieldsOf, itemLine, itemLines, itemsOf}

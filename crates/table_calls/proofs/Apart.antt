@@ -4,18 +4,17 @@
 -- Assumes nothing.
 use Prim.Native.Nat.{ℕ, zero, suc, _<_, _≤_}
 use mathlib.Core.Path.{_≡_, refl, sym, ap, ap₂, subst, _∙_}
-use mathlib.Core.Bool.{Bool, true, false}
+use mathlib.Core.Bool.{Bool, true, false, cond}
 use mathlib.Core.List.{List, [], _∷_}
 use lib.Dec.{eqb, ltb}
 use lib.ListN.{length, length-replicate, getD, replicate, getD-replicate}
 use borrow.Author.Tests.{eqb-true, eqb-false, ltb-true, ltb-false}
 use Rattle.client_record.specs.declared.Client.{Client}
-use Rattle.client_record.specs.Lists.{if}
 use Rattle.client_record.specs.Record.{freshClient, figureSum, soundRecord}
 use Rattle.client_record.proofs.SoundParts.{sound-parts}
 use Rattle.client_reassembly.specs.Answer.{refused, ready}
-use Rattle.client_reassembly.proofs.Lasting.{shaped, fresh-client-sound, fresh-client-shaped}
-use Rattle.client_ledger.specs.Shapes.{slotted, Shaped}
+use Rattle.client_reassembly.proofs.Lasting.{fresh-client-sound, fresh-client-shaped}
+use Rattle.client_ledger.specs.Shapes.{Shaped}
 use Rattle.client_ledger.specs.History.{Lent, Ask, Given, on}
 use Rattle.table_calls.specs.Table.{Table, lentOf, sized, shareOf, recordOf, After, cleared, resetOn, turned, askOn}
 use Rattle.table_calls.specs.Events.{Lending, current, another, Event, resetting, asking, tableFor, next, final, givenBy, gives, Allowed, Keeps, ownOnly}
@@ -40,29 +39,28 @@ cleared-record (suc n) zero = refl
 cleared-record (suc n) (suc k) = cleared-record n k
 
 pub cleared-formed : (u : Table) → sized (lentOf u) ≡ true → Formed (cleared u)
-unfolding slotted shaped
 cleared-formed u e = record {
   fit = ap sized (cleared-sizes u) ∙ e;
   each = λ k in-it.
       let there : k < length (u .records) = subst (λ (n : ℕ). k < n) (length-replicate (length (u .records)) freshClient) in-it in
       subst (λ (c : Client). Shaped c (shareOf k u)) (sym (cleared-record (length (u .records)) k))
-      (record { places = fresh-client-shaped .places; slots = fresh-client-shaped .slots; size = share-length u k e there });
+      (record { lists = fresh-client-shaped; size = share-length u k e there });
 }
 
 pub cleared-tested : (k : ℕ) (u : Table) → Tested k (cleared u)
 cleared-tested k u in-it = ap soundRecord (cleared-record (length (u .records)) k) ∙ fresh-client-sound
 
 -- a property of the table after a set-up on u, where t was the table before it
-by-sizes : (P : Table → Type 0) (t u : Table) → (sized (lentOf u) ≡ true → P (cleared u)) → P t → P (if (sized (lentOf u)) (resetOn u .table) t)
+by-sizes : (P : Table → Type 0) (t u : Table) → (sized (lentOf u) ≡ true → P (cleared u)) → P t → P (cond (sized (lentOf u)) (resetOn u .table) t)
 by-sizes P t u taken kept = go (sized (lentOf u)) refl
   where
-    go : (x : Bool) → sized (lentOf u) ≡ x → P (if x (resetOn u .table) t)
+    go : (x : Bool) → sized (lentOf u) ≡ x → P (cond x (resetOn u .table) t)
     go true e = subst P (sym (ap (λ (x : After). x .table) (reset-taken u e))) (taken e)
     go false e = kept
 
 -- on the current table
 pub opens : (t : Table) → sized (lentOf t) ≡ true → next t (resetting current) ≡ cleared t
-opens t e = ap₂ (λ (x : Bool) (u : Table). if x u t) e (ap (λ (x : After). x .table) (reset-taken t e))
+opens t e = ap₂ (λ (x : Bool) (u : Table). cond x u t) e (ap (λ (x : After). x .table) (reset-taken t e))
 
 -- ---- any event, any list
 
@@ -114,7 +112,7 @@ module _ (k : ℕ) (t t′ : Table) (f : Formed t) (f′ : Formed t′) (s : Sam
       (subst (Same k (cleared t)) (sym (opens t′ (f′ .fit))) same-cleared)
 
   -- a set-up on another table
-  other-same : (u : Table) (x : Bool) → Same k (if x (resetOn u .table) t) (if x (resetOn u .table) t′)
+  other-same : (u : Table) (x : Bool) → Same k (cond x (resetOn u .table) t) (cond x (resetOn u .table) t′)
   other-same u true = record { sizes = refl; client = refl; share = refl }
   other-same u false = s
 
@@ -177,9 +175,9 @@ own-runs k (asking current j a ∷ es) t t′ f f′ s keeps = go (eqb j k) refl
   where
     go : (x : Bool) → eqb j k ≡ x
         → ((u u′ : Table) → Formed u → Formed u′ → Same k u u′ → (gives k u es ≡ gives k u′ (ownOnly k es)) × Same k (final u es) (final u′ (ownOnly k es)))
-        → (if x (givenBy (askOn j a t) ∷ gives k (askOn j a t .table) es) (gives k (askOn j a t .table) es)
-        ≡ gives k t′ (if x (asking current j a ∷ ownOnly k es) (ownOnly k es)))
-        × Same k (final (askOn j a t .table) es) (final t′ (if x (asking current j a ∷ ownOnly k es) (ownOnly k es)))
+        → (cond x (givenBy (askOn j a t) ∷ gives k (askOn j a t .table) es) (gives k (askOn j a t .table) es)
+        ≡ gives k t′ (cond x (asking current j a ∷ ownOnly k es) (ownOnly k es)))
+        × Same k (final (askOn j a t .table) es) (final t′ (cond x (asking current j a ∷ ownOnly k es) (ownOnly k es)))
     go true e ih =
         let same = eqb-true j k e in
         let given : givenBy (askOn j a t) ≡ givenBy (askOn j a t′) =
@@ -188,7 +186,7 @@ own-runs k (asking current j a ∷ es) t t′ f f′ s keeps = go (eqb j k) refl
         subst (λ (n : ℕ). Same k (askOn n a t .table) (askOn n a t′ .table)) (sym same) (own-same k t t′ f f′ s a) in
         let r = ih (askOn j a t .table) (askOn j a t′ .table) (asked-formed t f j a) (asked-formed t′ f′ j a) kept in (
           ap₂ _∷_ given (r .0)
-              ∙ ap (λ (x : Bool). if x (givenBy (askOn j a t′) ∷ gives k (askOn j a t′ .table) (ownOnly k es)) (gives k (askOn j a t′ .table) (ownOnly k es)))
+              ∙ ap (λ (x : Bool). cond x (givenBy (askOn j a t′) ∷ gives k (askOn j a t′ .table) (ownOnly k es)) (gives k (askOn j a t′ .table) (ownOnly k es)))
               (sym e),
           r .1,
         )
@@ -196,11 +194,11 @@ own-runs k (asking current j a ∷ es) t t′ f f′ s keeps = go (eqb j k) refl
 own-runs k (asking (another u) j a ∷ es) t t′ f f′ s keeps = go (eqb j k) refl (own-runs k es t t′ f f′ s (keeps .1))
   where
     go : (x : Bool) → eqb j k ≡ x → (gives k t es ≡ gives k t′ (ownOnly k es)) × Same k (final t es) (final t′ (ownOnly k es))
-        → (if x (givenBy (askOn j a u) ∷ gives k t es) (gives k t es) ≡ gives k t′ (if x (asking (another u) j a ∷ ownOnly k es) (ownOnly k es)))
-        × Same k (final t es) (final t′ (if x (asking (another u) j a ∷ ownOnly k es) (ownOnly k es)))
+        → (cond x (givenBy (askOn j a u) ∷ gives k t es) (gives k t es) ≡ gives k t′ (cond x (asking (another u) j a ∷ ownOnly k es) (ownOnly k es)))
+        × Same k (final t es) (final t′ (cond x (asking (another u) j a ∷ ownOnly k es) (ownOnly k es)))
     go true e r = (
       ap (λ (l : List Given). givenBy (askOn j a u) ∷ l) (r .0)
-          ∙ ap (λ (x : Bool). if x (givenBy (askOn j a u) ∷ gives k t′ (ownOnly k es)) (gives k t′ (ownOnly k es))) (sym e),
+          ∙ ap (λ (x : Bool). cond x (givenBy (askOn j a u) ∷ gives k t′ (ownOnly k es)) (gives k t′ (ownOnly k es))) (sym e),
       r .1,
     )
     go false e r = r

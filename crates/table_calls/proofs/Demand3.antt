@@ -3,7 +3,7 @@
 -- Assumes nothing.
 use Prim.Native.Nat.{ℕ, _<_}
 use mathlib.Core.Path.{_≡_, refl, sym, ap, ap₂, subst, _∙_}
-use mathlib.Core.Bool.{Bool, true, false, not}
+use mathlib.Core.Bool.{Bool, true, false, not, cond}
 use mathlib.Core.List.{List, [], _∷_, _++_}
 use mathlib.Core.Option.{some}
 use mathlib.Core.Logic.{_↔_}
@@ -12,7 +12,7 @@ use lib.Dec.{ltb}
 use lib.ListN.{length, drop}
 use borrow.Author.Tests.{ltb-true, ltb-false}
 use Rattle.number_octets.specs.Octets.{part}
-use Rattle.client_record.specs.Lists.{if, pairs}
+use Rattle.client_record.specs.Lists.{pairs}
 use Rattle.client_reassembly.specs.declared.Arrival.{Arrival}
 use Rattle.client_reassembly.specs.Answer.{refused, delivered}
 use Rattle.client_reassembly.specs.Advance.{figures}
@@ -42,10 +42,10 @@ use Rattle.table_calls.proofs.Lists.{reset-answer, answers-all, final-h
 
 -- the book's side starts with the sizes of that table and no call
 opens-sizes : (t : Table) → sized (lentOf t) ≡ true → sizesAfter (lentOf t) (resetting current) ≡ lentOf (cleared t)
-opens-sizes t e = ap (λ (x : Bool). if x (lentOf t) (lentOf t)) (misfit-agrees (lentOf t) ∙ ap not e) ∙ sym (cleared-sizes t)
+opens-sizes t e = ap (λ (x : Bool). cond x (lentOf t) (lentOf t)) (misfit-agrees (lentOf t) ∙ ap not e) ∙ sym (cleared-sizes t)
 
 opens-past : (k : ℕ) (t : Table) → sized (lentOf t) ≡ true → pastAfter k (lentOf t) [] (resetting current) ≡ []
-opens-past k t e = ap (λ (x : Bool). if {A = List Own} x [] []) (misfit-agrees (lentOf t) ∙ ap not e)
+opens-past k t e = ap (λ (x : Bool). cond {A = List Own} x [] []) (misfit-agrees (lentOf t) ∙ ap not e)
 
 module _ (t : Table) (es : List Event) (terms : Terms t es) where
   start : Holds (cleared t) (λ k. bookOf [])

@@ -11,13 +11,14 @@ use lib.Dec.{leb, eqb}
 use lib.ListN.{length, take, drop, take-append-drop, replicate}
 use lib.Seq.{drop-drop}
 use borrow.Author.Tests.{leb-true, eqb-true, le-leb, lt-leb}
+use Rattle.number_tests.proofs.Tests.{both-true}
+use Rattle.number_tests.specs.Tests.{firstOf}
 use Rattle.number_octets.specs.Octets.{part, overlay}
 use Rattle.number_octets.proofs.Laws.{length-part, part-take, length-overlay, take-overlay, drop-overlay}
 use Rattle.client_record.specs.Limits.{shareSize, clientLimit}
 use Rattle.client_record.specs.declared.Client.{Client}
 use Rattle.client_record.specs.Record.{soundRecord, freshClient}
-use Rattle.client_record.proofs.Tests.{both-true}
-use Rattle.client_reassembly.specs.Answer.{refused, ready, account, firstOf, replyOf}
+use Rattle.client_reassembly.specs.Answer.{refused, ready, account, replyOf}
 use Rattle.client_reassembly.specs.declared.Answer.{Answer}
 use Rattle.client_reassembly.specs.declared.Answer.the-variants.{Refused, Reset}
 use Rattle.client_reassembly.specs.declared.Refusal.the-variants.{TableMisfit}

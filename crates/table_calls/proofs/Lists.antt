@@ -3,11 +3,10 @@
 -- Assumes nothing.
 use Prim.Native.Nat.{ℕ}
 use mathlib.Core.Path.{_≡_, refl, sym, ap, ap₂, subst, _∙_}
-use mathlib.Core.Bool.{Bool, true, false, not}
+use mathlib.Core.Bool.{Bool, true, false, not, cond}
 use mathlib.Core.List.{List, [], _∷_}
 use lib.Dec.{eqb}
 use borrow.Author.Tests.{eqb-true}
-use Rattle.client_record.specs.Lists.{if}
 use Rattle.client_reassembly.specs.Answer.{refused, ready}
 use Rattle.client_ledger.specs.Lent.{Own, answered, bookOf}
 use Rattle.client_ledger.specs.History.{Lent, Ask, Given}
@@ -20,11 +19,11 @@ use Rattle.table_calls.proofs.Steps.{Holds, call-answer, event-next}
 
 -- a set-up's answer
 pub reset-answer : (u : Table) → givenBy (resetOn u) ≡ resetOwes (lentOf u)
-reset-answer u = go (sized (lentOf u)) refl ∙ ap (λ (x : Bool). record { reply = if x (refused 20) ready; out = [] }) (sym (misfit-agrees (lentOf u)))
+reset-answer u = go (sized (lentOf u)) refl ∙ ap (λ (x : Bool). record { reply = cond x (refused 20) ready; out = [] }) (sym (misfit-agrees (lentOf u)))
   where
-    go : (x : Bool) → sized (lentOf u) ≡ x → givenBy (resetOn u) ≡ record { reply = if (not (sized (lentOf u))) (refused 20) ready; out = [] }
-    go true e = ap givenBy (reset-taken u e) ∙ ap (λ (x : Bool). record { reply = if (not x) (refused 20) ready; out = [] }) (sym e)
-    go false e = ap givenBy (reset-refused u e) ∙ ap (λ (x : Bool). record { reply = if (not x) (refused 20) ready; out = [] }) (sym e)
+    go : (x : Bool) → sized (lentOf u) ≡ x → givenBy (resetOn u) ≡ record { reply = cond (not (sized (lentOf u))) (refused 20) ready; out = [] }
+    go true e = ap givenBy (reset-taken u e) ∙ ap (λ (x : Bool). record { reply = cond (not x) (refused 20) ready; out = [] }) (sym e)
+    go false e = ap givenBy (reset-refused u e) ∙ ap (λ (x : Bool). record { reply = cond (not x) (refused 20) ready; out = [] }) (sym e)
 
 sizes-lent : (g : Lending) (t : Table) → lentOf (tableFor g t) ≡ sizesFor g (lentOf t)
 sizes-lent current t = refl
@@ -52,8 +51,8 @@ answers-all k (asking g j a ∷ es) t past h keeps =
 
     go : (x : Bool) → eqb j k ≡ x
         → gives k (next t (asking g j a)) es ≡ owes k (lentOf t) (pastAfter k (lentOf t) (past k) (asking g j a)) es
-        → if x (givenBy (askOn j a (tableFor g t)) ∷ gives k (next t (asking g j a)) es) (gives k (next t (asking g j a)) es)
-        ≡ if x
+        → cond x (givenBy (askOn j a (tableFor g t)) ∷ gives k (next t (asking g j a)) es) (gives k (next t (asking g j a)) es)
+        ≡ cond x
         (givenIn (answered (ownCall g (lentOf t) k a) (bookOf (past k))) ∷ owes k (lentOf t) (pastAfter k (lentOf t) (past k) (asking g j a)) es)
         (owes k (lentOf t) (pastAfter k (lentOf t) (past k) (asking g j a)) es)
     go true e rest = ap₂ _∷_ (first (eqb-true j k e)) rest

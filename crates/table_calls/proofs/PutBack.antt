@@ -11,18 +11,19 @@ use lib.Dec.{eqb, ltb}
 use lib.ListN.{length, length-set}
 use lib.Seq.{getD-set-same, getD-set-other}
 use borrow.Author.Tests.{eqb-true, eqb-false, ltb-true, ltb-false}
+use Rattle.number_tests.specs.Tests.{firstOf}
 use Rattle.number_octets.specs.Octets.{part, overlay}
 use Rattle.number_octets.proofs.Laws.{length-overlay, part-overlay}
 use Rattle.client_record.specs.declared.Client.{Client}
 use Rattle.client_record.specs.Limits.{shareSize}
 use Rattle.client_record.specs.Record.{freshClient, soundRecord}
-use Rattle.client_reassembly.specs.Answer.{advanced, firstOf}
+use Rattle.client_reassembly.specs.Answer.{advanced}
 use Rattle.client_reassembly.specs.Advance as Advance
 use Rattle.client_reassembly.specs.Advance.{elapse, advanceOn, accountOn}
 use Rattle.client_reassembly.specs.Offer.{Outcome}
-use Rattle.client_reassembly.proofs.Lasting as Lasting
-use Rattle.client_reassembly.proofs.Lasting.{shaped, elapse-shaped, fragment-call-sound, fragment-call-shaped, advance-call-sound}
-use Rattle.client_ledger.specs.Shapes.{slotted, Shaped}
+use Rattle.client_reassembly.specs.Shapes as Record
+use Rattle.client_reassembly.proofs.Lasting.{elapse-shaped, fragment-call-sound, fragment-call-shaped, advance-call-sound}
+use Rattle.client_ledger.specs.Shapes.{Shaped}
 use Rattle.client_ledger.specs.History.{Lent, Ask, offering, advancing, accounting, on}
 use Rattle.client_ledger.proofs.Shares.{fragment-call-share}
 use Rattle.table_calls.specs.Table.{Table, lentOf, sized, shareOf, recordOf, After, putBack, askOn}
@@ -31,32 +32,23 @@ use Rattle.table_calls.proofs.Facts.{share-fits, shares-apart, unknown-
 
 -- ---- one client's own rules
 
--- the shape without the share
-bare : (c : Client) (share : List ℕ) → Shaped c share → Lasting.Shaped c
-unfolding slotted shaped
-bare c share s = record { places = s .places; slots = s .slots }
-
-with-share : (c : Client) (share : List ℕ) → Lasting.Shaped c → length share ≡ shareSize → Shaped c share
-unfolding slotted shaped
-with-share c share s n = record { places = s .places; slots = s .slots; size = n }
-
-advance-shaped : (c : Client) (t : ℕ) → Lasting.Shaped c → Lasting.Shaped (advanceOn c t .client)
+advance-shaped : (c : Client) (t : ℕ) → Record.Shaped c → Record.Shaped (advanceOn c t .client)
 unfolding advanceOn
 advance-shaped c t s = go (firstOf ((not (soundRecord c), 22) ∷ (ltb t (c .time), 27) ∷ []))
   where
-    go : (r : Option ℕ) → Lasting.Shaped (Advance.refuseOr c r (record { client = elapse t c; reply = advanced }) .client)
+    go : (r : Option ℕ) → Record.Shaped (Advance.refuseOr c r (record { client = elapse t c; reply = advanced }) .client)
     go none = elapse-shaped t c s
     go (some n) = s
 
 -- every call leaves the shape, and a record that passes the record test passes it again
 own-shaped : (c : Client) (share : List ℕ) (a : Ask) → Shaped c share → Shaped (on c share a .client) (on c share a .share)
 own-shaped c share (offering o bytes out) s =
-    with-share _ _ (fragment-call-shaped c share out o bytes (bare c share s)) (fragment-call-share c share out o bytes s)
-own-shaped c share (advancing t) s = with-share _ _ (advance-shaped c t (bare c share s)) (s .size)
+    record { lists = fragment-call-shaped c share out o bytes (s .lists); size = fragment-call-share c share out o bytes s }
+own-shaped c share (advancing t) s = record { lists = advance-shaped c t (s .lists); size = s .size }
 own-shaped c share accounting s = subst (λ (x : Client). Shaped x share) (sym (account-keeps c)) s
 
 own-sound : (c : Client) (share : List ℕ) (a : Ask) → Shaped c share → soundRecord c ≡ true → soundRecord (on c share a .client) ≡ true
-own-sound c share (offering o bytes out) s ok = fragment-call-sound c share out o bytes ok (bare c share s)
+own-sound c share (offering o bytes out) s ok = fragment-call-sound c share out o bytes ok (s .lists)
 own-sound c share (advancing t) s ok = advance-call-sound c t ok
 own-sound c share accounting s ok = ap soundRecord (account-keeps c) ∙ ok
 

@@ -3,12 +3,11 @@
 -- Assumes nothing.
 use Prim.Native.Nat.{ℕ, _<_, _≤_}
 use mathlib.Core.Path.{_≡_, refl, sym, ap, subst, _∙_}
-use mathlib.Core.Bool.{Bool, true, false, not}
+use mathlib.Core.Bool.{Bool, true, false, not, cond}
 use mathlib.Core.List.{List, [], _∷_, _++_}
 use lib.Dec.{eqb, ltb}
 use lib.ListN.{length, length-replicate, getD-replicate}
 use borrow.Author.Tests.{eqb-true, ltb-true, ltb-false, le-leb, lt-leb, eq-eqb, ne-eqb}
-use Rattle.client_record.specs.Lists.{if}
 use Rattle.client_record.specs.Record.{freshClient}
 use Rattle.client_record.specs.declared.Client.{Client}
 use Rattle.client_reassembly.specs.Answer.{refused}
@@ -117,16 +116,16 @@ cleared-holds u e = record {
 }
 
 reset-next : (t u : Table) (past : ℕ → List Own) → Holds t (λ k. bookOf (past k))
-    → Holds (if (sized (lentOf u)) (resetOn u .table) t) (λ k. bookOf (if (misfits (lentOf u)) (past k) []))
-    × (lentOf (if (sized (lentOf u)) (resetOn u .table) t) ≡ if (misfits (lentOf u)) (lentOf t) (lentOf u))
+    → Holds (cond (sized (lentOf u)) (resetOn u .table) t) (λ k. bookOf (cond (misfits (lentOf u)) (past k) []))
+    × (lentOf (cond (sized (lentOf u)) (resetOn u .table) t) ≡ cond (misfits (lentOf u)) (lentOf t) (lentOf u))
 reset-next t u past h =
-    subst (λ (y : Bool). Holds (if (sized (lentOf u)) (resetOn u .table) t) (λ k. bookOf (if y (past k) []))
-    × (lentOf (if (sized (lentOf u)) (resetOn u .table) t) ≡ if y (lentOf t) (lentOf u)))
+    subst (λ (y : Bool). Holds (cond (sized (lentOf u)) (resetOn u .table) t) (λ k. bookOf (cond y (past k) []))
+    × (lentOf (cond (sized (lentOf u)) (resetOn u .table) t) ≡ cond y (lentOf t) (lentOf u)))
     (sym (misfit-agrees (lentOf u))) (go (sized (lentOf u)) refl)
   where
     go : (x : Bool) → sized (lentOf u) ≡ x
-        → Holds (if x (resetOn u .table) t) (λ k. bookOf (if (not x) (past k) []))
-        × (lentOf (if x (resetOn u .table) t) ≡ if (not x) (lentOf t) (lentOf u))
+        → Holds (cond x (resetOn u .table) t) (λ k. bookOf (cond (not x) (past k) []))
+        × (lentOf (cond x (resetOn u .table) t) ≡ cond (not x) (lentOf t) (lentOf u))
     go true e =
         let is : resetOn u .table ≡ cleared u = ap (λ (x : After). x .table) (reset-taken u e) in
         (subst (λ (v : Table). Holds v (λ k. bookOf [])) (sym is) (cleared-holds u e), ap lentOf is ∙ cleared-sizes u)
@@ -139,24 +138,24 @@ same-book os o n e = book-more os o ∙ ap (λ (r : Result). r .book) e
 module _ (t : Table) (past : ℕ → List Own) (h : Holds t (λ k. bookOf (past k))) (j : ℕ) (a : Ask) where
   -- the call was refused, and t stays
   refused-next : (l : Lent) → ((k : ℕ) → j ≡ k → bookOf (past k ++ record { lent = l; client = k; call = callOf a } ∷ []) ≡ bookOf (past k))
-      → Holds t (λ k. bookOf (if (eqb j k) (past k ++ record { lent = l; client = k; call = callOf a } ∷ []) (past k)))
+      → Holds t (λ k. bookOf (cond (eqb j k) (past k ++ record { lent = l; client = k; call = callOf a } ∷ []) (past k)))
   refused-next l same = record {
     fit = h .fit;
     each = λ k there. go k there (eqb j k) refl;
   }
     where
       go : (k : ℕ) → k < length (t .records) → (x : Bool) → eqb j k ≡ x
-          → Stands (recordOf k t) (shareOf k t) (bookOf (if x (past k ++ record { lent = l; client = k; call = callOf a } ∷ []) (past k)))
+          → Stands (recordOf k t) (shareOf k t) (bookOf (cond x (past k ++ record { lent = l; client = k; call = callOf a } ∷ []) (past k)))
       go k there true e = subst (Stands (recordOf k t) (shareOf k t)) (sym (same k (eqb-true j k e))) (h .each k there)
       go k there false e = h .each k there
 
   -- the call went to client j's own rules
   granted-next : j < length (t .records)
-      → Holds (askOn j a t .table) (λ k. bookOf (if (eqb j k) (past k ++ record { lent = lentOf t; client = k; call = callOf a } ∷ []) (past k)))
+      → Holds (askOn j a t .table) (λ k. bookOf (cond (eqb j k) (past k ++ record { lent = lentOf t; client = k; call = callOf a } ∷ []) (past k)))
   granted-next there = record {
     fit = asked-formed t f j a .fit;
     each = asked-each t f j a
-        (λ k c share. Stands c share (bookOf (if (eqb j k) (past k ++ record { lent = lentOf t; client = k; call = callOf a } ∷ []) (past k))))
+        (λ k c share. Stands c share (bookOf (cond (eqb j k) (past k ++ record { lent = lentOf t; client = k; call = callOf a } ∷ []) (past k))))
         own others;
   }
     where
@@ -170,18 +169,18 @@ module _ (t : Table) (past : ℕ → List Own) (h : Holds t (λ k. bookOf (past 
 
       own : j < length (t .records)
           → Stands (on (recordOf j t) (shareOf j t) a .client) (on (recordOf j t) (shareOf j t) a .share)
-          (bookOf (if (eqb j j) (past j ++ record { lent = lentOf t; client = j; call = callOf a } ∷ []) (past j)))
+          (bookOf (cond (eqb j j) (past j ++ record { lent = lentOf t; client = j; call = callOf a } ∷ []) (past j)))
       own here =
           subst (λ (x : Bool). Stands (on (recordOf j t) (shareOf j t) a .client) (on (recordOf j t) (shareOf j t) a .share)
-          (bookOf (if x (past j ++ record { lent = lentOf t; client = j; call = callOf a } ∷ []) (past j)))) (sym (eq-eqb j j refl))
+          (bookOf (cond x (past j ++ record { lent = lentOf t; client = j; call = callOf a } ∷ []) (past j)))) (sym (eq-eqb j j refl))
           (subst (Stands (on (recordOf j t) (shareOf j t) a .client) (on (recordOf j t) (shareOf j t) a .share)) (sym book)
           (one-client-theorem .each-call (recordOf j t) (shareOf j t) (bookOf (past j)) (h .each j here) a .stands))
 
       others : (k : ℕ) → k < length (t .records) → (j ≡ k → ⊥)
-          → Stands (recordOf k t) (shareOf k t) (bookOf (if (eqb j k) (past k ++ record { lent = lentOf t; client = k; call = callOf a } ∷ []) (past k)))
+          → Stands (recordOf k t) (shareOf k t) (bookOf (cond (eqb j k) (past k ++ record { lent = lentOf t; client = k; call = callOf a } ∷ []) (past k)))
       others k here other =
           subst (λ (x : Bool). Stands (recordOf k t) (shareOf k t)
-          (bookOf (if x (past k ++ record { lent = lentOf t; client = k; call = callOf a } ∷ []) (past k)))) (sym (ne-eqb j k other)) (h .each k here)
+          (bookOf (cond x (past k ++ record { lent = lentOf t; client = k; call = callOf a } ∷ []) (past k)))) (sym (ne-eqb j k other)) (h .each k here)
 
 pub event-next : (t : Table) (past : ℕ → List Own) → Holds t (λ k. bookOf (past k)) → (e : Event) → Allowed e → Next t past e
 event-next t past h (resetting current) ok = let r = reset-next t t past h in record { holds = r .0; sizes = r .1 }
@@ -202,7 +201,7 @@ event-next t past h (asking current j a) ok = go (ltb j (length (t .records))) r
     go false e =
         let out = ltb-false j (length (t .records)) e in
         record {
-          holds = subst (λ (v : Table). Holds v (λ k. bookOf (if (eqb j k) (past k ++ record { lent = lentOf t; client = k; call = callOf a } ∷ []) (past k))))
+          holds = subst (λ (v : Table). Holds v (λ k. bookOf (cond (eqb j k) (past k ++ record { lent = lentOf t; client = k; call = callOf a } ∷ []) (past k))))
               (sym (unknown-table t f j a out))
               (refused-next t past h j a (lentOf t) (λ k p.
               same-book (past k) (record { lent = lentOf t; client = k; call = callOf a }) 21

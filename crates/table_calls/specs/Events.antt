@@ -2,10 +2,9 @@
 -- The books have no part in this; what they say of such a list stands in `Owed`.
 use Prim.Native.Nat.{ℕ}
 use mathlib.Core.Path.{_≡_}
-use mathlib.Core.Bool.{false}
+use mathlib.Core.Bool.{false, cond}
 use mathlib.Core.List.{List, [], _∷_}
 use lib.Dec.{eqb}
-use Rattle.client_record.specs.Lists.{if}
 use Rattle.client_ledger.specs.History.{Ask, Given}
 use Rattle.table_calls.specs.Table.{Table, lentOf, sized, After, resetOn, askOn}
 
@@ -27,7 +26,7 @@ tableFor (another u) t = u
 
 -- the current table after an event: as the call left it; a set-up that is taken makes the table that it was lent the current one
 abbrev pub next : Table → Event → Table
-next t (resetting g) = if (sized (lentOf (tableFor g t))) (resetOn (tableFor g t) .table) t
+next t (resetting g) = cond (sized (lentOf (tableFor g t))) (resetOn (tableFor g t) .table) t
 next t (asking current k a) = askOn k a t .table
 next t (asking (another u) k a) = t
 
@@ -43,7 +42,7 @@ unfoldable pub gives : ℕ → Table → List Event → List Given
 gives k t [] = []
 gives k t (resetting g ∷ es) = givenBy (resetOn (tableFor g t)) ∷ gives k (next t (resetting g)) es
 gives k t (asking g j a ∷ es) =
-    if (eqb j k) (givenBy (askOn j a (tableFor g t)) ∷ gives k (next t (asking g j a)) es) (gives k (next t (asking g j a)) es)
+    cond (eqb j k) (givenBy (askOn j a (tableFor g t)) ∷ gives k (next t (asking g j a)) es) (gives k (next t (asking g j a)) es)
 
 -- ---- the terms of a list
 
@@ -61,4 +60,4 @@ Keeps (e ∷ es) = Allowed e × Keeps es
 unfoldable pub ownOnly : ℕ → List Event → List Event
 ownOnly k [] = []
 ownOnly k (resetting g ∷ es) = resetting g ∷ ownOnly k es
-ownOnly k (asking g j a ∷ es) = if (eqb j k) (asking g j a ∷ ownOnly k es) (ownOnly k es)
+ownOnly k (asking g j a ∷ es) = cond (eqb j k) (asking g j a ∷ ownOnly k es) (ownOnly k es)

@@ -3,7 +3,7 @@
 use Prim.Native.Nat.{ℕ}
 use mathlib.Core.List.{List, [], _∷_, _++_}
 use lib.Dec.{eqb}
-use Rattle.client_record.specs.Lists.{if}
+use mathlib.Core.Bool.{cond}
 use Rattle.client_reassembly.specs.Answer.{refused, ready}
 use Rattle.client_ledger.specs.Book.{Book, Result}
 use Rattle.client_ledger.specs.Lent.{misfits, Own, answered, bookOf}
@@ -21,13 +21,13 @@ ownCall g l k a = record { lent = sizesFor g l; client = k; call = callOf a }
 
 -- the sizes of the current table after an event
 abbrev pub sizesAfter : Lent → Event → Lent
-sizesAfter l (resetting g) = if (misfits (sizesFor g l)) l (sizesFor g l)
+sizesAfter l (resetting g) = cond (misfits (sizesFor g l)) l (sizesFor g l)
 sizesAfter l (asking g k a) = l
 
 -- client k's history after an event: its calls since the last set-up taken
 abbrev pub pastAfter : ℕ → Lent → List Own → Event → List Own
-pastAfter k l past (resetting g) = if (misfits (sizesFor g l)) past []
-pastAfter k l past (asking g j a) = if (eqb j k) (past ++ ownCall g l k a ∷ []) past
+pastAfter k l past (resetting g) = cond (misfits (sizesFor g l)) past []
+pastAfter k l past (asking g j a) = cond (eqb j k) (past ++ ownCall g l k a ∷ []) past
 
 unfoldable pub history : ℕ → Lent → List Own → List Event → List Own
 history k l past [] = past
@@ -38,13 +38,13 @@ givenIn r = record { reply = r .reply; out = r .out }
 
 -- a set-up is refused for the sizes of its table alone
 abbrev pub resetOwes : Lent → Given
-resetOwes l = record { reply = if (misfits l) (refused 20) ready; out = [] }
+resetOwes l = record { reply = cond (misfits l) (refused 20) ready; out = [] }
 
 -- what client k's book answers and leaves in out, call by call
 unfoldable pub owes : ℕ → Lent → List Own → List Event → List Given
 owes k l past [] = []
 owes k l past (resetting g ∷ es) = resetOwes (sizesFor g l) ∷ owes k (sizesAfter l (resetting g)) (pastAfter k l past (resetting g)) es
 owes k l past (asking g j a ∷ es) =
-    if (eqb j k)
+    cond (eqb j k)
     (givenIn (answered (ownCall g l k a) (bookOf past)) ∷ owes k l (pastAfter k l past (asking g j a)) es)
     (owes k l (pastAfter k l past (asking g j a)) es)

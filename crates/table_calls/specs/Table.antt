@@ -6,12 +6,13 @@ use mathlib.Core.List.{List, [], _∷_}
 use mathlib.Core.Option.{Option, none, some}
 use lib.Dec.{leb, eqb}
 use lib.ListN.{length, getD, set, replicate}
+use Rattle.number_tests.specs.Tests.{firstOf}
 use Rattle.number_octets.specs.Octets.{part, overlay}
 use Rattle.client_record.specs.declared.Client.{Client}
 use Rattle.client_record.specs.Limits.{shareSize, clientLimit}
 use Rattle.client_record.specs.Record.{freshClient}
 use Rattle.client_reassembly.specs.declared.Answer.{Answer}
-use Rattle.client_reassembly.specs.Answer.{Reply, refused, ready, replyOf, firstOf}
+use Rattle.client_reassembly.specs.Answer.{Reply, refused, ready, replyOf}
 use Rattle.client_reassembly.specs.Offer.{Outcome}
 use Rattle.client_ledger.specs.History.{Lent, Ask, offering, advancing, accounting, on}
 

@@ -44,7 +44,7 @@ use Rattle.table_receiver.specs.Receive.{
   Packet,
   readingOf,
   offerOf,
-  Outcome′,
+  Receipt,
   fateOf,
   taking,
   receiving,
@@ -111,7 +111,7 @@ not-received k p out t e = ap (receiving k p out t) e
 pub other-leaves : (k : ℕ) (p : Packet) (out : List ℕ) (t : Table) (o : Outcome) (r : Received) → answerOf o ≡ readingOf p → foundIn o ≡ Other
     → fateIn r ≡ fateOf (answerOf o) → Leaves (receiveOn k p out t) r (t .records) (t .store) out
 other-leaves k p out t o r a e q =
-    subst (λ (x : Outcome′). Leaves x r (t .records) (t .store) out)
+    subst (λ (x : Receipt). Leaves x r (t .records) (t .store) out)
     (sym (not-received k p out t (met-other (p .payload) (p .source) (p .destination) o a e)))
     (record { answers = q ∙ ap fateOf a; records-left = refl; store-left = refl; out-left = refl })
 
@@ -125,7 +125,7 @@ fragment-leaves k p out t f arrival answer records store out′ r e ar l q =
     ap (λ (x : Arrival). askOn k (offering x (bytesOf (p .payload) f) out) t) ar in
     let left : Table.Leaves (askOn k (offerOf p f out) t) answer records store out′ =
     subst (λ (x : After). Table.Leaves x answer records store out′) same l in
-    subst (λ (x : Outcome′). Leaves x r records store out′) (sym (received k p out t f e))
+    subst (λ (x : Receipt). Leaves x r records store out′) (sym (received k p out t f e))
     (record {
       answers = ap fateIn q ∙ ap offered (left .answers);
       records-left = left .records-left;

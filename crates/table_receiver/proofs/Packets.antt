@@ -3,7 +3,7 @@
 -- Assumes nothing.
 use Prim.Native.Nat.{ℕ, _<_}
 use mathlib.Core.Path.{_≡_, refl, sym, ap, ap₂, subst, _∙_}
-use mathlib.Core.Bool.{Bool, true, false}
+use mathlib.Core.Bool.{Bool, true, false, cond}
 use mathlib.Core.List.{List, [], _∷_, _++_, append-assoc}
 use mathlib.Core.Option.{Option, none, some}
 use mathlib.Core.Logic.{_↔_}
@@ -11,7 +11,6 @@ use native.Mathlib.Omega.{arith}
 use lib.Dec.{eqb}
 use lib.ListN.{length}
 use Rattle.number_octets.specs.Octets.{part}
-use Rattle.client_record.specs.Lists.{if}
 use Rattle.client_reassembly.specs.Answer.{Reply, refused, delivered}
 use Rattle.client_reassembly.specs.Advance.{figures}
 use Rattle.wire_area.specs.declared.Fragment.{Fragment}
@@ -37,7 +36,7 @@ use Rattle.table_receiver.specs.Receive.{
   offerOf,
   Fate,
   offered,
-  Outcome′,
+  Receipt,
   fateOf,
   taking,
   receiving,
@@ -97,11 +96,11 @@ reader-silent : (a : Answer) (out : List ℕ) → toldOf (fateOf a) out ≡ []
 reader-silent (Reading.refused n) out = refl
 reader-silent (Reading.reads r) out = refl
 
-if-none : (x : Bool) → if {A = List Given} x [] [] ≡ []
+if-none : (x : Bool) → cond {A = List Given} x [] [] ≡ []
 if-none true = refl
 if-none false = refl
 
-if-front : (x : Bool) (g : Given) (gs : List Given) → if x (g ∷ []) [] ++ gs ≡ if x (g ∷ gs) gs
+if-front : (x : Bool) (g : Given) (gs : List Given) → cond x (g ∷ []) [] ++ gs ≡ cond x (g ∷ gs) gs
 if-front true g gs = refl
 if-front false g gs = refl
 
@@ -111,11 +110,11 @@ told-is k t (setUp g) es = refl
 told-is k t (arriving g j p out) es = go (pieceIn (readingOf p))
   where
     go : (o : Option Fragment)
-        → if (eqb j k) (toldBy (receiving j p out (tableFor g t) o)) [] ++ gives k (final t (offers g j p out o)) es
+        → cond (eqb j k) (toldBy (receiving j p out (tableFor g t) o)) [] ++ gives k (final t (offers g j p out o)) es
         ≡ gives k t (offers g j p out o ++ es)
     go none =
         ap (λ (l : List Given). l ++ gives k t es)
-        (ap (λ (l : List Given). if (eqb j k) l []) (reader-silent (readingOf p) out) ∙ if-none (eqb j k))
+        (ap (λ (l : List Given). cond (eqb j k) l []) (reader-silent (readingOf p) out) ∙ if-none (eqb j k))
     go (some f) =
         if-front (eqb j k) (givenBy (askOn j (offerOf p f out) (tableFor g t))) (gives k (next t (asking g j (offerOf p f out))) es)
 told-is k t (calling g j a) es = if-front (eqb j k) (givenBy (askOn j a (tableFor g t))) (gives k (next t (asking g j a)) es)
@@ -136,7 +135,7 @@ own-append k (resetting g ∷ xs) ys = ap (λ (l : List Event). resetting g ∷ 
 own-append k (asking g j a ∷ xs) ys = go (eqb j k) (own-append k xs ys)
   where
     go : (x : Bool) → ownOnly k (xs ++ ys) ≡ ownOnly k xs ++ ownOnly k ys
-        → if x (asking g j a ∷ ownOnly k (xs ++ ys)) (ownOnly k (xs ++ ys)) ≡ if x (asking g j a ∷ ownOnly k xs) (ownOnly k xs) ++ ownOnly k ys
+        → cond x (asking g j a ∷ ownOnly k (xs ++ ys)) (ownOnly k (xs ++ ys)) ≡ cond x (asking g j a ∷ ownOnly k xs) (ownOnly k xs) ++ ownOnly k ys
     go true ih = ap (λ (l : List Event). asking g j a ∷ l) ih
     go false ih = ih
 
@@ -146,16 +145,16 @@ own-call k (setUp g) cs = refl
 own-call k (arriving g j p out) cs = go (eqb j k) refl (pieceIn (readingOf p)) refl
   where
     go : (x : Bool) → eqb j k ≡ x → (o : Option Fragment) → pieceIn (readingOf p) ≡ o
-        → ownOnly k (offers g j p out o) ++ allEvents cs ≡ allEvents (if x (arriving g j p out ∷ cs) cs)
+        → ownOnly k (offers g j p out o) ++ allEvents cs ≡ allEvents (cond x (arriving g j p out ∷ cs) cs)
     go true e none q = ap (λ (o : Option Fragment). offers g j p out o ++ allEvents cs) (sym q)
     go true e (some f) q =
-        ap (λ (x : Bool). if x (asking g j (offerOf p f out) ∷ []) [] ++ allEvents cs) e
+        ap (λ (x : Bool). cond x (asking g j (offerOf p f out) ∷ []) [] ++ allEvents cs) e
         ∙ ap (λ (o : Option Fragment). offers g j p out o ++ allEvents cs) (sym q)
     go false e none q = refl
-    go false e (some f) q = ap (λ (x : Bool). if x (asking g j (offerOf p f out) ∷ []) [] ++ allEvents cs) e
+    go false e (some f) q = ap (λ (x : Bool). cond x (asking g j (offerOf p f out) ∷ []) [] ++ allEvents cs) e
 own-call k (calling g j a) cs = go (eqb j k)
   where
-    go : (x : Bool) → if x (asking g j a ∷ []) [] ++ allEvents cs ≡ allEvents (if x (calling g j a ∷ cs) cs)
+    go : (x : Bool) → cond x (asking g j a ∷ []) [] ++ allEvents cs ≡ allEvents (cond x (calling g j a ∷ cs) cs)
     go true = refl
     go false = refl
 
@@ -190,12 +189,12 @@ module _ (t : Table) (cs : List Call) (terms : Terms t (allEvents cs)) (k : ℕ)
   module _ (f : Fragment) (e : pieceIn (readingOf p) ≡ some f) where
     fate-is : receiveOn k p out (tableAfter t cs) .fate ≡ offered (askOn k (offerOf p f out) (Table.tableAfter t (allEvents cs)) .reply)
     fate-is =
-        ap (λ (x : Outcome′). x .fate) (received k p out (tableAfter t cs) f e)
+        ap (λ (x : Receipt). x .fate) (received k p out (tableAfter t cs) f e)
         ∙ ap (λ (u : Table). offered (askOn k (offerOf p f out) u .reply)) (table-is t cs terms)
 
     out-is : receiveOn k p out (tableAfter t cs) .out ≡ askOn k (offerOf p f out) (Table.tableAfter t (allEvents cs)) .out
     out-is =
-        ap (λ (x : Outcome′). x .out) (received k p out (tableAfter t cs) f e)
+        ap (λ (x : Receipt). x .out) (received k p out (tableAfter t cs) f e)
         ∙ ap (λ (u : Table). askOn k (offerOf p f out) u .out) (table-is t cs terms)
 
     reply-of : (r : Reply) → receiveOn k p out (tableAfter t cs) .fate ≡ offered r
@@ -238,7 +237,7 @@ module _ (t : Table) (cs : List Call) (terms : Terms t (allEvents cs)) (k : ℕ)
   left-alone never = go (pieceIn (readingOf p)) refl
     where
       go : (o : Option Fragment) → pieceIn (readingOf p) ≡ o → receiveOn k p out (tableAfter t cs) .out ≡ out
-      go none e = ap (λ (x : Outcome′). x .out) (not-received k p out (tableAfter t cs) e)
+      go none e = ap (λ (x : Receipt). x .out) (not-received k p out (tableAfter t cs) e)
       go (some f) e =
           out-is f e
           ∙ demand-3 .untouched t (allEvents cs) terms k (arrivalOf (p .payload) (p .source) (p .destination) (p .time) f) (bytesOf (p .payload) f) out
@@ -252,7 +251,7 @@ module _ (t : Table) (cs : List Call) (terms : Terms t (allEvents cs)) (k : ℕ)
       silent (Reading.reads r) e = let z : _≡_ {A = ℕ} 0 1 = cc in omega arith
 
       go : (o : Option Fragment) → pieceIn (readingOf p) ≡ o → ⊥
-      go none e = silent (readingOf p) (sym (ap (λ (x : Outcome′). x .fate) (not-received k p out (tableAfter t cs) e)) ∙ q)
+      go none e = silent (readingOf p) (sym (ap (λ (x : Receipt). x .fate) (not-received k p out (tableAfter t cs) e)) ∙ q)
       go (some f) e = demand-3 .sound t (allEvents cs) terms k (offerOf p f out) (reply-of f e (refused 22) q)
 
 isolated : (t : Table) (cs cs′ : List Call) → Terms t (allEvents cs) → Terms t (allEvents cs′) → (k : ℕ) → ownCalls k cs ≡ ownCalls k cs′

@@ -7,8 +7,8 @@ use mathlib.Core.Option.{Option, none, some}
 use mathlib.Core.Logic.{_↔_}
 use lib.Dec.{eqb}
 use lib.ListN.{length}
+use mathlib.Core.Bool.{cond}
 use Rattle.number_octets.specs.Octets.{part}
-use Rattle.client_record.specs.Lists.{if}
 use Rattle.client_reassembly.specs.Answer.{Reply, refused, delivered}
 use Rattle.client_reassembly.specs.Advance.{figures}
 use Rattle.wire_area.specs.declared.Fragment.{Fragment}
@@ -34,7 +34,7 @@ use Rattle.table_receiver.specs.Receive.{
   unread,
   whole,
   offered,
-  Outcome′,
+  Receipt,
   fateOf,
   receiveOn,
 }
@@ -64,14 +64,14 @@ toldOf (unread n) out = []
 toldOf (whole r) out = []
 toldOf (offered reply) out = record { reply = reply; out = out } ∷ []
 
-abbrev pub toldBy : Outcome′ → List Given
+abbrev pub toldBy : Receipt → List Given
 toldBy o = toldOf (o .fate) (o .out)
 
 -- what the table answered to client k's fragments, clocks and accounts, and to the set-ups
 abbrev pub told : ℕ → Table → Call → List Given
 told k t (setUp g) = givenBy (resetOn (tableFor g t)) ∷ []
-told k t (arriving g j p out) = if (eqb j k) (toldBy (receiveOn j p out (tableFor g t))) []
-told k t (calling g j a) = if (eqb j k) (givenBy (askOn j a (tableFor g t)) ∷ []) []
+told k t (arriving g j p out) = cond (eqb j k) (toldBy (receiveOn j p out (tableFor g t))) []
+told k t (calling g j a) = cond (eqb j k) (givenBy (askOn j a (tableFor g t)) ∷ []) []
 
 unfoldable pub tells : ℕ → Table → List Call → List Given
 tells k t [] = []
@@ -96,8 +96,8 @@ allEvents (c ∷ cs) = eventsOf c ++ allEvents cs
 -- a list without the calls of clients other than k
 abbrev pub ownIf : ℕ → Call → List Call → List Call
 ownIf k (setUp g) cs = setUp g ∷ cs
-ownIf k (arriving g j p out) cs = if (eqb j k) (arriving g j p out ∷ cs) cs
-ownIf k (calling g j a) cs = if (eqb j k) (calling g j a ∷ cs) cs
+ownIf k (arriving g j p out) cs = cond (eqb j k) (arriving g j p out ∷ cs) cs
+ownIf k (calling g j a) cs = cond (eqb j k) (calling g j a ∷ cs) cs
 
 unfoldable pub ownCalls : ℕ → List Call → List Call
 ownCalls k [] = []

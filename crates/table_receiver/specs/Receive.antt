@@ -69,7 +69,7 @@ pub data Fate : Type 0 where
   whole : Reading → Fate
   offered : Reply → Fate
 
-pub record Outcome′ : Type 0 where
+pub record Receipt : Type 0 where
   pub table : Table
   pub out : List ℕ
   pub fate : Fate
@@ -78,15 +78,15 @@ abbrev pub fateOf : Answer → Fate
 fateOf (Reading.refused n) = unread n
 fateOf (Reading.reads r) = whole r
 
-abbrev pub taking : After → Outcome′
+abbrev pub taking : After → Receipt
 taking a = record { table = a .table; out = a .out; fate = offered (a .reply) }
 
 -- what is no fragment leaves every record, the store and out as they were
-abbrev pub receiving : ℕ → Packet → List ℕ → Table → Option Fragment → Outcome′
+abbrev pub receiving : ℕ → Packet → List ℕ → Table → Option Fragment → Receipt
 receiving k p out t none = record { table = t; out = out; fate = fateOf (readingOf p) }
 receiving k p out t (some f) = taking (askOn k (offerOf p f out) t)
 
-unfoldable pub receiveOn : ℕ → Packet → List ℕ → Table → Outcome′
+unfoldable pub receiveOn : ℕ → Packet → List ℕ → Table → Receipt
 receiveOn k p out t = receiving k p out t (pieceIn (readingOf p))
 
 -- ---- what the contracts say
@@ -106,7 +106,7 @@ fateIn (Refused refusal) = unread (refusalNumber refusal)
 fateIn (Datagram r) = whole r
 fateIn (Offered answer) = offered (replyOf answer)
 
-pub record Leaves (o : Outcome′) (answer : Received) (records : List Client) (store out : List ℕ) : Type 0 where
+pub record Leaves (o : Receipt) (answer : Received) (records : List Client) (store out : List ℕ) : Type 0 where
   pub answers : fateIn answer ≡ o .fate
   pub records-left : records ≡ o .table .records
   pub store-left : store ≡ o .table .store

@@ -2,8 +2,7 @@
 -- Both go by what the area's start and walk come to: every case has the user data's extent, and only "read" has more.
 -- Assumes nothing.
 use mathlib.Core.Path.{_≡_, refl, sym, ap, ap₂, subst, _∙_}
-use mathlib.Core.Bool.{Bool, true, false, cond, not, _&&_, _||_}
-use mathlib.Core.List.{List, [], _∷_, _++_}
+use mathlib.Core.List.{List, _++_}
 use mathlib.Core.Logic.{_⊎_, inl, inr}
 use mathlib.Core.Option.{Option, none, some}
 use Prim.Native.Nat.{ℕ, _+_, _-_, _≤_}
@@ -11,31 +10,14 @@ use native.Mathlib.Omega.{arith}
 use borrow.Author.Tests.{ltb-false}
 use lib.Dec.{eqb, ltb}
 use lib.ListN.{length, take, drop}
+use Rattle.number_tests.proofs.Tests.{first-none, both-false}
+use Rattle.number_tests.specs.Tests.{firstOf}
 use Rattle.number_octets.specs.Octets.{number, part}
 use Rattle.number_octets.proofs.Laws.{part-take}
 use Rattle.number_offsets.specs.Offsets.{udpHeader}
 use Rattle.wire_area.specs.Area.{AreaWalk, plain, piece, fault, areaOf}
 use Rattle.wire_surplus.specs.Surplus.{startOf}
-use Rattle.wire_datagram.specs.Reading.{
-  noData,
-  payloadLimit,
-  udpLength,
-  udpChecksum,
-  pseudoHeader,
-  sumHolds,
-  firstOf,
-  refusalTests,
-  extent,
-  walked,
-  started,
-  isOdd,
-  accepted,
-  Answer,
-  refused,
-  reads,
-  answered,
-  reading,
-}
+use Rattle.wire_datagram.specs.Reading.{noData, udpLength, udpChecksum, refusalTests, extent, walked, started, isOdd, accepted, Answer, refused, reads, answered, reading}
 use Rattle.wire_surplus.specs.declared.Start.{Start}
 use Rattle.wire_surplus.specs.declared.Start.the-variants.{Empty, Short, Pad, Unsummed, BadSum, List as ListAt}
 use Rattle.wire_datagram.specs.declared.reading.Apc.the-variants.{Absent}
@@ -104,27 +86,6 @@ options-only-with-read p s d r e =
 
 -- ---- user data survives
 
--- the refusal tests see a payload's length, its UDP length, its UDP checksum and the bytes up to L
-abbrev testsOf : List ℕ → List ℕ → ℕ → ℕ → ℕ → List ℕ → List (Bool × ℕ)
-testsOf s d n size sum front =
-    (ltb n udpHeader, 1)
-    ∷ (ltb payloadLimit n, 2)
-    ∷ (ltb size udpHeader || ltb n size, 3)
-    ∷ (not (eqb sum 0) && not (sumHolds (pseudoHeader s d size) front), 4)
-    ∷ []
-
-pub first-none : (x : Bool × ℕ) (xs : List (Bool × ℕ)) → firstOf (x ∷ xs) ≡ none → (x .0 ≡ false) × (firstOf xs ≡ none)
-unfolding firstOf
-first-none x xs = go (x .0) refl
-  where
-    go : (t : Bool) → x .0 ≡ t → cond t (some (x .1)) (firstOf xs) ≡ none → (x .0 ≡ false) × (firstOf xs ≡ none)
-    go true e q = absurd (let z : _≡_ {A = ℕ} 0 1 = cc in omega arith)
-    go false e q = (e, q)
-
-both-false : (a b : Bool) → (a || b) ≡ false → (a ≡ false) × (b ≡ false)
-both-false true b e = absurd (let z : _≡_ {A = ℕ} 0 1 = cc in omega arith)
-both-false false b e = (refl, e)
-
 -- L is at least a header and within the payload
 pub in-range : (p s d : List ℕ) → firstOf (refusalTests p s d) ≡ none → (udpHeader ≤ udpLength p) × (udpLength p ≤ length p)
 in-range p s d e =
@@ -152,10 +113,7 @@ user-data-survives p q s d r e n front =
     let size : udpLength q ≡ L = ap number (same 4 2 (omega arith)) in
     let sum : udpChecksum q ≡ udpChecksum p = ap number (same 6 2 (omega arith)) in
     let fronts : take (udpLength q) q ≡ take L p = ap (λ (k : ℕ). take k q) size ∙ front in
-    let tests : refusalTests q s d ≡ refusalTests p s d =
-    ap (λ (k : ℕ). testsOf s d k (udpLength q) (udpChecksum q) (take (udpLength q) q)) n
-    ∙ ap (λ (k : ℕ). testsOf s d (length p) k (udpChecksum q) (take (udpLength q) q)) size
-    ∙ ap₂ (λ (k : ℕ) (t : List ℕ). testsOf s d (length p) L k t) sum fronts in
+    let tests : refusalTests q s d ≡ refusalTests p s d = cc in
     record {
       other = accepted q;
       is-read = answered-none (ap firstOf tests ∙ m .0);

@@ -11,6 +11,8 @@ use borrow.Author.Tests.{ltb-false}
 use lib.Dec.{eqb}
 use lib.ListN.{length, drop, length-drop}
 use lib.Seq.{take-all}
+use Rattle.number_tests.proofs.Tests.{first-none}
+use Rattle.number_tests.specs.Tests.{firstOf}
 use Rattle.number_octets.specs.Octets.{part}
 use Rattle.number_offsets.specs.Offsets.{udpHeader}
 use Rattle.wire_options.specs.Walk.{Item, Walked, listed, faulty, walkFrom, optionLimit}
@@ -24,20 +26,7 @@ use Rattle.wire_options.specs.declared.walk.Fault.the-variants.{
 }
 use Rattle.wire_area.proofs.Areas.{area-plain}
 use Rattle.wire_surplus.specs.Surplus.{startOf}
-use Rattle.wire_datagram.specs.Reading.{
-  noData,
-  udpLength,
-  udpChecksum,
-  firstOf,
-  verdictOf,
-  walked,
-  started,
-  isOdd,
-  accepted,
-  reads,
-  reading,
-  isRead,
-}
+use Rattle.wire_datagram.specs.Reading.{noData, udpLength, udpChecksum, verdictOf, walked, started, isOdd, accepted, reads, reading, isRead}
 use Rattle.wire_datagram.specs.Rereading.{ReAnswer, refused, rereads, quietly, rewalked, restarted, reTests, reAnswered, rereading}
 use Rattle.wire_surplus.specs.declared.Start.{Start}
 use Rattle.wire_surplus.specs.declared.Start.the-variants.{
@@ -64,7 +53,7 @@ use Rattle.wire_datagram.specs.declared.reading.Verdict.the-variants.{
 }
 use Rattle.wire_datagram.specs.declared.reading.Reading.{Reading}
 use Rattle.wire_datagram.specs.declared.rereading.Rereading.{Rereading}
-use Rattle.wire_datagram.proofs.Claims.{met-none, first-none, in-range}
+use Rattle.wire_datagram.proofs.Claims.{met-none, in-range}
 use Rattle.wire_surplus.proofs.Starts.{start-list}
 
 -- what the bytes from `from` to `to` list

@@ -9,9 +9,10 @@ use native.Mathlib.Omega.{arith}
 use borrow.Author.Tests.{eq-eqb, ne-eqb, lt-ltb, le-ltb}
 use lib.Dec.{eqb}
 use lib.ListN.{length, take, drop}
+use Rattle.number_tests.specs.Tests.{firstOf}
 use Rattle.number_offsets.specs.Offsets.{udpHeader}
 use Rattle.number_checksum.specs.Checksum.{wordSum, folded, allOnes}
-use Rattle.wire_datagram.specs.Reading.{payloadLimit, udpLength, udpChecksum, pseudoHeader, firstOf, accepted, isOdd, Answer, refused, reads, reading}
+use Rattle.wire_datagram.specs.Reading.{payloadLimit, udpLength, udpChecksum, pseudoHeader, accepted, isOdd, Answer, refused, reads, reading}
 use Rattle.wire_datagram.specs.Rereading.{originalLimit, restarted, rereading, refused as refusedAgain}
 use Rattle.wire_surplus.specs.Surplus.{startOf}
 

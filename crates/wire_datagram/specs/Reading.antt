@@ -7,6 +7,7 @@ use lib.Dec.{eqb, leb, ltb}
 use lib.ListN.{length, take, drop}
 use Rattle.number_octets.specs.Octets.{number, octets, part}
 use Rattle.number_offsets.specs.Offsets.{udpHeader}
+use Rattle.number_tests.specs.Tests.{firstOf}
 use Rattle.number_checksum.specs.Checksum.{wordSum, folded, allOnes}
 use Rattle.number_crc32c.specs.Crc.{crcOf}
 use Rattle.wire_options.specs.Kinds.{apc}
@@ -53,16 +54,15 @@ udpChecksum payload = number (part 6 2 payload)
 unfoldable pub pseudoHeader : List ℕ → List ℕ → ℕ → List ℕ
 pseudoHeader source destination size = source ++ destination ++ (0 ∷ 17 ∷ octets 2 size)
 
--- the sum over a pseudo-header and the datagram behind it is FFFF
+-- the sum over a pseudo-header and the datagram behind it, folded
+abbrev pub udpSum : List ℕ → List ℕ → ℕ
+udpSum pseudo datagram = folded (wordSum false (pseudo ++ datagram))
+
+-- it is FFFF where the checksum is right
 abbrev pub sumHolds : List ℕ → List ℕ → Bool
-sumHolds pseudo datagram = eqb (folded (wordSum false (pseudo ++ datagram))) allOnes
+sumHolds pseudo datagram = eqb (udpSum pseudo datagram) allOnes
 
 -- ---- tests in order
-
--- the number of the first test that applies
-unfoldable pub firstOf : List (Bool × ℕ) → Option ℕ
-firstOf [] = none
-firstOf (x ∷ xs) = cond (x .0) (some (x .1)) (firstOf xs)
 
 abbrev pub refusalTests : List ℕ → List ℕ → List ℕ → List (Bool × ℕ)
 refusalTests payload source destination =

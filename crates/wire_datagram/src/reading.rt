@@ -7,15 +7,12 @@ use wire_options::walk::Apcs;
 use wire_options::walk::Fault;
 use wire_surplus::Start;
 ghost use mathlib.Core.Path.{_≡_};
-ghost use mathlib.Core.Bool.{false};
-ghost use mathlib.Core.List.{_++_};
 ghost use Prim.Native.Nat.{_≤_};
 ghost use lib.ListN.{length, drop};
 ghost use Rattle.number_offsets.specs.Offsets.{udpHeader};
 ghost use Rattle.wire_area.specs.Area.{areaOf};
-ghost use Rattle.number_checksum.specs.Checksum.{folded, wordSum};
 ghost use Rattle.wire_surplus.specs.Surplus.{startOf};
-ghost use Rattle.wire_datagram.specs.Reading.{payloadLimit, pseudoHeader, isOdd, quiet, verdictOf, walked, noData, started, reading, answerOf, isRead};
+ghost use Rattle.wire_datagram.specs.Reading.{payloadLimit, pseudoHeader, udpSum, isOdd, quiet, verdictOf, walked, noData, started, reading, answerOf, isRead};
 ghost use Rattle.wire_datagram.specs.Private.{apcBy};
 
 // An IPv4 packet of 65,535 bytes less its header.
@@ -102,10 +99,10 @@ pub fn read(payload: &[u8], source: [u8; 4], destination: [u8; 4]) -> Outcome
     Outcome::Accepted(accept(payload, size, checksum == 0))
 }
 
-// The sum over the pseudo-header and a datagram.
-fn udp_sum(datagram: &[u8], source: [u8; 4], destination: [u8; 4]) -> u16
+// The sum over the pseudo-header and a datagram, for the reader and for the writer.
+pub fn udp_sum(datagram: &[u8], source: [u8; 4], destination: [u8; 4]) -> u16
     requires { ⌜ length (now datagram) ≤ 65535 ⌝ }
-    ensures { λ r. ⌜ r ≡ folded (wordSum false (pseudoHeader source destination (length (now (datagram .entry))) ++ now (datagram .entry))) ⌝ }
+    ensures { λ r. ⌜ r ≡ udpSum (pseudoHeader source destination (length (now (datagram .entry)))) (now (datagram .entry)) ⌝ }
 {
     let addresses = number_checksum::add(
         number_checksum::add(0, &source, false),

@@ -1,5 +1,6 @@
 -- The option kinds of RFC 9868 section 10, as the table in document 01 has them: the class of a kind and the lengths it may have.
 use mathlib.Core.Bool.{cond}
+use mathlib.Core.List.{List, [], _∷_}
 use Prim.Native.Nat.{ℕ}
 use lib.Dec.{eqb, leb}
 use Rattle.wire_options.specs.declared.step.Class.{Class}
@@ -38,3 +39,13 @@ classOf kind =
     (cond (eqb kind 7) (Fixed 6 6)
     (cond (eqb kind 8) (Fixed 10 10)
     (cond (leb kind 191) Varying Unsafe)))))))))
+
+-- the widths in bytes of the numbers that an option has, by its kind; a kind from 9 on has a body instead
+abbrev pub widthsOf : ℕ → List ℕ
+widthsOf kind =
+    cond (eqb kind apc) (4 ∷ [])
+    (cond (eqb kind 4) (2 ∷ [])
+    (cond (eqb kind 5) (2 ∷ 1 ∷ [])
+    (cond (eqb kind 6) (4 ∷ [])
+    (cond (eqb kind 7) (4 ∷ [])
+    (cond (eqb kind 8) (4 ∷ 4 ∷ []) [])))))

@@ -30,6 +30,11 @@ pub data Walked : Type 0 where
   listed : List Item → ℕ → Walked
   faulty : Fault → Walked
 
+-- the options of a walk; none where it met a fault
+abbrev pub itemsOf : Walked → List Item
+itemsOf (listed items fill) = items
+itemsOf (faulty fault) = []
+
 abbrev pub before : Item → Walked → Walked
 before item (listed items fill) = listed (item ∷ items) fill
 before item (faulty fault) = faulty fault

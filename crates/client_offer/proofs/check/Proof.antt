@@ -6,11 +6,11 @@ use Prim.Native.Nat.{ℕ, _+_, _<_, _≤_}
 use native.Mathlib.Omega.{arith}
 use lib.Dec.{eqb, ltb}
 use borrow.Author.Tests.{lt-ltb, le-ltb, eq-eqb, ne-eqb}
+use Rattle.number_tests.specs.Tests.{firstOf}
 use Rattle.client_record.specs.declared.Client.{Client}
 use Rattle.client_record.specs.Limits.{datagramLimit, offeredLimit}
 use Rattle.client_record.specs.Record.{soundRecord}
 use Rattle.client_record.proofs.SoundParts.{sound-parts}
-use Rattle.client_reassembly.specs.Answer.{firstOf}
 use Rattle.client_reassembly.specs.Offer.{offerTests}
 use borrow.Author.Needs.{needs}
 use Rattle.client_offer.proofs.check.Statement.{statement}

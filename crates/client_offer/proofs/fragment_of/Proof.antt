@@ -2,7 +2,6 @@
 -- Assumes nothing.
 use Rattle.client_reassembly.specs.declared.Arrival.{Arrival}
 use Rattle.client_reassembly.specs.Offer.{fragmentOf}
-use Rattle.client_record.specs.Lists.{if}
 use Rattle.client_record.specs.Limits.{datagramLimit}
 use Rattle.client_record.specs.Record.{markOf}
 use Rattle.client_record.specs.declared.Fragment.{Fragment}
@@ -10,13 +9,13 @@ use borrow.Author.Tests.{ltb-false}
 use lib.Dec.{ltb}
 use native.Mathlib.Omega.{arith}
 use Prim.Native.Nat.{ℕ, _+_}
-use mathlib.Core.Bool.{Bool, false, _&&_}
+use mathlib.Core.Bool.{Bool, false, _&&_, cond}
 use mathlib.Core.Path.{_≡_, sym, ap, _∙_}
 use Rattle.client_offer.proofs.fragment_of.Statement.{statement}
 use Rattle.client_offer.proofs.fragment_of.Tie as tie
 
 marked : Arrival → ℕ → Bool → Fragment
-marked o n b = record { offset = o .offset .0; length = n; «option_start» = if b (o .«option_start» .0) 0; last = markOf b }
+marked o n b = record { offset = o .offset .0; length = n; «option_start» = cond b (o .«option_start» .0) 0; last = markOf b }
 
 cast-offset : tie.Need-cast-offset
 unfolding datagramLimit

@@ -5,6 +5,7 @@ use mathlib.Core.Bool.{true, false}
 use Prim.Native.Nat.{ℕ, _+_, _-_, _*_, _≤_}
 use native.Mathlib.Omega.{arith}
 use lib.ListN.{length, drop}
+use Rattle.number_tests.proofs.Tests.{cond-yes, cond-no}
 use Rattle.number_octets.specs.Octets.{part, overlay}
 use Rattle.client_record.specs.declared.Fragment.{Fragment}
 use Rattle.client_record.specs.declared.Assembly.{Assembly}
@@ -15,7 +16,6 @@ use Rattle.client_record.proofs.Shapes.{slots}
 use Rattle.client_reassembly.specs.Answer.{stored, delivered}
 use Rattle.client_reassembly.specs.Offer.{Outcome, leaving, added, storing, base, handedOut, joined}
 use Rattle.client_reassembly.proofs.Joins.{added-within}
-use Rattle.client_reassembly.proofs.Laws.{if-yes, if-no}
 use borrow.Author.Needs.{needs}
 use Rattle.client_offer.proofs.join.Statement.{statement}
 use Rattle.client_offer.proofs.join.Tie as tie
@@ -106,7 +106,7 @@ returns c =
     let whole-now : whole (heldFragments (added (x .a) (x .f))) ≡ true =
     sym (ap (λ (b : Assembly). whole (heldFragments b)) (w .before .before .added .ensures)) ∙ sym (w .whole .ensures) ∙ l .before .if1 .taken in
     let is : joined (x .c) (x .share .now) (x .out .now) (x .p) (x .a) (x .f) ≡ handedOut (x .c) (x .share .now) (x .out .now) (x .p) (x .a) (x .f) =
-    if-yes (whole (heldFragments (added (x .a) (x .f)))) _ _ whole-now in
+    cond-yes (whole (heldFragments (added (x .a) (x .f)))) _ _ whole-now in
     let start = x .p * datagramLimit in
     let size : start + e .end-of .result - start ≡ e .end-of .result = omega arith in
     record {
@@ -131,7 +131,7 @@ returns-2 c =
     sym (ap (λ (b : Assembly). whole (heldFragments b)) (w .before .before .added .ensures)) ∙ sym (w .whole .ensures) ∙ c .before .if1 .left in
     let is : joined (x .c) (x .share .now) (x .out .now) (x .p) (x .a) (x .f)
     ≡ leaving (storing (x .p) (added (x .a) (x .f)) (x .f .length) (x .c)) (x .share .now) (x .out .now) stored =
-    if-no (whole (heldFragments (added (x .a) (x .f)))) _ _ not-yet in
+    cond-no (whole (heldFragments (added (x .a) (x .f)))) _ _ not-yet in
     record {
       client = c .storing .ensures ∙ ap (λ (b : Assembly). storing (x .p) b (x .f .length) (x .c)) (w .before .before .added .ensures)
           ∙ sym (ap (λ (o : Outcome). o .client) is);

@@ -5,9 +5,9 @@ use mathlib.Core.List.{List}
 use mathlib.Core.Option.{Option, none}
 use Prim.Native.Nat.{ℕ}
 use lib.ListN.{length}
+use Rattle.number_tests.specs.Tests.{firstOf}
 use Rattle.client_record.specs.declared.Client.{Client}
 use Rattle.client_reassembly.specs.declared.Arrival.{Arrival}
-use Rattle.client_reassembly.specs.Answer.{firstOf}
 use Rattle.client_reassembly.specs.Advance.{elapse}
 use Rattle.client_reassembly.specs.Offer.{Outcome, offerTests, taken, refuseOr, fragmentOn}
 use Rattle.client_reassembly.specs.Post.{Taking}

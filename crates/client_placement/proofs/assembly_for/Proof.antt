@@ -1,9 +1,9 @@
 -- `client_placement::assembly_for` meets its contract: what stands at the place is live exactly where the key has an assembly (`live-at`).
 -- Assumes nothing.
+use Rattle.number_tests.proofs.Tests.{cond-yes, cond-no}
 use Rattle.client_reassembly.proofs.Laws.{getD-any}
 use Rattle.client_record.proofs.Shapes.{places}
 use Rattle.client_reassembly.proofs.Places.{live-at}
-use Rattle.client_reassembly.proofs.Laws.{if-yes, if-no}
 use Rattle.client_reassembly.specs.Offer.{matches, opening, assemblyFor}
 use Rattle.client_record.specs.Record.{freshAssembly}
 use Rattle.client_record.specs.Lists.{any}
@@ -37,7 +37,7 @@ returns c =
     let len : length xs ≡ assemblyLimit = places (t .args .t1) _ (t .good .0) in
     let h : s .p < length xs = omega (arith, t .pre .within) in
     let e : any (matches (s .o)) xs ≡ true = sym (live-at (s .o) xs (s .p) _ (t .pre .place) h) ∙ sym (c .before .live .ensures) ∙ c .if1 .taken in
-    getD-any xs (s .p) _ freshAssembly h ∙ sym (if-yes (any (matches (s .o)) xs) (getD xs (s .p) freshAssembly) (opening (s .o)) e)
+    getD-any xs (s .p) _ freshAssembly h ∙ sym (cond-yes (any (matches (s .o)) xs) (getD xs (s .p) freshAssembly) (opening (s .o)) e)
 
 opening-requires : tie.Need-opening-requires
 opening-requires c κs = search needs
@@ -52,7 +52,7 @@ returns-2 c =
     let h : s .p < length xs = omega (arith, t .pre .within) in
     let e : any (matches (s .o)) xs ≡ false = sym (live-at (s .o) xs (s .p) _ (t .pre .place) h) ∙ sym (c .before .before .live .ensures)
     ∙ c .before .if1 .left in
-    c .opening .ensures ∙ sym (if-no (any (matches (s .o)) xs) (getD xs (s .p) freshAssembly) (opening (s .o)) e)
+    c .opening .ensures ∙ sym (cond-no (any (matches (s .o)) xs) (getD xs (s .p) freshAssembly) (opening (s .o)) e)
 
 pub assembly-for-spec : {M : Type 1} → statement M
 assembly-for-spec =

@@ -1,7 +1,7 @@
 -- `client_reassembly::account` meets its contract: the test of the record decides between its two answers.
 -- Assumes nothing.
+use Rattle.number_tests.specs.Tests.{firstOf}
 use Rattle.client_record.specs.Record.{soundRecord}
-use Rattle.client_reassembly.specs.Answer.{firstOf}
 use Rattle.client_reassembly.specs.Advance.{accountOn, figures}
 use mathlib.Core.Bool.{true, false}
 use mathlib.Core.Path.{_≡_, sym, _∙_}

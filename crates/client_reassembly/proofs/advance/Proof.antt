@@ -1,7 +1,7 @@
 -- `client_reassembly::advance` meets its contract: the tests in order decide between its three answers.
 -- Assumes nothing.
+use Rattle.number_tests.specs.Tests.{firstOf}
 use Rattle.client_record.specs.Record.{soundRecord}
-use Rattle.client_reassembly.specs.Answer.{firstOf}
 use Rattle.client_reassembly.specs.Advance.{advanceOn}
 use borrow.Author.Tests.{lt-ltb, le-ltb}
 use mathlib.Core.Bool.{true, false}

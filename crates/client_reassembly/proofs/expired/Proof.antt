@@ -1,7 +1,7 @@
 -- `client_reassembly::expired` meets its contract: the branches are the definition's.
 -- Assumes nothing.
+use Rattle.number_tests.proofs.Tests.{cond-yes, cond-no}
 use Rattle.client_record.specs.Record.{freshAssembly}
-use Rattle.client_reassembly.proofs.Laws.{if-yes, if-no}
 use Rattle.client_reassembly.specs.Advance.{old, expire}
 use mathlib.Core.Path.{sym, _∙_}
 use borrow.Author.Needs.{needs}
@@ -18,13 +18,13 @@ returns : tie.Need-returns
 unfolding expire
 returns c =
     let s = c .before .before .before .args in
-    c .fresh-assembly .ensures ∙ sym (if-yes (old (s .time) (s .a)) freshAssembly (s .a) (sym (c .before .before .old .ensures) ∙ c .before .if1 .taken))
+    c .fresh-assembly .ensures ∙ sym (cond-yes (old (s .time) (s .a)) freshAssembly (s .a) (sym (c .before .before .old .ensures) ∙ c .before .if1 .taken))
 
 returns-2 : tie.Need-returns-2
 unfolding expire
 returns-2 c =
     let s = c .before .before .args in
-    sym (if-no (old (s .time) (s .a)) freshAssembly (s .a) (sym (c .before .old .ensures) ∙ c .if1 .left))
+    sym (cond-no (old (s .time) (s .a)) freshAssembly (s .a) (sym (c .before .old .ensures) ∙ c .if1 .left))
 
 pub expired-spec : {M : Type 1} → statement M
 expired-spec = tie.close (tie.spec old-requires fresh-assembly-requires returns returns-2)

@@ -1,7 +1,7 @@
 -- `client_record::beyond` meets its contract: the loop's invariant says that the fragment is looked for among those from `i` on (`beyond-left`).
 -- Assumes nothing.
 use Prim.Native.Nat.{ℕ, _+_, _-_, _≤_, _<_}
-use mathlib.Core.Bool.{Bool, true, false}
+use mathlib.Core.Bool.{Bool, true, false, cond}
 use mathlib.Core.Path.{_≡_, refl, sym, ap, _∙_}
 use native.Mathlib.Omega.{arith}
 use lib.Seq.{drop-length}
@@ -10,7 +10,6 @@ use borrow.Author.Needs.{needs}
 use Rattle.client_record.specs.declared.Fragment.{Fragment}
 use Rattle.client_record.specs.declared.Assembly.{Assembly}
 use Rattle.client_record.specs.Limits.{fragmentLimit}
-use Rattle.client_record.specs.Lists.{if}
 use Rattle.client_record.specs.Record.{end, covers, heldFragments}
 use Rattle.client_record.specs.Post.{beyond}
 use Rattle.client_record.proofs.Held.{none, held-at}
@@ -20,10 +19,10 @@ use Rattle.client_record.proofs.beyond.Tie as tie
 
 -- the element at i holds the place, or it is passed over
 chosen : (at : ℕ) (a : Assembly) (i : ℕ) (x : Bool) → i < length (heldFragments a) → covers at (getD (heldFragments a) i none) ≡ x
-    → beyond at (drop i (heldFragments a)) ≡ if x (end (getD (heldFragments a) i none)) (beyond at (drop (i + 1) (heldFragments a)))
+    → beyond at (drop i (heldFragments a)) ≡ cond x (end (getD (heldFragments a) i none)) (beyond at (drop (i + 1) (heldFragments a)))
 chosen at a i x h t =
     beyond-left at (heldFragments a) i none h
-    ∙ ap (λ (b : Bool). if b (end (getD (heldFragments a) i none)) (beyond at (drop (i + 1) (heldFragments a)))) t
+    ∙ ap (λ (b : Bool). cond b (end (getD (heldFragments a) i none)) (beyond at (drop (i + 1) (heldFragments a)))) t
 
 abbrev Inv-loop : tie.InvT-loop
 Inv-loop at a n i₀ i = (beyond at (drop i (heldFragments a)) ≡ beyond at (heldFragments a)) × (i ≤ n)

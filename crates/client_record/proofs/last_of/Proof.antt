@@ -2,13 +2,12 @@
 -- Assumes nothing.
 use Rattle.client_record.proofs.Held.{none, held-at, last-left}
 use Rattle.client_record.specs.Record.{isLast, heldFragments, lastOf}
-use Rattle.client_record.specs.Lists.{if}
 use Rattle.client_record.specs.declared.Assembly.{Assembly}
 use Rattle.client_record.specs.Limits.{fragmentLimit}
 use lib.Seq.{drop-length}
 use lib.ListN.{length, drop, getD}
 use Prim.Native.Nat.{ℕ, _+_, _-_, _≤_, _<_}
-use mathlib.Core.Bool.{Bool, true, false}
+use mathlib.Core.Bool.{Bool, true, false, cond}
 use mathlib.Core.Path.{_≡_, refl, sym, ap, _∙_}
 use borrow.Author.Needs.{needs}
 use native.Mathlib.Omega.{arith}
@@ -18,11 +17,11 @@ use Rattle.client_record.proofs.last_of.Tie as tie
 -- the element at i is marked last, or it is passed over
 step : (a : Assembly) (i : ℕ) → i < length (heldFragments a) → isLast (getD (heldFragments a) i none) ≡ true
     → lastOf (drop i (heldFragments a)) ≡ getD (heldFragments a) i none
-step a i h t = last-left (heldFragments a) i none h ∙ ap (λ (b : Bool). if b (getD (heldFragments a) i none) (lastOf (drop (i + 1) (heldFragments a)))) t
+step a i h t = last-left (heldFragments a) i none h ∙ ap (λ (b : Bool). cond b (getD (heldFragments a) i none) (lastOf (drop (i + 1) (heldFragments a)))) t
 
 skip : (a : Assembly) (i : ℕ) → i < length (heldFragments a) → isLast (getD (heldFragments a) i none) ≡ false
     → lastOf (drop i (heldFragments a)) ≡ lastOf (drop (i + 1) (heldFragments a))
-skip a i h t = last-left (heldFragments a) i none h ∙ ap (λ (b : Bool). if b (getD (heldFragments a) i none) (lastOf (drop (i + 1) (heldFragments a)))) t
+skip a i h t = last-left (heldFragments a) i none h ∙ ap (λ (b : Bool). cond b (getD (heldFragments a) i none) (lastOf (drop (i + 1) (heldFragments a)))) t
 
 abbrev Inv-loop : tie.InvT-loop
 Inv-loop a n i₀ i = (lastOf (drop i (heldFragments a)) ≡ lastOf (heldFragments a)) × (i ≤ n)

@@ -1,8 +1,7 @@
 -- `client_record_test::assembly_sound` meets its contract: the branches are the definition's.
 -- Assumes nothing.
 use Rattle.client_record.specs.Record.{soundLive, isFreshAssembly, soundAssembly}
-use Rattle.client_record.specs.Lists.{if}
-use mathlib.Core.Bool.{Bool}
+use mathlib.Core.Bool.{Bool, cond}
 use mathlib.Core.Path.{sym, ap, _∙_}
 use borrow.Author.Needs.{needs}
 use Rattle.client_record_test.proofs.assembly_sound.Statement.{statement}
@@ -21,14 +20,14 @@ returns : tie.Need-returns
 unfolding soundAssembly
 returns c =
     let s = c .before .before .before .args in
-    c .live-sound .ensures ∙ sym (ap (λ (b : Bool). if b (soundLive (s .time) (s .a)) (isFreshAssembly (s .a))) (sym (c .before .before .live .ensures)
+    c .live-sound .ensures ∙ sym (ap (λ (b : Bool). cond b (soundLive (s .time) (s .a)) (isFreshAssembly (s .a))) (sym (c .before .before .live .ensures)
     ∙ c .before .if1 .taken))
 
 returns-2 : tie.Need-returns-2
 unfolding soundAssembly
 returns-2 c =
     let s = c .before .before .before .args in
-    c .unused .ensures ∙ sym (ap (λ (b : Bool). if b (soundLive (s .time) (s .a)) (isFreshAssembly (s .a))) (sym (c .before .before .live .ensures)
+    c .unused .ensures ∙ sym (ap (λ (b : Bool). cond b (soundLive (s .time) (s .a)) (isFreshAssembly (s .a))) (sym (c .before .before .live .ensures)
     ∙ c .before .if1 .left))
 
 pub assembly-sound-spec : {M : Type 1} → statement M

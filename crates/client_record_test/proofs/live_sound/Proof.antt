@@ -1,6 +1,7 @@
 -- `client_record_test::live_sound` meets its contract: the tests are the definition's, in its order.
 -- Assumes nothing.
-use Rattle.client_record.proofs.Tests.{both-true, front-false}
+use Rattle.number_tests.proofs.Tests.{both-true}
+use Rattle.client_record.proofs.Tests.{front-false}
 use Rattle.client_record.specs.Record.{heldFragments, soundFragment, compatible}
 use Rattle.client_record.specs.Lists.{all}
 use mathlib.Core.Bool.{true, false, _&&_}

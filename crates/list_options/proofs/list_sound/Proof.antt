@@ -8,9 +8,9 @@ use lib.ListN.{length, length-append}
 use Rattle.number_octets.specs.Octets.{Octets, overlay}
 use Rattle.number_varint.specs.SevenBit.{encoded}
 use Rattle.number_varint.proofs.Laws.{encoded-short}
-use Rattle.wire_options.specs.Walk.{Walked, walkFrom, optionLimit}
+use Rattle.wire_options.specs.Walk.{Walked, walkFrom, optionLimit, itemsOf}
 use Rattle.list_encoding.specs.Encoding.{encodedOptions}
-use Rattle.list_options.specs.Listing.{unworkedAll, itemsOf, listing, WrittenAt}
+use Rattle.list_options.specs.Listing.{unworkedAll, listing, WrittenAt}
 use Rattle.list_options.proofs.Listings.{walk-short}
 use Rattle.list_options.proofs.Writes.{written-both}
 use Rattle.list_options.proofs.Listeds.{listing-code, listed-full, listed-written}

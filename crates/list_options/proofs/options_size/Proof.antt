@@ -8,11 +8,11 @@ use borrow.Author.Needs.{needs}
 use lib.ListN.{length, drop, length-drop, length-append}
 use Rattle.number_octets.specs.Octets.{Octets}
 use Rattle.wire_options.specs.Step.{stepOf}
-use Rattle.wire_options.specs.Walk.{itemOf, walkFrom, optionLimit}
+use Rattle.wire_options.specs.Walk.{itemOf, walkFrom, optionLimit, itemsOf}
 use Rattle.wire_options.specs.declared.step.Step.the-variants.{Found}
 use Rattle.wire_options.proofs.Steps.{step-found}
 use Rattle.list_encoding.specs.Encoding.{encodedOption, encodedOptions}
-use Rattle.list_options.specs.Listing.{unworked, unworkedAll, itemsOf}
+use Rattle.list_options.specs.Listing.{unworked, unworkedAll}
 use Rattle.list_options.proofs.Listings.{walk-short}
 use Rattle.list_options.proofs.Rests.{
   Rest,
