@@ -36,7 +36,7 @@ use Rattle.table_calls.specs.Events.{Event, Keeps}
 use Rattle.table_calls.specs.Owed.{owes}
 use Rattle.table_calls.specs.Demand3.{Terms, opening}
 use Rattle.table_calls.proofs.Demand3.{demand-3}
-use Rattle.claim_figures.specs.Figures.{Line, refusal, calls, both, table, told, called, inOrder, lastFirst, overlapping, expiring, fiveKeys}
+use Rattle.claim_figures.specs.Figures.{Line, refusal, calls, both, table, shownBy, called, inOrder, lastFirst, overlapping, expiring, fiveKeys}
 use Rattle.claim_figures.specs.Figures.{computed, stated}
 
 -- document 01 has twelve starred lines
@@ -110,12 +110,12 @@ terms es keeps = record { fits = ap sized sizes; keeps = keeps }
 
 -- what the book owes for a set-up and these calls
 owed : List Event → Line
-owed es = calls (map told (owes 0 lent [] (opening es)))
+owed es = calls (map shownBy (owes 0 lent [] (opening es)))
 
 on-book : (es : List Event) → Keeps es → called es ≡ owed es
 unfolding owed
 on-book es keeps =
-    ap (λ (given : List Given). calls (map told given))
+    ap (λ (given : List Given). calls (map shownBy given))
     (demand-3 .answers table es (terms es keeps) 0 ∙ ap (λ (l : Lent). owes 0 l [] (opening es)) sizes)
 
 book : Unit {0}

@@ -109,12 +109,12 @@ handed (delivered size start) = size
 handed advanced = 0
 handed (account figures) = 0
 
-abbrev pub told : Given → Reply × List ℕ
-told given = (given .reply, take (handed (given .reply)) (given .out))
+abbrev pub shownBy : Given → Reply × List ℕ
+shownBy given = (given .reply, take (handed (given .reply)) (given .out))
 
 -- a set-up and these calls
 abbrev pub called : List Event → Line
-called events = calls (map told (gives 0 table (opening events)))
+called events = calls (map shownBy (gives 0 table (opening events)))
 
 abbrev pub eight : List ℕ
 eight = 1 ∷ 2 ∷ 3 ∷ 4 ∷ 5 ∷ 6 ∷ 7 ∷ 8 ∷ []

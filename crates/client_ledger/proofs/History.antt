@@ -10,7 +10,7 @@ use Rattle.client_record.specs.Record.{freshClient}
 use Rattle.client_ledger.specs.Book.{Book, empty, call}
 use Rattle.client_ledger.specs.Stands.{Stands}
 use Rattle.client_ledger.specs.OneClient.{OneClient}
-use Rattle.client_ledger.specs.History.{Ask, Given, on, recordGives}
+use Rattle.client_ledger.specs.History.{Ask, Given, callOn, recordGives}
 use Rattle.client_ledger.specs.Bookkeeping.{callOf, bookGives}
 
 module _ (theorem : OneClient) where
@@ -19,9 +19,9 @@ module _ (theorem : OneClient) where
   history [] c share b st = refl
   history (a ∷ rest) c share b st =
       let f = theorem .each-call c share b st a in
-      let first : _≡_ {A = Given} (record { reply = on c share a .reply; out = on c share a .out })
+      let first : _≡_ {A = Given} (record { reply = callOn c share a .reply; out = callOn c share a .out })
       (record { reply = call (callOf a) b .reply; out = call (callOf a) b .out }) = λ i. record { reply = f .reply i; out = f .out i } in
-      ap₂ _∷_ first (history rest (on c share a .client) (on c share a .share) (call (callOf a) b .book) (f .stands))
+      ap₂ _∷_ first (history rest (callOn c share a .client) (callOn c share a .share) (call (callOf a) b .book) (f .stands))
 
   pub whole-history : (share : List ℕ) → length share ≡ shareSize → (asks : List Ask) → recordGives freshClient share asks ≡ bookGives empty asks
   whole-history share h asks = history asks freshClient share empty (theorem .fresh share h)

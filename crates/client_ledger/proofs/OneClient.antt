@@ -43,7 +43,7 @@ use Rattle.client_ledger.specs.Book.{
   call,
 }
 use Rattle.client_ledger.specs.Stands.{Stands, Fulfils}
-use Rattle.client_ledger.specs.History.{Ask, offering, advancing, accounting, on}
+use Rattle.client_ledger.specs.History.{Ask, offering, advancing, accounting, callOn}
 use Rattle.client_ledger.specs.Bookkeeping.{callOf}
 use Rattle.client_ledger.specs.OneClient.{Lasts, OneClient}
 use Rattle.client_ledger.proofs.Clock.{stands-fresh, account-stands, advance-stands}
@@ -110,7 +110,7 @@ clock-out t b = go (firstOf (clockTests t b))
     go (some n) = refl
 
 -- each call on the record does what the book does
-each-call : Lasts → (c : Client) (share : List ℕ) (b : Book) → Stands c share b → (a : Ask) → Fulfils (on c share a) (call (callOf a) b)
+each-call : Lasts → (c : Client) (share : List ℕ) (b : Book) → Stands c share b → (a : Ask) → Fulfils (callOn c share a) (call (callOf a) b)
 unfolding Lasts
 each-call lasts c share b st (offering o bytes out) = fragment-stands c share b st out o bytes (lasts c share out o bytes (st .sound) (st .shape))
 each-call lasts c share b st (advancing t) =

@@ -28,13 +28,13 @@ pub record Given : Type 0 where
 abbrev pub outcome : Turn → List ℕ → Outcome
 outcome t share = record { client = t .client; share = share; out = []; reply = t .reply }
 
-abbrev pub on : Client → List ℕ → Ask → Outcome
-on c share (offering o bytes out) = fragmentOn c share out o bytes
-on c share (advancing t) = outcome (advanceOn c t) share
-on c share accounting = outcome (accountOn c) share
+abbrev pub callOn : Client → List ℕ → Ask → Outcome
+callOn c share (offering o bytes out) = fragmentOn c share out o bytes
+callOn c share (advancing t) = outcome (advanceOn c t) share
+callOn c share accounting = outcome (accountOn c) share
 
 unfoldable pub recordGives : Client → List ℕ → List Ask → List Given
 recordGives c share [] = []
 recordGives c share (a ∷ rest) =
-    let o = on c share a in
+    let o = callOn c share a in
     record { reply = o .reply; out = o .out } ∷ recordGives (o .client) (o .share) rest

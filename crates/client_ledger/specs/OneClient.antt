@@ -13,7 +13,7 @@ use Rattle.client_reassembly.specs.Offer.{fragmentOn}
 use Rattle.client_ledger.specs.Book.{Book, empty, call}
 use Rattle.client_ledger.specs.Shapes.{Shaped}
 use Rattle.client_ledger.specs.Stands.{Stands, Fulfils}
-use Rattle.client_ledger.specs.History.{Ask, on}
+use Rattle.client_ledger.specs.History.{Ask, callOn}
 use Rattle.client_ledger.specs.Bookkeeping.{callOf}
 
 -- the record test passes again after a fragment call: a fact of the record's own rules
@@ -26,5 +26,5 @@ Lasts =
 -- the book leaves there, and leaves a record and share that stand for the book after it; refusal 22 never comes
 pub record OneClient : Type 0 where
   pub fresh : (share : List ℕ) → length share ≡ shareSize → Stands freshClient share empty
-  pub each-call : (c : Client) (share : List ℕ) (b : Book) → Stands c share b → (a : Ask) → Fulfils (on c share a) (call (callOf a) b)
-  pub never-22 : (c : Client) (share : List ℕ) (b : Book) → Stands c share b → (a : Ask) → on c share a .reply ≡ refused 22 → ⊥
+  pub each-call : (c : Client) (share : List ℕ) (b : Book) → Stands c share b → (a : Ask) → Fulfils (callOn c share a) (call (callOf a) b)
+  pub never-22 : (c : Client) (share : List ℕ) (b : Book) → Stands c share b → (a : Ask) → callOn c share a .reply ≡ refused 22 → ⊥

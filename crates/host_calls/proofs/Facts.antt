@@ -5,8 +5,8 @@ use mathlib.Core.Path.{_≡_, ap, subst, _∙_}
 use mathlib.Core.List.{List}
 use Rattle.wire_datagram.specs.declared.reading.Extent.{Extent}
 use Rattle.wire_datagram.specs.declared.reading.Reading.{Reading}
-use Rattle.wire_datagram.specs.declared.rereading.OriginalExtent.{OriginalExtent}
-use Rattle.wire_datagram.specs.declared.rereading.Rereading.{Rereading}
+use Rattle.wire_original.specs.declared.OriginalExtent.{OriginalExtent}
+use Rattle.wire_original.specs.declared.Rereading.{Rereading}
 use Rattle.list_options.specs.Listing.{listedAnswer, ListedInto}
 use Rattle.list_options.specs.declared.Listed.{Listed}
 use Rattle.list_readings.specs.Catalogue.{walkOfValue}

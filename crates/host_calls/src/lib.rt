@@ -12,12 +12,11 @@ use host_values::Written;
 use number_offsets::OriginalOffset;
 use wire_datagram::reading;
 use wire_datagram::reading::Extent;
-use wire_datagram::rereading;
-use wire_datagram::rereading::OriginalExtent;
+use wire_original::OriginalExtent;
 ghost use mathlib.Core.Path.{_≡_};
 ghost use mathlib.Core.List.{[]};
 ghost use Rattle.wire_datagram.specs.Reading.{reading};
-ghost use Rattle.wire_datagram.specs.Rereading.{rereading};
+ghost use Rattle.wire_original.specs.Rereading.{rereading};
 ghost use Rattle.list_readings.specs.Catalogue.{walkOfValue};
 ghost use Rattle.list_writer.specs.Answer.{written, datagramFor};
 ghost use Rattle.client_record.specs.Limits.{datagramLimit, shareSize, clientLimit};
@@ -46,7 +45,7 @@ pub extern "C" fn wuraketozo_read(payload: &[u8], source: Address, destination: 
 pub extern "C" fn wuraketozo_reread(original: &[u8], option_start: OriginalOffset) -> Rereading
     ensures { λ r. ⌜ r ≡ hostRereading (rereading (now (original .entry)) («option_start» .0)) ⌝ }
 {
-    host_readings::rereading_of(rereading::reread(original, option_start))
+    host_readings::rereading_of(wire_original::reread(original, option_start))
 }
 
 // ---- option lists and payloads

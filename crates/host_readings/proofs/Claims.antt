@@ -15,7 +15,7 @@ use Rattle.wire_options.specs.declared.walk.Fault.the-variants as Met
 use Rattle.wire_area.specs.declared.Fragment.{Fragment}
 use Rattle.wire_datagram.specs.Reading as Read
 use Rattle.wire_datagram.specs.Reading.{answerOf}
-use Rattle.wire_datagram.specs.Rereading as Reread
+use Rattle.wire_original.specs.Rereading as Reread
 use Rattle.wire_surplus.specs.Surplus.{startOf}
 use Rattle.wire_datagram.specs.Verdict.{verdictSays, apcSays}
 use Rattle.wire_surplus.specs.declared.Start.{Start}
@@ -139,7 +139,7 @@ reading-told (Accepted r) =
 abbrev Retold : Reread.ReAnswer → Type 0
 Retold a = reAnswerFrom (hostRereading a) ≡ a
 
-faulty-told : (r : ℕ) (f : Fault) → Retold (Reread.faultily r f)
+faulty-told : (r : ℕ) (f : Fault) → Retold (Reread.originalFaulty r f)
 faulty-told r Met.Malformed = refl
 faulty-told r Met.Unsafe = refl
 faulty-told r Met.FragData = refl

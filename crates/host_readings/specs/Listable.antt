@@ -4,14 +4,14 @@ use mathlib.Core.Bool.{cond}
 use lib.Dec.{eqb}
 use Rattle.wire_datagram.specs.Verdict.{verdictSays}
 use Rattle.wire_datagram.specs.Reading.{extent}
-use Rattle.wire_datagram.specs.Rereading.{places}
+use Rattle.wire_original.specs.Rereading.{places}
 use Rattle.wire_datagram.specs.declared.reading.Apc.the-variants.{Absent}
 use Rattle.wire_datagram.specs.declared.reading.Verdict.{Verdict}
 use Rattle.wire_datagram.specs.declared.reading.Verdict.the-variants.{Bare, Read}
 use Rattle.wire_datagram.specs.declared.reading.Extent.{Extent}
 use Rattle.wire_datagram.specs.declared.reading.Reading.{Reading}
-use Rattle.wire_datagram.specs.declared.rereading.OriginalExtent.{OriginalExtent}
-use Rattle.wire_datagram.specs.declared.rereading.Rereading.{Rereading}
+use Rattle.wire_original.specs.declared.OriginalExtent.{OriginalExtent}
+use Rattle.wire_original.specs.declared.Rereading.{Rereading}
 
 -- the number of "read" is a verdict with options, any other one without
 abbrev pub verdictFor : ℕ → Verdict

@@ -6,11 +6,11 @@ use Rattle.wire_area.specs.declared.Fragment.{Fragment}
 use Rattle.wire_datagram.specs.Verdict.{verdictSays, apcSays}
 use Rattle.wire_datagram.specs.Reading as Read
 use Rattle.wire_datagram.specs.Reading.{extent}
-use Rattle.wire_datagram.specs.Rereading as Reread
-use Rattle.wire_datagram.specs.Rereading.{places}
+use Rattle.wire_original.specs.Rereading as Reread
+use Rattle.wire_original.specs.Rereading.{places}
 use Rattle.wire_datagram.specs.declared.reading.Verdict.{Verdict}
 use Rattle.wire_datagram.specs.declared.reading.Reading.{Reading as Accepted}
-use Rattle.wire_datagram.specs.declared.rereading.Rereading.{Rereading as Reaccepted}
+use Rattle.wire_original.specs.declared.Rereading.{Rereading as Reaccepted}
 use Rattle.host_readings.specs.declared.Reading.{Reading}
 use Rattle.host_readings.specs.declared.Rereading.{Rereading}
 

@@ -9,14 +9,13 @@ use wire_datagram::reading::Extent;
 use wire_datagram::reading::Outcome;
 use wire_datagram::reading::Refusal;
 use wire_datagram::reading::Verdict;
-use wire_datagram::rereading;
-use wire_datagram::rereading::OriginalExtent;
-use wire_datagram::rereading::RereadOutcome;
-use wire_datagram::rereading::RereadRefusal;
+use wire_original::OriginalExtent;
+use wire_original::RereadOutcome;
+use wire_original::RereadRefusal;
 ghost use mathlib.Core.Path.{_≡_};
 ghost use Rattle.wire_datagram.specs.Verdict.{verdictSays, apcSays};
 ghost use Rattle.wire_datagram.specs.Reading.{extent, answerOf, refusalNumber};
-ghost use Rattle.wire_datagram.specs.Rereading.{places, reAnswerOf, reRefusalNumber};
+ghost use Rattle.wire_original.specs.Rereading.{places, reAnswerOf, reRefusalNumber};
 ghost use Rattle.host_readings.specs.Reading.{flagOf, noFragment, fragmentIn, unread, unreread, readingFrom, rereadingFrom};
 ghost use Rattle.host_readings.specs.Reading.{hostReading, hostRereading};
 ghost use Rattle.host_readings.specs.Listable.{verdictFor, readingFor, rereadingFor};
@@ -225,7 +224,7 @@ pub fn reading_from(reading: reading::Reading) -> Reading
     }
 }
 
-fn rereading_from(rereading: rereading::Rereading) -> Rereading
+fn rereading_from(rereading: wire_original::Rereading) -> Rereading
     ensures { λ r. ⌜ r ≡ rereadingFrom rereading ⌝ }
 {
     let verdict = rereading.verdict;
@@ -289,12 +288,12 @@ pub fn reading_for(number: u32, options: Extent) -> reading::Reading
 }
 
 // And of a rereading.
-pub fn rereading_for(number: u32, options: OriginalExtent) -> rereading::Rereading
+pub fn rereading_for(number: u32, options: OriginalExtent) -> wire_original::Rereading
     ensures { λ r. ⌜ r ≡ rereadingFor number options ⌝ }
 {
     let verdict = verdict_for(number);
     let none = no_places();
-    rereading::Rereading {
+    wire_original::Rereading {
         user: none,
         verdict: verdict,
         options: options,

@@ -9,7 +9,7 @@ use borrow.Author.Tests.{le-leb, lt-leb}
 use lib.ListN.{length, drop}
 use Rattle.number_octets.specs.Octets.{Octets, overlay}
 use Rattle.number_varint.specs.SevenBit.{encoded}
-use Rattle.wire_options.specs.Walk.{Walked, listed, faulty, told, walkFrom, optionLimit, itemsOf}
+use Rattle.wire_options.specs.Walk.{Walked, listed, faulty, walkAnswer, walkFrom, optionLimit, itemsOf}
 use Rattle.wire_options.specs.declared.walk.Apcs.{Apcs}
 use Rattle.wire_options.specs.declared.walk.Fault.{Fault}
 use Rattle.wire_options.specs.declared.walk.Walk.the-variants.{Listed, Faulty}
@@ -41,7 +41,7 @@ listed-written walk buffer size fill left h s f l =
 
 -- ---- what `walk_list` tells
 
-pub told-sound : (walk : Walked) (count fill : ℕ) (apcs : Apcs) → told walk ≡ Listed count fill apcs
+pub told-sound : (walk : Walked) (count fill : ℕ) (apcs : Apcs) → walkAnswer walk ≡ Listed count fill apcs
     → Sound walk × (count ≡ length (itemsOf walk)) × (fill ≡ fillOf walk)
 told-sound (faulty f) count fill apcs e = absurd (let z : _≡_ {A = ℕ} 0 1 = cc in omega arith)
 told-sound (listed items n) count fill apcs e =
@@ -50,7 +50,7 @@ told-sound (listed items n) count fill apcs e =
     (tt, sym many, sym same)
 
 -- the listing of a faulty walk is that of no option
-pub told-faulty : (walk : Walked) (fault : Fault) (buffer : List ℕ) (answer : Answered) (left : List ℕ) → told walk ≡ Faulty fault
+pub told-faulty : (walk : Walked) (fault : Fault) (buffer : List ℕ) (answer : Answered) (left : List ℕ) → walkAnswer walk ≡ Faulty fault
     → ListedInto (listed [] 0) buffer answer left → ListedInto walk buffer answer left
 unfolding listing roomFor
 told-faulty (listed items n) fault buffer answer left e r = absurd (let z : _≡_ {A = ℕ} 0 1 = cc in omega arith)

@@ -14,7 +14,7 @@ use Rattle.number_varint.specs.SevenBit.{encoded}
 use Rattle.number_varint.proofs.Laws.{encoded-short}
 use Rattle.wire_options.specs.Kinds.{apc, frag}
 use Rattle.wire_options.specs.Step.{stepOf}
-use Rattle.wire_options.specs.Walk.{Item, Walked, listed, faulty, before, itemOf, sound, met, walkFrom, optionLimit, itemsOf}
+use Rattle.wire_options.specs.Walk.{Item, Walked, listed, faulty, before, itemOf, sound, walkAt, walkFrom, optionLimit, itemsOf}
 use Rattle.wire_options.specs.declared.step.Step.{Step}
 use Rattle.wire_options.specs.declared.step.Step.the-variants.{End, Eol, Nop, Found, Malformed, Outlawed}
 use Rattle.wire_options.specs.declared.walk.Fault.the-variants.{Malformed as Unsound}
@@ -103,7 +103,7 @@ walk-fine (x ∷ xs) room zero items fill b e =
     found later kind h s true p q r = absurd (let z : _≡_ {A = ℕ} 0 1 = cc in omega arith)
     found later kind h s false p q r = room-for later room kind h s q (eqb-false kind frag p) r
 
-    go : Later → (step : Step) → stepOf (x ∷ xs) ≡ step → met room (x ∷ xs) step (λ left skip. walkFrom left skip xs) ≡ listed items fill
+    go : Later → (step : Step) → stepOf (x ∷ xs) ≡ step → walkAt room (x ∷ xs) step (λ left skip. walkFrom left skip xs) ≡ listed items fill
         → Fine room items
     go later End p q = no-items room items fill 0 q
     go later Eol p q = no-items room items fill (length (x ∷ xs)) q

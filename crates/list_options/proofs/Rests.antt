@@ -11,7 +11,7 @@ use lib.ListN.{length, take, drop, length-drop, drop-of-length-le}
 use lib.Seq.{drop-drop, take-all}
 use Rattle.wire_options.specs.Kinds.{frag}
 use Rattle.wire_options.specs.Step.{stepOf}
-use Rattle.wire_options.specs.Walk.{Item, Walked, listed, faulty, before, itemOf, sound, met, walkFrom, itemsOf}
+use Rattle.wire_options.specs.Walk.{Item, Walked, listed, faulty, before, itemOf, sound, walkAt, walkFrom, itemsOf}
 use Rattle.wire_options.specs.declared.step.Step.{Step}
 use Rattle.wire_options.specs.declared.step.Step.the-variants.{End, Eol, Nop, Found, Malformed, Outlawed}
 use Rattle.wire_options.specs.declared.walk.Fault.the-variants.{Malformed as Unsound}
@@ -46,10 +46,10 @@ none-listed items fill n code e c = let none : [] ≡ items = cc in c ∙ ap (λ
 
 -- the walk by the step at the front
 walk-step : (l : List ℕ) (room : ℕ) (step : Step) → 0 < length l → stepOf l ≡ step
-    → walkFrom room 0 l ≡ met room l step (λ left skip. walkFrom left (suc skip) l)
+    → walkFrom room 0 l ≡ walkAt room l step (λ left skip. walkFrom left (suc skip) l)
 unfolding walkFrom
 walk-step [] room step h e = absurd (omega arith)
-walk-step (x ∷ xs) room step h e = ap (λ (t : Step). met room (x ∷ xs) t (λ left skip. walkFrom left skip xs)) e
+walk-step (x ∷ xs) room step h e = ap (λ (t : Step). walkAt room (x ∷ xs) t (λ left skip. walkFrom left skip xs)) e
 
 -- nothing is left to walk
 pub rest-over : (l code : List ℕ) → l ≡ [] → Rest l code → code ≡ []

@@ -14,7 +14,7 @@ use Rattle.number_octets.specs.Octets.{number, octets, part}
 use Rattle.number_octets.proofs.Laws.{length-octets, number-octets}
 use Rattle.wire_options.specs.Kinds.{classOf, apc, frag}
 use Rattle.wire_options.specs.Step.{within, extended, headerOf, stepOf, stepIn, fixedStep, varyingStep}
-use Rattle.wire_options.specs.Walk.{Item, Walked, listed, faulty, before, itemOf, sound, met, walkFrom}
+use Rattle.wire_options.specs.Walk.{Item, Walked, listed, faulty, before, itemOf, sound, walkAt, walkFrom}
 use Rattle.wire_options.specs.declared.step.Class.{Class}
 use Rattle.wire_options.specs.declared.step.Class.the-variants.{EndOfList, NoOperation, Fixed, Varying, Unsafe}
 use Rattle.wire_options.specs.declared.step.Header.{Header}
@@ -171,7 +171,7 @@ unfolding stepOf walkFrom
 walk-found room [] kind h s e d some = absurd (let z : _≡_ {A = ℕ} 0 1 = cc in omega arith)
 walk-found room (b ∷ bs) kind h s e d some =
     let down : suc (s - 1) ≡ s = omega arith in
-    ap (λ (t : Step). met (suc room) (b ∷ bs) t (λ left skip. walkFrom left skip bs)) e
+    ap (λ (t : Step). walkAt (suc room) (b ∷ bs) t (λ left skip. walkFrom left skip bs)) e
     ∙ simp (ne-eqb kind frag d)
     (ap (before (itemOf kind h s (b ∷ bs)))
     (walk-skip room (s - 1) bs ∙ ap (λ (m : ℕ). walkFrom room 0 (drop m (b ∷ bs))) down))

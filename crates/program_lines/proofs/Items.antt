@@ -10,7 +10,7 @@ use lib.ListN.{length, drop, length-drop, drop-of-length-le}
 use lib.Seq.{drop-drop}
 use Rattle.wire_options.specs.Kinds.{frag}
 use Rattle.wire_options.specs.Step.{stepOf}
-use Rattle.wire_options.specs.Walk.{Item, Walked, listed, faulty, before, itemOf, sound, met, walkFrom, optionLimit}
+use Rattle.wire_options.specs.Walk.{Item, Walked, listed, faulty, before, itemOf, sound, walkAt, walkFrom, optionLimit}
 use Rattle.wire_options.specs.declared.step.Step.{Step}
 use Rattle.wire_options.specs.declared.step.Step.the-variants.{End, Eol, Nop, Found, Malformed as Unsound, Outlawed}
 use Rattle.wire_options.specs.declared.walk.Fault.{Fault}
@@ -39,9 +39,9 @@ behind item (listed others f) items fill e = (others, cc, cc)
 behind item (faulty fault) items fill e = absurd (faultless fault items fill e)
 
 module _ (b : ℕ) (bs : List ℕ) (room : ℕ) (items : List Item) (fill : ℕ) (w : walkFrom room 0 (b ∷ bs) ≡ listed items fill) where
-  meets : (step : Step) → stepOf (b ∷ bs) ≡ step → met room (b ∷ bs) step (λ left skip. walkFrom left skip bs) ≡ listed items fill
+  meets : (step : Step) → stepOf (b ∷ bs) ≡ step → walkAt room (b ∷ bs) step (λ left skip. walkFrom left skip bs) ≡ listed items fill
   unfolding walkFrom
-  meets step e = sym (ap (λ (s : Step). met room (b ∷ bs) s (λ left skip. walkFrom left skip bs)) e) ∙ w
+  meets step e = sym (ap (λ (s : Step). walkAt room (b ∷ bs) s (λ left skip. walkFrom left skip bs)) e) ∙ w
 
   found-next : (kind h s : ℕ) → stepOf (b ∷ bs) ≡ Found kind h s → Next (b ∷ bs) items fill (itemOf kind h s (b ∷ bs)) s
   found-next kind h s e = go (eqb kind frag) room (meets (Found kind h s) e)
@@ -155,7 +155,7 @@ module _ {list buffer : List ℕ} {at : ℕ} {text : List ℕ} {end from : ℕ} 
 
     -- the list ends
     pub saying-stop : (step : Step) → stepOf (drop from list) ≡ step
-        → ((l : List ℕ) (rest : ℕ → ℕ → Walked) → met (s .room) l step rest ≡ listed (s .items) (s .fill) → [] ≡ s .items)
+        → ((l : List ℕ) (rest : ℕ → ℕ → Walked) → walkAt (s .room) l step rest ≡ listed (s .items) (s .fill) → [] ≡ s .items)
         → Put buffer at (itemLines (itemsOf (walkFrom optionLimit 0 list))) end text
     saying-stop step e none = saying-last (go (drop from list) refl some-rest)
       where

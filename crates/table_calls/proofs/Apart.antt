@@ -15,8 +15,8 @@ use Rattle.client_record.proofs.SoundParts.{sound-parts}
 use Rattle.client_reassembly.specs.Answer.{refused, ready}
 use Rattle.client_reassembly.proofs.Lasting.{fresh-client-sound, fresh-client-shaped}
 use Rattle.client_ledger.specs.Shapes.{Shaped}
-use Rattle.client_ledger.specs.History.{Lent, Ask, Given, on}
-use Rattle.table_calls.specs.Table.{Table, lentOf, sized, shareOf, recordOf, After, cleared, resetOn, turned, askOn}
+use Rattle.client_ledger.specs.History.{Lent, Ask, Given, callOn}
+use Rattle.table_calls.specs.Table.{Table, lentOf, sized, shareOf, recordOf, After, cleared, resetOn, afterCall, askOn}
 use Rattle.table_calls.specs.Events.{Lending, current, another, Event, resetting, asking, tableFor, next, final, givenBy, gives, Allowed, Keeps, ownOnly}
 use Rattle.table_calls.specs.Apart.{Sums, Formed, Tested, Same, Apart}
 use Rattle.table_calls.proofs.Facts.{share-length, misfit-is, unknown-is, granted-is, reset-refused, reset-taken}
@@ -124,7 +124,7 @@ module _ (k : ℕ) (t t′ : Table) (f : Formed t) (f′ : Formed t′) (s : Sam
       go true e =
           let there = ltb-true k (length (t .records)) e in
           ap givenBy (granted-is k a t (f .fit) there)
-          ∙ ap₂ (λ (c : Client) (share : List ℕ). givenBy (turned k (on c share a) t)) (s .client) (s .share)
+          ∙ ap₂ (λ (c : Client) (share : List ℕ). givenBy (afterCall k (callOn c share a) t)) (s .client) (s .share)
           ∙ sym (ap givenBy (granted-is k a t′ (f′ .fit) (subst (λ (n : ℕ). k < n) same-count there)))
       go false e =
           let out = ltb-false k (length (t .records)) e in
@@ -144,9 +144,9 @@ module _ (k : ℕ) (t t′ : Table) (f : Formed t) (f′ : Formed t′) (s : Sam
           record {
             sizes = sizes;
             client = asked-record t f k a there
-                ∙ ap₂ (λ (c : Client) (share : List ℕ). on c share a .client) (s .client) (s .share) ∙ sym (asked-record t′ f′ k a there′);
+                ∙ ap₂ (λ (c : Client) (share : List ℕ). callOn c share a .client) (s .client) (s .share) ∙ sym (asked-record t′ f′ k a there′);
             share = asked-share t f k a there
-                ∙ ap₂ (λ (c : Client) (share : List ℕ). on c share a .share) (s .client) (s .share) ∙ sym (asked-share t′ f′ k a there′);
+                ∙ ap₂ (λ (c : Client) (share : List ℕ). callOn c share a .share) (s .client) (s .share) ∙ sym (asked-share t′ f′ k a there′);
           }
       go false e =
           let out = ltb-false k (length (t .records)) e in

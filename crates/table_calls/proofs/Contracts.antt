@@ -13,8 +13,8 @@ use Rattle.client_reassembly.specs.Answer.{replyOf}
 use Rattle.client_reassembly.specs.declared.Answer.{Answer}
 use Rattle.client_reassembly.specs.declared.Answer.the-variants.{Refused}
 use Rattle.client_reassembly.specs.declared.Refusal.the-variants.{TableMisfit, NoSuchClient}
-use Rattle.client_ledger.specs.History.{Ask, on}
-use Rattle.table_calls.specs.Table.{Table, lentOf, sized, shareOf, recordOf, After, outLent, turned, askOn, Leaves}
+use Rattle.client_ledger.specs.History.{Ask, callOn}
+use Rattle.table_calls.specs.Table.{Table, lentOf, sized, shareOf, recordOf, After, outLent, afterCall, askOn, Leaves}
 use Rattle.table_calls.proofs.Facts.{misfit-is, unknown-is, granted-is}
 
 -- ---- what a call leaves, by its tests
@@ -32,7 +32,7 @@ unknown-leaves k a t r e h p =
     (record { answers = ap replyOf p; records-left = refl; store-left = refl; out-left = refl })
 
 pub granted-leaves : (k : ℕ) (a : Ask) (t : Table) (r : Answer) (records : List Client) (store out : List ℕ) → sized (lentOf t) ≡ true
-    → k < length (t .records) → Leaves (turned k (on (recordOf k t) (shareOf k t) a) t) r records store out → Leaves (askOn k a t) r records store out
+    → k < length (t .records) → Leaves (afterCall k (callOn (recordOf k t) (shareOf k t) a) t) r records store out → Leaves (askOn k a t) r records store out
 granted-leaves k a t r records store out e h l = subst (λ (x : After). Leaves x r records store out) (sym (granted-is k a t e h)) l
 
 -- ---- a list of records that is filled from the front

@@ -24,8 +24,8 @@ use Rattle.client_reassembly.specs.declared.Answer.the-variants.{Refused, Reset
 use Rattle.client_reassembly.specs.declared.Refusal.the-variants.{TableMisfit}
 use Rattle.client_reassembly.specs.Advance as Advance
 use Rattle.client_reassembly.specs.Advance.{figures, accountOn}
-use Rattle.client_ledger.specs.History.{Lent, Ask, on}
-use Rattle.table_calls.specs.Table.{Table, lentOf, sized, shareOf, recordOf, After, resetOn, outLent, turned, askOn, Leaves, askTests, cleared}
+use Rattle.client_ledger.specs.History.{Lent, Ask, callOn}
+use Rattle.table_calls.specs.Table.{Table, lentOf, sized, shareOf, recordOf, After, resetOn, outLent, afterCall, askOn, Leaves, askTests, cleared}
 
 -- ---- the sizes of a table
 
@@ -87,7 +87,7 @@ unfolding askOn askTests firstOf
 unknown-is k a t e h = simp (e, le-leb (length (t .records)) k h)
 
 pub granted-is : (k : ℕ) (a : Ask) (t : Table) → sized (lentOf t) ≡ true → k < length (t .records)
-    → askOn k a t ≡ turned k (on (recordOf k t) (shareOf k t) a) t
+    → askOn k a t ≡ afterCall k (callOn (recordOf k t) (shareOf k t) a) t
 unfolding askOn askTests firstOf
 granted-is k a t e h = simp (e, lt-leb (length (t .records)) k h)
 

@@ -24,7 +24,7 @@ use Rattle.client_reassembly.specs.Offer.{Outcome}
 use Rattle.client_reassembly.specs.Shapes as Record
 use Rattle.client_reassembly.proofs.Lasting.{elapse-shaped, fragment-call-sound, fragment-call-shaped, advance-call-sound}
 use Rattle.client_ledger.specs.Shapes.{Shaped}
-use Rattle.client_ledger.specs.History.{Lent, Ask, offering, advancing, accounting, on}
+use Rattle.client_ledger.specs.History.{Lent, Ask, offering, advancing, accounting, callOn}
 use Rattle.client_ledger.proofs.Shares.{fragment-call-share}
 use Rattle.table_calls.specs.Table.{Table, lentOf, sized, shareOf, recordOf, After, putBack, askOn}
 use Rattle.table_calls.specs.Apart.{Formed, Tested, Same}
@@ -41,13 +41,13 @@ advance-shaped c t s = go (firstOf ((not (soundRecord c), 22) ∷ (ltb t (c .tim
     go (some n) = s
 
 -- every call leaves the shape, and a record that passes the record test passes it again
-own-shaped : (c : Client) (share : List ℕ) (a : Ask) → Shaped c share → Shaped (on c share a .client) (on c share a .share)
+own-shaped : (c : Client) (share : List ℕ) (a : Ask) → Shaped c share → Shaped (callOn c share a .client) (callOn c share a .share)
 own-shaped c share (offering o bytes out) s =
     record { lists = fragment-call-shaped c share out o bytes (s .lists); size = fragment-call-share c share out o bytes s }
 own-shaped c share (advancing t) s = record { lists = advance-shaped c t (s .lists); size = s .size }
 own-shaped c share accounting s = subst (λ (x : Client). Shaped x share) (sym (account-keeps c)) s
 
-own-sound : (c : Client) (share : List ℕ) (a : Ask) → Shaped c share → soundRecord c ≡ true → soundRecord (on c share a .client) ≡ true
+own-sound : (c : Client) (share : List ℕ) (a : Ask) → Shaped c share → soundRecord c ≡ true → soundRecord (callOn c share a .client) ≡ true
 own-sound c share (offering o bytes out) s ok = fragment-call-sound c share out o bytes ok (s .lists)
 own-sound c share (advancing t) s ok = advance-call-sound c t ok
 own-sound c share accounting s ok = ap soundRecord (account-keeps c) ∙ ok
@@ -89,7 +89,7 @@ module _ (t : Table) (j : ℕ) (o : Outcome) (fit : sized (lentOf t) ≡ true) (
 
 module _ (t : Table) (f : Formed t) (j : ℕ) (a : Ask) where
   abbrev did : Outcome
-  did = on (recordOf j t) (shareOf j t) a
+  did = callOn (recordOf j t) (shareOf j t) a
 
   pub unknown-table : length (t .records) ≤ j → askOn j a t .table ≡ t
   unknown-table h = ap (λ (x : After). x .table) (unknown-is j a t (f .fit) h)

@@ -14,7 +14,7 @@ use Rattle.client_reassembly.specs.Answer.{refused}
 use Rattle.client_ledger.specs.Book.{Book, Result, empty, leaving, call}
 use Rattle.client_ledger.specs.Lent.{misfits, noClient, Own, outOf, answered, bookOf}
 use Rattle.client_ledger.specs.Stands.{Stands, Fulfils}
-use Rattle.client_ledger.specs.History.{Lent, Ask, offering, advancing, accounting, on}
+use Rattle.client_ledger.specs.History.{Lent, Ask, offering, advancing, accounting, callOn}
 use Rattle.client_ledger.specs.Bookkeeping.{callOf}
 use Rattle.client_ledger.proofs.Theorem.{one-client-theorem}
 use Rattle.client_ledger.proofs.Own.{own-misfit, own-unknown, own-granted, book-more, book-none}
@@ -168,12 +168,12 @@ module _ (t : Table) (past : ℕ → List Own) (h : Holds t (λ k. bookOf (past 
           ∙ ap (λ (r : Result). r .book) (granted-book t j a (bookOf (past j)) (h .fit) there)
 
       own : j < length (t .records)
-          → Stands (on (recordOf j t) (shareOf j t) a .client) (on (recordOf j t) (shareOf j t) a .share)
+          → Stands (callOn (recordOf j t) (shareOf j t) a .client) (callOn (recordOf j t) (shareOf j t) a .share)
           (bookOf (cond (eqb j j) (past j ++ record { lent = lentOf t; client = j; call = callOf a } ∷ []) (past j)))
       own here =
-          subst (λ (x : Bool). Stands (on (recordOf j t) (shareOf j t) a .client) (on (recordOf j t) (shareOf j t) a .share)
+          subst (λ (x : Bool). Stands (callOn (recordOf j t) (shareOf j t) a .client) (callOn (recordOf j t) (shareOf j t) a .share)
           (bookOf (cond x (past j ++ record { lent = lentOf t; client = j; call = callOf a } ∷ []) (past j)))) (sym (eq-eqb j j refl))
-          (subst (Stands (on (recordOf j t) (shareOf j t) a .client) (on (recordOf j t) (shareOf j t) a .share)) (sym book)
+          (subst (Stands (callOn (recordOf j t) (shareOf j t) a .client) (callOn (recordOf j t) (shareOf j t) a .share)) (sym book)
           (one-client-theorem .each-call (recordOf j t) (shareOf j t) (bookOf (past j)) (h .each j here) a .stands))
 
       others : (k : ℕ) → k < length (t .records) → (j ≡ k → ⊥)

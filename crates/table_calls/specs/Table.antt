@@ -14,7 +14,7 @@ use Rattle.client_record.specs.Record.{freshClient}
 use Rattle.client_reassembly.specs.declared.Answer.{Answer}
 use Rattle.client_reassembly.specs.Answer.{Reply, refused, ready, replyOf}
 use Rattle.client_reassembly.specs.Offer.{Outcome}
-use Rattle.client_ledger.specs.History.{Lent, Ask, offering, advancing, accounting, on}
+use Rattle.client_ledger.specs.History.{Lent, Ask, offering, advancing, accounting, callOn}
 
 -- "a lent slice of client records, one per client, beside a lent store"
 pub record Table : Type 0 where
@@ -63,8 +63,8 @@ abbrev pub putBack : ℕ → Outcome → Table → Table
 putBack k o t = record { records = set (t .records) k (o .client); store = overlay (t .store) (k * shareSize) (o .share) }
 
 -- what the client's own rules leave, in its place
-abbrev pub turned : ℕ → Outcome → Table → After
-turned k o t = record { table = putBack k o t; out = o .out; reply = o .reply }
+abbrev pub afterCall : ℕ → Outcome → Table → After
+afterCall k o t = record { table = putBack k o t; out = o .out; reply = o .reply }
 
 -- the out buffer that a call lends
 abbrev pub outLent : Ask → List ℕ
@@ -74,7 +74,7 @@ outLent accounting = []
 
 -- a call of client k: 20, 21, then the client's own rules on its record and share
 unfoldable pub askOn : ℕ → Ask → Table → After
-askOn k a t = refuseOr t (outLent a) (firstOf (askTests (lentOf t) k)) (turned k (on (recordOf k t) (shareOf k t) a) t)
+askOn k a t = refuseOr t (outLent a) (firstOf (askTests (lentOf t) k)) (afterCall k (callOn (recordOf k t) (shareOf k t) a) t)
 
 -- ---- what the calls' contracts say: the answer in the paper's numbers and values, and all that was lent
 

@@ -49,10 +49,10 @@ use Rattle.table_receiver.specs.Packets.{
   calling,
   after,
   finally,
-  toldOf,
-  toldBy,
-  told,
-  tells,
+  answerTo,
+  answerBy,
+  answeredTo,
+  answersTo,
   offers,
   eventsOf,
   allEvents,
@@ -92,7 +92,7 @@ finally-is (c ∷ cs) t = finally-is cs (after t c) ∙ ap (λ (u : Table). fina
 -- ---- the same answers
 
 -- the reader's answer tells the table nothing
-reader-silent : (a : Answer) (out : List ℕ) → toldOf (fateOf a) out ≡ []
+reader-silent : (a : Answer) (out : List ℕ) → answerTo (fateOf a) out ≡ []
 reader-silent (Reading.refused n) out = refl
 reader-silent (Reading.reads r) out = refl
 
@@ -104,13 +104,13 @@ if-front : (x : Bool) (g : Given) (gs : List Given) → cond x (g ∷ []) [] ++ 
 if-front true g gs = refl
 if-front false g gs = refl
 
-told-is : (k : ℕ) (t : Table) (c : Call) (es : List Event) → told k t c ++ gives k (final t (eventsOf c)) es ≡ gives k t (eventsOf c ++ es)
+told-is : (k : ℕ) (t : Table) (c : Call) (es : List Event) → answeredTo k t c ++ gives k (final t (eventsOf c)) es ≡ gives k t (eventsOf c ++ es)
 unfolding gives final receiveOn
 told-is k t (setUp g) es = refl
 told-is k t (arriving g j p out) es = go (pieceIn (readingOf p))
   where
     go : (o : Option Fragment)
-        → cond (eqb j k) (toldBy (receiving j p out (tableFor g t) o)) [] ++ gives k (final t (offers g j p out o)) es
+        → cond (eqb j k) (answerBy (receiving j p out (tableFor g t) o)) [] ++ gives k (final t (offers g j p out o)) es
         ≡ gives k t (offers g j p out o ++ es)
     go none =
         ap (λ (l : List Given). l ++ gives k t es)
@@ -119,11 +119,11 @@ told-is k t (arriving g j p out) es = go (pieceIn (readingOf p))
         if-front (eqb j k) (givenBy (askOn j (offerOf p f out) (tableFor g t))) (gives k (next t (asking g j (offerOf p f out))) es)
 told-is k t (calling g j a) es = if-front (eqb j k) (givenBy (askOn j a (tableFor g t))) (gives k (next t (asking g j a)) es)
 
-tells-is : (k : ℕ) (cs : List Call) (t : Table) → tells k t cs ≡ gives k t (allEvents cs)
-unfolding tells allEvents gives
+tells-is : (k : ℕ) (cs : List Call) (t : Table) → answersTo k t cs ≡ gives k t (allEvents cs)
+unfolding answersTo allEvents gives
 tells-is k [] t = refl
 tells-is k (c ∷ cs) t =
-    ap (λ (l : List Given). told k t c ++ l) (tells-is k cs (after t c) ∙ ap (λ (u : Table). gives k u (allEvents cs)) (after-is t c))
+    ap (λ (l : List Given). answeredTo k t c ++ l) (tells-is k cs (after t c) ∙ ap (λ (u : Table). gives k u (allEvents cs)) (after-is t c))
     ∙ told-is k t c (allEvents cs)
 
 -- ---- the same lists without other clients' calls
@@ -171,7 +171,7 @@ module _ (t : Table) (cs : List Call) (terms : Terms t (allEvents cs)) where
   unfolding allEvents
   table-is = finally-is (opening cs) t
 
-  answers-told : (k : ℕ) → tells k t (opening cs) ≡ owes k (lentOf t) [] (Table.opening (allEvents cs))
+  answers-told : (k : ℕ) → answersTo k t (opening cs) ≡ owes k (lentOf t) [] (Table.opening (allEvents cs))
   unfolding allEvents
   answers-told k = tells-is k (opening cs) t ∙ demand-3 .answers t (allEvents cs) terms k
 
@@ -255,7 +255,7 @@ module _ (t : Table) (cs : List Call) (terms : Terms t (allEvents cs)) (k : ℕ)
       go (some f) e = demand-3 .sound t (allEvents cs) terms k (offerOf p f out) (reply-of f e (refused 22) q)
 
 isolated : (t : Table) (cs cs′ : List Call) → Terms t (allEvents cs) → Terms t (allEvents cs′) → (k : ℕ) → ownCalls k cs ≡ ownCalls k cs′
-    → (tells k t (opening cs) ≡ tells k t (opening cs′))
+    → (answersTo k t (opening cs) ≡ answersTo k t (opening cs′))
     × (recordOf k (tableAfter t cs) ≡ recordOf k (tableAfter t cs′))
     × (shareOf k (tableAfter t cs) ≡ shareOf k (tableAfter t cs′))
 unfolding allEvents

@@ -59,23 +59,23 @@ finally t [] = t
 finally t (c ∷ cs) = finally (after t c) cs
 
 -- the table's answer to a fragment, with out
-abbrev pub toldOf : Fate → List ℕ → List Given
-toldOf (unread n) out = []
-toldOf (whole r) out = []
-toldOf (offered reply) out = record { reply = reply; out = out } ∷ []
+abbrev pub answerTo : Fate → List ℕ → List Given
+answerTo (unread n) out = []
+answerTo (whole r) out = []
+answerTo (offered reply) out = record { reply = reply; out = out } ∷ []
 
-abbrev pub toldBy : Receipt → List Given
-toldBy o = toldOf (o .fate) (o .out)
+abbrev pub answerBy : Receipt → List Given
+answerBy o = answerTo (o .fate) (o .out)
 
 -- what the table answered to client k's fragments, clocks and accounts, and to the set-ups
-abbrev pub told : ℕ → Table → Call → List Given
-told k t (setUp g) = givenBy (resetOn (tableFor g t)) ∷ []
-told k t (arriving g j p out) = cond (eqb j k) (toldBy (receiveOn j p out (tableFor g t))) []
-told k t (calling g j a) = cond (eqb j k) (givenBy (askOn j a (tableFor g t)) ∷ []) []
+abbrev pub answeredTo : ℕ → Table → Call → List Given
+answeredTo k t (setUp g) = givenBy (resetOn (tableFor g t)) ∷ []
+answeredTo k t (arriving g j p out) = cond (eqb j k) (answerBy (receiveOn j p out (tableFor g t))) []
+answeredTo k t (calling g j a) = cond (eqb j k) (givenBy (askOn j a (tableFor g t)) ∷ []) []
 
-unfoldable pub tells : ℕ → Table → List Call → List Given
-tells k t [] = []
-tells k t (c ∷ cs) = told k t c ++ tells k (after t c) cs
+unfoldable pub answersTo : ℕ → Table → List Call → List Given
+answersTo k t [] = []
+answersTo k t (c ∷ cs) = answeredTo k t c ++ answersTo k (after t c) cs
 
 -- ---- the table's events in such a list
 
@@ -126,7 +126,7 @@ pub record OverPayloads : Type 0 where
   -- the table after a mixed list is the one that its fragments and its other calls leave: so what demand 3 says of any call that follows holds here
   pub events : (t : Table) (cs : List Call) → Terms t (allEvents cs) → tableAfter t cs ≡ Table.tableAfter t (allEvents cs)
   pub answers : (t : Table) (cs : List Call) → Terms t (allEvents cs) → (k : ℕ)
-      → tells k t (opening cs) ≡ owes k (lentOf t) [] (Table.opening (allEvents cs))
+      → answersTo k t (opening cs) ≡ owes k (lentOf t) [] (Table.opening (allEvents cs))
   pub accounts : (t : Table) (cs : List Call) → Terms t (allEvents cs) → (k : ℕ) → k < length (tableAfter t cs .records)
       → figures (recordOf k (tableAfter t cs)) ≡ Book.figures (bookFrom k t cs)
   pub sum : (t : Table) (cs : List Call) → Terms t (allEvents cs) → (k : ℕ) → k < length (tableAfter t cs .records)
@@ -150,7 +150,7 @@ pub record OverPayloads : Type 0 where
       → receiveOn k p out (tableAfter t cs) .out ≡ out
   pub isolation : (t : Table) (cs cs′ : List Call) → Terms t (allEvents cs) → Terms t (allEvents cs′) → (k : ℕ)
       → ownCalls k cs ≡ ownCalls k cs′
-      → (tells k t (opening cs) ≡ tells k t (opening cs′))
+      → (answersTo k t (opening cs) ≡ answersTo k t (opening cs′))
       × (recordOf k (tableAfter t cs) ≡ recordOf k (tableAfter t cs′))
       × (shareOf k (tableAfter t cs) ≡ shareOf k (tableAfter t cs′))
   pub sound : (t : Table) (cs : List Call) → Terms t (allEvents cs) → (k : ℕ) (p : Packet) (out : List ℕ)

@@ -16,7 +16,7 @@ use Rattle.number_octets.specs.Octets.{number, part}
 use Rattle.number_offsets.specs.Offsets.{udpHeader}
 use Rattle.wire_options.specs.Kinds.{classOf, eol, nop, frag, lastFragSize}
 use Rattle.wire_options.specs.Step.{within, headerOf, fixedStep, varyingStep, stepIn, stepOf}
-use Rattle.wire_options.specs.Walk.{Item, Walked, listed, faulty, before, itemOf, sound, met, walkFrom, optionLimit}
+use Rattle.wire_options.specs.Walk.{Item, Walked, listed, faulty, before, itemOf, sound, walkAt, walkFrom, optionLimit}
 use Rattle.wire_area.specs.Area.{nopsOf, fieldsOf, fragmentOf, piece, plainly, pieceWith, upToStart, behindFrag, ledBy, areaOf}
 use Rattle.wire_options.specs.declared.step.Class.{Class}
 use Rattle.wire_options.specs.declared.step.Class.the-variants.{EndOfList, NoOperation, Fixed, Varying, Unsafe}
@@ -177,7 +177,7 @@ fill-within room zero (b ∷ bs) items fill h q =
         let w = front item (rest room (size - 1)) q in
         omega (arith, ih room (size - 1) (w .0) (omega arith) (w .1))
 
-    go : (step : Step) → stepOf (b ∷ bs) ≡ step → met room (b ∷ bs) step rest ≡ listed items fill → Within → fill ≤ length (b ∷ bs)
+    go : (step : Step) → stepOf (b ∷ bs) ≡ step → walkAt room (b ∷ bs) step rest ≡ listed items fill → Within → fill ≤ length (b ∷ bs)
     go End e q ih = let f : 0 ≡ fill = cc in omega arith
     go Eol e q ih = let f : length (b ∷ bs) ≡ fill = cc in omega arith
     go Nop e q ih = omega (arith, ih room 0 items (omega arith) q)
@@ -228,12 +228,12 @@ module _ (x : ℕ) (a t u : List ℕ) (same : length t ≡ length u) where
           let item : itemOf kind header size l ≡ itemOf kind header size m =
           ap (λ (body : List ℕ). record { kind = kind; body = body })
           (part-same header (size - header) (suc (length a)) l m fronts (omega (arith, f .head))) in
-          ap (λ (s : Step). met (suc room) m s (λ left skip. walkFrom left skip (a ++ (eol ∷ u)))) step
+          ap (λ (s : Step). walkAt (suc room) m s (λ left skip. walkFrom left skip (a ++ (eol ∷ u)))) step
           ∙ ap (λ (c : Bool). cond c (faulty Malformed) (before (itemOf kind header size m) (walkFrom room (size - 1) (a ++ (eol ∷ u))))) k
           ∙ ap₂ before (sym item) next ∙ ap (λ (i : List Item). listed i (suc (length u))) all
 
   front : (room : ℕ) (items : List Item) (step : Step) → stepOf l ≡ step
-      → met room l step (λ left skip. walkFrom left skip (a ++ (eol ∷ t))) ≡ listed items (suc (length t))
+      → walkAt room l step (λ left skip. walkFrom left skip (a ++ (eol ∷ t))) ≡ listed items (suc (length t))
       → Rest → walkFrom room 0 m ≡ listed items (suc (length u))
   unfolding walkFrom
   front room items End e q ih = absurd (let z : _≡_ {A = ℕ} 0 (suc (length t)) = cc in omega arith)
@@ -241,7 +241,7 @@ module _ (x : ℕ) (a t u : List ℕ) (same : length t ≡ length u) where
   front room items Unsound e q ih = absurd (let z : _≡_ {A = ℕ} 0 1 = cc in omega arith)
   front room items Outlawed e q ih = absurd (let z : _≡_ {A = ℕ} 0 1 = cc in omega arith)
   front room items Nop e q ih =
-      ap (λ (s : Step). met room m s (λ left skip. walkFrom left skip (a ++ (eol ∷ u)))) (nop-local x (a ++ (eol ∷ t)) (a ++ (eol ∷ u)) e)
+      ap (λ (s : Step). walkAt room m s (λ left skip. walkFrom left skip (a ++ (eol ∷ u)))) (nop-local x (a ++ (eol ∷ t)) (a ++ (eol ∷ u)) e)
       ∙ ih room 0 items (omega arith) q
   front room items (Found kind header size) e q ih = go (eqb kind frag) refl q
     where

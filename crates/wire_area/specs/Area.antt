@@ -106,10 +106,10 @@ areaOf empty base l =
     (plainly (walkFrom optionLimit 0 l))
 
 -- what of it the answer tells
-abbrev pub toldArea : AreaWalk → Area
-toldArea (plain items fill) = Listed (length items) fill (apcsOf items)
-toldArea (piece f) = Piece f
-toldArea (fault f) = Faulty f
+abbrev pub areaAnswer : AreaWalk → Area
+areaAnswer (plain items fill) = Listed (length items) fill (apcsOf items)
+areaAnswer (piece f) = Piece f
+areaAnswer (fault f) = Faulty f
 
 -- ---- what the answer of a plain walk becomes in the answer of an area's walk
 

@@ -13,7 +13,7 @@ ghost use Prim.Native.Nat.{_<_, _≤_};
 ghost use lib.ListN.{length, drop, getD};
 ghost use Rattle.wire_options.specs.Kinds.{frag};
 ghost use Rattle.wire_options.specs.Step.{stepOf};
-ghost use Rattle.wire_area.specs.Area.{nopsOf, fieldsOf, placedAt, fragmentOf, behindFrag, ledBy, areaOf, toldArea};
+ghost use Rattle.wire_area.specs.Area.{nopsOf, fieldsOf, placedAt, fragmentOf, behindFrag, ledBy, areaOf, areaAnswer};
 ghost use Rattle.wire_area.specs.Area.{asPiece, asArea};
 
 const NOP: u8 = 1;
@@ -62,7 +62,7 @@ pub enum Area {
 
 // Walks the list that stands at packet offset `base`. `empty` says that the datagram has no user data.
 pub fn walk_area(list: &[u8], base: PacketOffset, empty: bool) -> Area
-    ensures { λ r. ⌜ r ≡ toldArea (areaOf empty (base .0) (now (list .entry))) ⌝ }
+    ensures { λ r. ⌜ r ≡ areaAnswer (areaOf empty (base .0) (now (list .entry))) ⌝ }
 {
     let nops = leading_nops(list);
     if nops < list.len() {
@@ -89,7 +89,7 @@ fn leading_nops(list: &[u8]) -> usize
 // A list whose first option behind the NOPs has the kind of FRAG.
 fn led(list: &[u8], base: PacketOffset, nops: usize, empty: bool) -> Area
     requires { ⌜ (nops < length (now list)) × (getD (now list) nops 0 ≡ frag) ⌝ }
-    ensures { λ r. ⌜ r ≡ toldArea (ledBy empty (now (list .entry)) (base .0) nops (stepOf (drop nops (now (list .entry))))) ⌝ }
+    ensures { λ r. ⌜ r ≡ areaAnswer (ledBy empty (now (list .entry)) (base .0) nops (stepOf (drop nops (now (list .entry))))) ⌝ }
 {
     let rest = &list[nops..];
     let step = step::next(rest);
@@ -181,7 +181,7 @@ fn at_places(fields: Fields, end: PacketOffset, place: Origin, option_start: Ori
 // What is behind FRAG, which ends `behind` bytes into the list.
 fn behind_frag(list: &[u8], base: PacketOffset, behind: usize, empty: bool, fields: Fields) -> Area
     requires { ⌜ (behind ≤ length (now list)) × (fields .start .0 < 65536) ⌝ }
-    ensures { λ r. ⌜ r ≡ toldArea (behindFrag empty (now (list .entry)) (base .0) behind (fragmentOf fields (base .0) behind (length (now (list .entry))))) ⌝ }
+    ensures { λ r. ⌜ r ≡ areaAnswer (behindFrag empty (now (list .entry)) (base .0) behind (fragmentOf fields (base .0) behind (length (now (list .entry))))) ⌝ }
 {
     let origin = base.0;
     let found = fragment_of(fields, base, behind, list.len());

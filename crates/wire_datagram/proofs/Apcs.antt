@@ -14,7 +14,7 @@ use Rattle.wire_options.specs.Walk.{Item, joined, apcsOf}
 use Rattle.wire_options.specs.declared.walk.Apcs.{Apcs}
 use Rattle.wire_options.specs.declared.walk.Apcs.the-variants.{Absent as absent, Same, Different}
 use Rattle.wire_datagram.specs.Reading.{apcValues, allAre, apcOf}
-use Rattle.wire_datagram.specs.Private.{apcBy}
+use Rattle.wire_datagram.specs.ByWalk.{apcBy}
 use Rattle.wire_datagram.specs.declared.reading.Apc.{Apc}
 use Rattle.wire_datagram.specs.declared.reading.Apc.the-variants.{Absent, Right, Wrong}
 

@@ -4,6 +4,5 @@ pub mod Lists
 pub mod Pieces
 pub mod Readings
 pub mod Refusals
-pub mod Rereads
 pub mod Sums
 pub mod Survival

@@ -4,55 +4,24 @@
 use mathlib.Core.Path.{_≡_, refl, sym, ap, subst, _∙_}
 use mathlib.Core.Bool.{Bool, true, false}
 use mathlib.Core.List.{List}
-use mathlib.Core.Option.{Option, none, some}
 use Prim.Native.Nat.{ℕ, _+_, _-_, _≤_}
 use native.Mathlib.Omega.{arith}
-use borrow.Author.Tests.{ltb-false}
 use lib.Dec.{eqb}
 use lib.ListN.{length, drop, length-drop}
 use lib.Seq.{take-all}
-use Rattle.number_tests.proofs.Tests.{first-none}
-use Rattle.number_tests.specs.Tests.{firstOf}
 use Rattle.number_octets.specs.Octets.{part}
-use Rattle.number_offsets.specs.Offsets.{udpHeader}
-use Rattle.wire_options.specs.Walk.{Item, Walked, listed, faulty, walkFrom, optionLimit}
+use Rattle.wire_options.specs.Walk.{Item, listed, walkFrom, optionLimit}
 use Rattle.wire_area.specs.Area.{AreaWalk, plain, piece, fault, areaOf}
 use Rattle.wire_options.specs.declared.walk.Fault.{Fault}
-use Rattle.wire_options.specs.declared.walk.Fault.the-variants.{
-  Malformed as malformedList,
-  Unsafe as unsafeList,
-  FragData as fragData,
-  Crowded as crowdedList,
-}
+use Rattle.wire_options.specs.declared.walk.Fault.the-variants.{Malformed as malformedList, Unsafe as unsafeList, FragData as fragData, Crowded as crowdedList}
 use Rattle.wire_area.proofs.Areas.{area-plain}
 use Rattle.wire_surplus.specs.Surplus.{startOf}
 use Rattle.wire_datagram.specs.Reading.{noData, udpLength, udpChecksum, verdictOf, walked, started, isOdd, accepted, reads, reading, isRead}
-use Rattle.wire_datagram.specs.Rereading.{ReAnswer, refused, rereads, quietly, rewalked, restarted, reTests, reAnswered, rereading}
 use Rattle.wire_surplus.specs.declared.Start.{Start}
-use Rattle.wire_surplus.specs.declared.Start.the-variants.{
-  Empty,
-  Short as shortArea,
-  Pad as badPad,
-  Unsummed as noSum,
-  BadSum as badSum,
-  List as ListAt,
-}
+use Rattle.wire_surplus.specs.declared.Start.the-variants.{Empty, Short as shortArea, Pad as badPad, Unsummed as noSum, BadSum as badSum, List as ListAt}
 use Rattle.wire_datagram.specs.declared.reading.Verdict.{Verdict}
-use Rattle.wire_datagram.specs.declared.reading.Verdict.the-variants.{
-  Bare,
-  Short,
-  Pad,
-  Unsummed,
-  BadSum,
-  Malformed,
-  Unsafe,
-  FragData,
-  Crowded,
-  Read,
-  Piece,
-}
+use Rattle.wire_datagram.specs.declared.reading.Verdict.the-variants.{Bare, Short, Pad, Unsummed, BadSum, Malformed, Unsafe, FragData, Crowded, Read, Piece}
 use Rattle.wire_datagram.specs.declared.reading.Reading.{Reading}
-use Rattle.wire_datagram.specs.declared.rereading.Rereading.{Rereading}
 use Rattle.wire_datagram.proofs.Claims.{met-none, in-range}
 use Rattle.wire_surplus.proofs.Starts.{start-list}
 
@@ -74,10 +43,7 @@ lists-part bytes from to count fill l =
 abbrev pub ListsIn : List ℕ → Reading → Type 0
 ListsIn payload r = Lists payload (r .options .from .0) (r .options .to .0) (r .count) (r .fill)
 
-abbrev pub RelistsIn : List ℕ → Rereading → Type 0
-RelistsIn original r = Lists original (r .options .from .0) (r .options .to .0) (r .count) (r .fill)
-
-not-read : (verdict : Verdict) → isRead verdict ≡ false → verdict ≡ Read → ⊥
+pub not-read : (verdict : Verdict) → isRead verdict ≡ false → verdict ≡ Read → ⊥
 not-read verdict e q = let z : true ≡ false = sym (ap isRead q) ∙ e in let n : _≡_ {A = ℕ} 0 1 = cc in omega arith
 
 -- no other verdict passes the test
@@ -94,11 +60,11 @@ read-verdict Crowded e = absurd (let z : _≡_ {A = ℕ} 0 1 = cc in omega arith
 read-verdict Read e = refl
 read-verdict (Piece f) e = absurd (let z : _≡_ {A = ℕ} 0 1 = cc in omega arith)
 
-fault-quiet : (f : Fault) → isRead (verdictOf f) ≡ false
-fault-quiet malformedList = refl
-fault-quiet unsafeList = refl
-fault-quiet fragData = refl
-fault-quiet crowdedList = refl
+fault-optionless : (f : Fault) → isRead (verdictOf f) ≡ false
+fault-optionless malformedList = refl
+fault-optionless unsafeList = refl
+fault-optionless fragData = refl
+fault-optionless crowdedList = refl
 
 -- ---- a reading
 
@@ -108,7 +74,7 @@ module _ (p : List ℕ) (size : ℕ) where
   walked-lists empty from (plain items fill) h e v =
       record { items = items; ordered = h; ends = refl; walks = area-plain empty from (drop from p) items fill e; counts = refl }
   walked-lists empty from (piece f) h e v = absurd (not-read (Piece f) refl v)
-  walked-lists empty from (fault f) h e v = absurd (not-read (verdictOf f) (fault-quiet f) v)
+  walked-lists empty from (fault f) h e v = absurd (not-read (verdictOf f) (fault-optionless f) v)
 
   started-lists : (odd unused : Bool) (start : Start) → size ≤ length p → startOf odd unused (drop size p) ≡ start
       → started p size start .verdict ≡ Read → ListsIn p (started p size start)
@@ -133,51 +99,3 @@ pub reading-lists : (p s d : List ℕ) (r : Reading) → reading p s d ≡ reads
 reading-lists p s d r e =
     let m = met-none p s d r e in
     subst (λ (x : Reading). x .verdict ≡ Read → ListsIn p x) (m .1) (accepted-lists p (in-range p s d (m .0) .1))
-
--- ---- a rereading
-
--- what holds of a rereading, said of an answer
-abbrev verdictIn : ReAnswer → Bool
-verdictIn (refused n) = false
-verdictIn (rereads x) = isRead (x .verdict)
-
-abbrev RelistsBy : List ℕ → ReAnswer → Type 0
-RelistsBy original (refused n) = ⊥
-RelistsBy original (rereads x) = RelistsIn original x
-
-module _ (original : List ℕ) (r : ℕ) (x : Rereading) (v : x .verdict ≡ Read) where
-  quietly-not : (verdict : Verdict) → isRead verdict ≡ false → quietly r verdict ≡ rereads x → ⊥
-  quietly-not verdict e q = not-read (x .verdict) (sym (ap verdictIn q) ∙ e) v
-
-  rewalked-lists : (from : ℕ) (w : Walked) → from ≤ length original → walkFrom optionLimit 0 (drop from original) ≡ w
-      → rewalked original r from w ≡ rereads x → RelistsIn original x
-  rewalked-lists from (listed items fill) h e q =
-      subst (RelistsBy original) q (record { items = items; ordered = h; ends = refl; walks = e; counts = refl })
-  rewalked-lists from (faulty unsafeList) h e q = absurd (let z : _≡_ {A = ℕ} 0 1 = cc in omega arith)
-  rewalked-lists from (faulty malformedList) h e q = absurd (quietly-not Malformed refl q)
-  rewalked-lists from (faulty fragData) h e q = absurd (quietly-not FragData refl q)
-  rewalked-lists from (faulty crowdedList) h e q = absurd (quietly-not Crowded refl q)
-
-  restarted-lists : (odd : Bool) (start : Start) → r ≤ length original → startOf odd true (drop r original) ≡ start
-      → restarted original r start ≡ rereads x → RelistsIn original x
-  restarted-lists odd Empty h e q = absurd (quietly-not Bare refl q)
-  restarted-lists odd shortArea h e q = absurd (quietly-not Short refl q)
-  restarted-lists odd badPad h e q = absurd (quietly-not Pad refl q)
-  restarted-lists odd noSum h e q = absurd (quietly-not Unsummed refl q)
-  restarted-lists odd badSum h e q = absurd (quietly-not BadSum refl q)
-  restarted-lists odd (ListAt at) h e q =
-      let within : at ≤ length (drop r original) = start-list odd true (drop r original) at e in
-      rewalked-lists (r + at) (walkFrom optionLimit 0 (drop (r + at) original)) (omega (arith, simp length-drop at within)) refl q
-
-pub rereading-lists : (original : List ℕ) (r : ℕ) (x : Rereading) → rereading original r ≡ rereads x → x .verdict ≡ Read → RelistsIn original x
-unfolding rereading
-rereading-lists original r x e v = go (firstOf (reTests original r)) refl e
-  where
-    start : Start
-    start = startOf (isOdd (udpHeader + r)) true (drop r original)
-
-    go : (o : Option ℕ) → firstOf (reTests original r) ≡ o → reAnswered o (restarted original r start) ≡ rereads x → RelistsIn original x
-    go (some n) f q = absurd (let z : _≡_ {A = ℕ} 0 1 = cc in omega arith)
-    go none f q =
-        let second = first-none _ _ (first-none _ _ f .1) .0 in
-        restarted-lists original r x v (isOdd (udpHeader + r)) start (ltb-false (length original) r second) refl q

@@ -1,20 +1,17 @@
 -- Each refusal from the facts that lead to it, and the reading where none applies.
 -- Assumes nothing.
-use mathlib.Core.Path.{_≡_, refl}
-use mathlib.Core.Bool.{Bool, true, false, cond, not, _&&_, _||_, and-false}
+use mathlib.Core.Path.{_≡_}
+use mathlib.Core.Bool.{false, not, and-false}
 use mathlib.Core.List.{List, _++_}
 use mathlib.Core.Logic.{_⊎_, inl, inr}
 use Prim.Native.Nat.{ℕ, _+_, _≤_, _<_}
-use native.Mathlib.Omega.{arith}
 use borrow.Author.Tests.{eq-eqb, ne-eqb, lt-ltb, le-ltb}
 use lib.Dec.{eqb}
-use lib.ListN.{length, take, drop}
+use lib.ListN.{length, take}
 use Rattle.number_tests.specs.Tests.{firstOf}
 use Rattle.number_offsets.specs.Offsets.{udpHeader}
 use Rattle.number_checksum.specs.Checksum.{wordSum, folded, allOnes}
-use Rattle.wire_datagram.specs.Reading.{payloadLimit, udpLength, udpChecksum, pseudoHeader, accepted, isOdd, Answer, refused, reads, reading}
-use Rattle.wire_datagram.specs.Rereading.{originalLimit, restarted, rereading, refused as refusedAgain}
-use Rattle.wire_surplus.specs.Surplus.{startOf}
+use Rattle.wire_datagram.specs.Reading.{payloadLimit, udpLength, udpChecksum, pseudoHeader, accepted, refused, reads, reading}
 
 -- what refusals 1 to 3 leave of a payload
 pub record Sized (payload : List ℕ) : Type 0 where
@@ -77,16 +74,3 @@ module _ (p s d : List ℕ) where
         eq-eqb sumOf allOnes e,
         and-false (not (eqb (udpChecksum p) 0)),
       )
-
-module _ (o : List ℕ) (r : ℕ) where
-  pub re-long : originalLimit < length o → rereading o r ≡ refusedAgain 2
-  unfolding rereading firstOf
-  re-long h = simp (lt-ltb originalLimit (length o) h)
-
-  pub re-past : length o ≤ originalLimit → length o < r → rereading o r ≡ refusedAgain 6
-  unfolding rereading firstOf
-  re-past g h = simp (le-ltb originalLimit (length o) g, lt-ltb (length o) r h)
-
-  pub re-accepted : length o ≤ originalLimit → r ≤ length o → rereading o r ≡ restarted o r (startOf (isOdd (udpHeader + r)) true (drop r o))
-  unfolding rereading firstOf
-  re-accepted g h = simp (le-ltb originalLimit (length o) g, le-ltb (length o) r h)

@@ -1,5 +1,4 @@
 pub mod Verdict
 pub mod Extents
 pub mod Reading
-pub mod Rereading
-pub mod Private
+pub mod ByWalk

@@ -93,8 +93,8 @@ apcOf user [] = Absent
 apcOf user (v ∷ values) = cond (allAre (crcOf user) (v ∷ values)) Right Wrong
 
 -- a reading that reports no option
-abbrev pub quiet : ℕ → Verdict → Reading
-quiet size verdict = record { user = extent udpHeader size; verdict = verdict; options = extent 0 0; count = 0; fill = 0; apc = Absent }
+abbrev pub optionless : ℕ → Verdict → Reading
+optionless size verdict = record { user = extent udpHeader size; verdict = verdict; options = extent 0 0; count = 0; fill = 0; apc = Absent }
 
 abbrev pub verdictOf : Fault → Verdict
 verdictOf malformedList = Malformed
@@ -112,19 +112,19 @@ walked payload size from (plain items fill) = record {
   fill = fill;
   apc = apcOf (part udpHeader (size - udpHeader) payload) (apcValues items);
 }
-walked payload size from (piece fragment) = quiet size (Piece fragment)
-walked payload size from (fault f) = quiet size (verdictOf f)
+walked payload size from (piece fragment) = optionless size (Piece fragment)
+walked payload size from (fault f) = optionless size (verdictOf f)
 
 -- whether there is no user data: L is that of a header alone
 abbrev pub noData : ℕ → Bool
 noData size = eqb size udpHeader
 
 abbrev pub started : List ℕ → ℕ → Start → Reading
-started payload size Empty = quiet size Bare
-started payload size shortArea = quiet size Short
-started payload size badPad = quiet size Pad
-started payload size noSum = quiet size Unsummed
-started payload size badSum = quiet size BadSum
+started payload size Empty = optionless size Bare
+started payload size shortArea = optionless size Short
+started payload size badPad = optionless size Pad
+started payload size noSum = optionless size Unsummed
+started payload size badSum = optionless size BadSum
 started payload size (ListAt at) =
     walked payload size (size + at) (areaOf (noData size) (size + at) (drop (size + at) payload))
 

@@ -1,3 +1,2 @@
 // Reading one IPv4 UDP payload with the options of RFC 9868.
 pub mod reading;
-pub mod rereading;

@@ -12,8 +12,8 @@ ghost use lib.ListN.{length, drop};
 ghost use Rattle.number_offsets.specs.Offsets.{udpHeader};
 ghost use Rattle.wire_area.specs.Area.{areaOf};
 ghost use Rattle.wire_surplus.specs.Surplus.{startOf};
-ghost use Rattle.wire_datagram.specs.Reading.{payloadLimit, pseudoHeader, udpSum, isOdd, quiet, verdictOf, walked, noData, started, reading, answerOf, isRead};
-ghost use Rattle.wire_datagram.specs.Private.{apcBy};
+ghost use Rattle.wire_datagram.specs.Reading.{payloadLimit, pseudoHeader, udpSum, isOdd, optionless, verdictOf, walked, noData, started, reading, answerOf, isRead};
+ghost use Rattle.wire_datagram.specs.ByWalk.{apcBy};
 
 // An IPv4 packet of 65,535 bytes less its header.
 pub const PAYLOAD_LIMIT: usize = 65515;
@@ -123,11 +123,11 @@ fn accept(payload: &[u8], size: usize, unused: bool) -> Reading
 {
     let start = wire_surplus::start_of(&payload[size..], size % 2 == 1, unused);
     match start {
-        Start::Empty => quiet(size, Verdict::Bare),
-        Start::Short => quiet(size, Verdict::Short),
-        Start::Pad => quiet(size, Verdict::Pad),
-        Start::Unsummed => quiet(size, Verdict::Unsummed),
-        Start::BadSum => quiet(size, Verdict::BadSum),
+        Start::Empty => optionless(size, Verdict::Bare),
+        Start::Short => optionless(size, Verdict::Short),
+        Start::Pad => optionless(size, Verdict::Pad),
+        Start::Unsummed => optionless(size, Verdict::Unsummed),
+        Start::BadSum => optionless(size, Verdict::BadSum),
         Start::List(at) => listed(payload, size, PacketOffset(size + at)),
     }
 }
@@ -154,8 +154,8 @@ fn listed(payload: &[u8], size: usize, from: PacketOffset) -> Reading
             fill,
             apc: apc_of(&payload[UDP_HEADER..size], apcs),
         },
-        Area::Piece(fragment) => quiet(size, Verdict::Piece(fragment)),
-        Area::Faulty(fault) => quiet(size, verdict_of(fault)),
+        Area::Piece(fragment) => optionless(size, Verdict::Piece(fragment)),
+        Area::Faulty(fault) => optionless(size, verdict_of(fault)),
     }
 }
 
@@ -206,8 +206,8 @@ pub fn is_read(verdict: Verdict) -> bool
 }
 
 // A reading that reports no option.
-fn quiet(size: usize, verdict: Verdict) -> Reading
-    ensures { λ r. ⌜ r ≡ quiet size verdict ⌝ }
+fn optionless(size: usize, verdict: Verdict) -> Reading
+    ensures { λ r. ⌜ r ≡ optionless size verdict ⌝ }
 {
     Reading {
         user: Extent {

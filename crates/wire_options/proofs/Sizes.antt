@@ -10,7 +10,7 @@ use lib.Dec.{eqb}
 use lib.ListN.{length, length-take}
 use Rattle.wire_options.specs.Kinds.{frag}
 use Rattle.wire_options.specs.Step.{stepOf}
-use Rattle.wire_options.specs.Walk.{Item, Walked, listed, faulty, before, itemOf, sound, met, walkFrom}
+use Rattle.wire_options.specs.Walk.{Item, Walked, listed, faulty, before, itemOf, sound, walkAt, walkFrom}
 use Rattle.wire_options.specs.declared.step.Step.{Step}
 use Rattle.wire_options.specs.declared.step.Step.the-variants.{End, Eol, Nop, Found, Malformed as Unsound, Outlawed}
 use Rattle.wire_options.specs.declared.walk.Fault.the-variants.{Malformed}
@@ -65,7 +65,7 @@ walk-bounded room zero (b ∷ bs) items fill h q = go (stepOf (b ∷ bs)) refl q
     option zero false item size fits body q ih = absurd (let z : _≡_ {A = ℕ} 0 1 = cc in omega arith)
     option (suc room) false item size fits body q ih = more room item size fits body (rest room (size - 1)) refl q ih
 
-    go : (step : Step) → stepOf l ≡ step → met room l step rest ≡ listed items fill → Rest → Bounded room 0 l items
+    go : (step : Step) → stepOf l ≡ step → walkAt room l step rest ≡ listed items fill → Rest → Bounded room 0 l items
     go End e q ih = let none : [] ≡ items = cc in none-bounded room l items none
     go Eol e q ih = let none : [] ≡ items = cc in none-bounded room l items none
     go Nop e q ih = let i = ih room 0 items (omega arith) q in record { few = i .few; bodies = omega (arith, i .bodies) }

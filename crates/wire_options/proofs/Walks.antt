@@ -12,16 +12,16 @@ use lib.ListN.{length, drop}
 use lib.Seq.{drop-drop}
 use Rattle.wire_options.specs.Kinds.{frag}
 use Rattle.wire_options.specs.Step.{stepOf}
-use Rattle.wire_options.specs.Turn.{roomTurn, turnIn, turnOf}
-use Rattle.wire_options.specs.Walk.{Item, Walked, listed, faulty, before, itemOf, sound, met, walkFrom, joined, apcOf, apcsOf, told}
+use Rattle.wire_options.specs.Progress.{roomProgress, progressIn, progressOf}
+use Rattle.wire_options.specs.Walk.{Item, Walked, listed, faulty, before, itemOf, sound, walkAt, walkFrom, joined, apcOf, apcsOf, walkAnswer}
 use Rattle.wire_options.specs.declared.step.Step.{Step}
 use Rattle.wire_options.specs.declared.step.Step.the-variants.{End, Eol, Nop, Found, Malformed as Unsound, Outlawed}
 use Rattle.wire_options.specs.declared.walk.Fault.{Fault}
 use Rattle.wire_options.specs.declared.walk.Fault.the-variants.{Malformed, Unsafe, Crowded}
 use Rattle.wire_options.specs.declared.walk.Apcs.{Apcs}
 use Rattle.wire_options.specs.declared.walk.Apcs.the-variants.{Absent, Same, Different}
-use Rattle.wire_options.specs.declared.walk.Turn.{Turn}
-use Rattle.wire_options.specs.declared.walk.Turn.the-variants.{On, Ended, Failed}
+use Rattle.wire_options.specs.declared.walk.Progress.{Progress}
+use Rattle.wire_options.specs.declared.walk.Progress.the-variants.{On, Ended, Failed}
 use Rattle.wire_options.specs.declared.walk.Walk.{Walk}
 use Rattle.wire_options.specs.declared.walk.Walk.the-variants.{Listed, Faulty}
 use Rattle.wire_options.proofs.Steps.{step-found}
@@ -84,7 +84,7 @@ behind-behind n m a b (Listed count fill c) =
     ap₂ (λ (k : ℕ) (x : Apcs). Listed k fill x) (sym (add-assoc n m count)) (joined-assoc a b c)
 behind-behind n m a b (Faulty fault) = refl
 
-told-before : (item : Item) (w : Walked) → told (before item w) ≡ behind 1 (apcOf item) (told w)
+told-before : (item : Item) (w : Walked) → walkAnswer (before item w) ≡ behind 1 (apcOf item) (walkAnswer w)
 unfolding apcsOf
 told-before item (listed items fill) = ap (λ (n : ℕ). Listed n fill (joined (apcOf item) (apcsOf items))) (omega arith)
 told-before item (faulty fault) = refl
@@ -95,7 +95,7 @@ pub record Goes (room : ℕ) (l : List ℕ) (left size : ℕ) (apcs : Apcs) : Ty
   pub less : left ≤ room
   pub some : 0 < size
   pub fits : size ≤ length l
-  pub carries : told (walkFrom room 0 l) ≡ behind (room - left) apcs (told (walkFrom left 0 (drop size l)))
+  pub carries : walkAnswer (walkFrom room 0 l) ≡ behind (room - left) apcs (walkAnswer (walkFrom left 0 (drop size l)))
 
 module _ (b : ℕ) (bs : List ℕ) where
   abbrev l : List ℕ
@@ -106,8 +106,8 @@ module _ (b : ℕ) (bs : List ℕ) where
 
   -- an option that was taken: one less may come, and the rest starts behind it
   took : (room kind header size left′ size′ : ℕ) (apcs : Apcs) → stepOf l ≡ Found kind header size
-      → roomTurn room size (apcOf (itemOf kind header size l)) ≡ On left′ size′ apcs
-      → told (walkFrom room 0 l) ≡ told (sound room (itemOf kind header size l) (λ left. rest left (size - 1)))
+      → roomProgress room size (apcOf (itemOf kind header size l)) ≡ On left′ size′ apcs
+      → walkAnswer (walkFrom room 0 l) ≡ walkAnswer (sound room (itemOf kind header size l) (λ left. rest left (size - 1)))
       → Goes room l left′ size′ apcs
   took zero kind header size left′ size′ apcs e q w = absurd (let z : _≡_ {A = ℕ} 0 1 = cc in omega arith)
   took (suc room) kind header size left′ size′ apcs e q w =
@@ -127,12 +127,12 @@ module _ (b : ℕ) (bs : List ℕ) where
         fits = omega (arith, f .sized .fits);
         carries =
             w ∙ told-before (itemOf kind header size l) (rest room (size - 1))
-            ∙ ap₂ (λ (a : Apcs) (v : Walked). behind 1 a (told v)) same-apcs there
-            ∙ ap (λ (n : ℕ). behind n apcs (told (walkFrom left′ 0 (drop size′ l)))) (sym one);
+            ∙ ap₂ (λ (a : Apcs) (v : Walked). behind 1 a (walkAnswer v)) same-apcs there
+            ∙ ap (λ (n : ℕ). behind n apcs (walkAnswer (walkFrom left′ 0 (drop size′ l)))) (sym one);
       }
 
-  goes-step : (room left size : ℕ) (apcs : Apcs) (step : Step) → stepOf l ≡ step → turnIn room l step ≡ On left size apcs
-      → told (walkFrom room 0 l) ≡ told (met room l step rest) → Goes room l left size apcs
+  goes-step : (room left size : ℕ) (apcs : Apcs) (step : Step) → stepOf l ≡ step → progressIn room l step ≡ On left size apcs
+      → walkAnswer (walkFrom room 0 l) ≡ walkAnswer (walkAt room l step rest) → Goes room l left size apcs
   goes-step room left size apcs End e q w = absurd (let z : _≡_ {A = ℕ} 0 1 = cc in omega arith)
   goes-step room left size apcs Eol e q w = absurd (let z : _≡_ {A = ℕ} 0 1 = cc in omega arith)
   goes-step room left size apcs Unsound e q w = absurd (let z : _≡_ {A = ℕ} 0 1 = cc in omega arith)
@@ -147,21 +147,21 @@ module _ (b : ℕ) (bs : List ℕ) where
         some = omega arith;
         fits = omega arith;
         carries =
-            w ∙ sym (behind-none (told (walkFrom room 0 bs)))
-            ∙ ap₂ (λ (r k : ℕ). behind 0 Absent (told (walkFrom r 0 (drop k l)))) same-left same-size
-            ∙ ap₂ (λ (n : ℕ) (a : Apcs). behind n a (told (walkFrom left 0 (drop size l)))) (sym none) same-apcs;
+            w ∙ sym (behind-none (walkAnswer (walkFrom room 0 bs)))
+            ∙ ap₂ (λ (r k : ℕ). behind 0 Absent (walkAnswer (walkFrom r 0 (drop k l)))) same-left same-size
+            ∙ ap₂ (λ (n : ℕ) (a : Apcs). behind n a (walkAnswer (walkFrom left 0 (drop size l)))) (sym none) same-apcs;
       }
   goes-step room left size apcs (Found kind header whole) e q w = go (eqb kind frag) refl q w
     where
       go : (t : Bool) → eqb kind frag ≡ t
-          → cond t (Failed Malformed) (roomTurn room whole (apcOf (itemOf kind header whole l))) ≡ On left size apcs
-          → told (walkFrom room 0 l)
-          ≡ told (cond t (faulty Malformed) (sound room (itemOf kind header whole l) (λ k. rest k (whole - 1))))
+          → cond t (Failed Malformed) (roomProgress room whole (apcOf (itemOf kind header whole l))) ≡ On left size apcs
+          → walkAnswer (walkFrom room 0 l)
+          ≡ walkAnswer (cond t (faulty Malformed) (sound room (itemOf kind header whole l) (λ k. rest k (whole - 1))))
           → Goes room l left size apcs
       go true p r v = absurd (let z : _≡_ {A = ℕ} 0 1 = cc in omega arith)
       go false p r v = took room kind header whole left size apcs e r v
 
-  ended-step : (room fill : ℕ) (step : Step) → turnIn room l step ≡ Ended fill → told (met room l step rest) ≡ Listed 0 fill Absent
+  ended-step : (room fill : ℕ) (step : Step) → progressIn room l step ≡ Ended fill → walkAnswer (walkAt room l step rest) ≡ Listed 0 fill Absent
   unfolding apcsOf
   ended-step room fill End q = let f : 0 ≡ fill = cc in ap (λ (n : ℕ). Listed 0 n Absent) f
   ended-step room fill Eol q = let f : length (b ∷ bs) ≡ fill = cc in ap (λ (n : ℕ). Listed 0 n Absent) f
@@ -170,13 +170,13 @@ module _ (b : ℕ) (bs : List ℕ) where
   ended-step room fill Outlawed q = absurd (let z : _≡_ {A = ℕ} 0 1 = cc in omega arith)
   ended-step room fill (Found kind header whole) q = go (eqb kind frag) room q
     where
-      go : (t : Bool) (r : ℕ) → cond t (Failed Malformed) (roomTurn r whole (apcOf (itemOf kind header whole l))) ≡ Ended fill
-          → told (cond t (faulty Malformed) (sound r (itemOf kind header whole l) (λ k. rest k (whole - 1)))) ≡ Listed 0 fill Absent
+      go : (t : Bool) (r : ℕ) → cond t (Failed Malformed) (roomProgress r whole (apcOf (itemOf kind header whole l))) ≡ Ended fill
+          → walkAnswer (cond t (faulty Malformed) (sound r (itemOf kind header whole l) (λ k. rest k (whole - 1)))) ≡ Listed 0 fill Absent
       go true r p = absurd (let z : _≡_ {A = ℕ} 0 1 = cc in omega arith)
       go false zero p = absurd (let z : _≡_ {A = ℕ} 0 1 = cc in omega arith)
       go false (suc r) p = absurd (let z : _≡_ {A = ℕ} 0 1 = cc in omega arith)
 
-  failed-step : (room : ℕ) (fault : Fault) (step : Step) → turnIn room l step ≡ Failed fault → told (met room l step rest) ≡ Faulty fault
+  failed-step : (room : ℕ) (fault : Fault) (step : Step) → progressIn room l step ≡ Failed fault → walkAnswer (walkAt room l step rest) ≡ Faulty fault
   failed-step room fault End q = absurd (let z : _≡_ {A = ℕ} 0 1 = cc in omega arith)
   failed-step room fault Eol q = absurd (let z : _≡_ {A = ℕ} 0 1 = cc in omega arith)
   failed-step room fault Nop q = absurd (let z : _≡_ {A = ℕ} 0 1 = cc in omega arith)
@@ -184,38 +184,38 @@ module _ (b : ℕ) (bs : List ℕ) where
   failed-step room fault Outlawed q = let f : Unsafe ≡ fault = cc in ap Faulty f
   failed-step room fault (Found kind header whole) q = go (eqb kind frag) room q
     where
-      go : (t : Bool) (r : ℕ) → cond t (Failed Malformed) (roomTurn r whole (apcOf (itemOf kind header whole l))) ≡ Failed fault
-          → told (cond t (faulty Malformed) (sound r (itemOf kind header whole l) (λ k. rest k (whole - 1)))) ≡ Faulty fault
+      go : (t : Bool) (r : ℕ) → cond t (Failed Malformed) (roomProgress r whole (apcOf (itemOf kind header whole l))) ≡ Failed fault
+          → walkAnswer (cond t (faulty Malformed) (sound r (itemOf kind header whole l) (λ k. rest k (whole - 1)))) ≡ Faulty fault
       go true r p = let f : Malformed ≡ fault = cc in ap Faulty f
       go false zero p = let f : Crowded ≡ fault = cc in ap Faulty f
       go false (suc r) p = absurd (let z : _≡_ {A = ℕ} 0 1 = cc in omega arith)
 
-pub turn-goes : (room : ℕ) (l : List ℕ) (left size : ℕ) (apcs : Apcs) → 0 < length l → turnOf room l ≡ On left size apcs → Goes room l left size apcs
-unfolding walkFrom turnOf
-turn-goes room [] left size apcs h q = absurd (omega arith)
-turn-goes room (b ∷ bs) left size apcs h q = goes-step b bs room left size apcs (stepOf (b ∷ bs)) refl q refl
+pub progress-goes : (room : ℕ) (l : List ℕ) (left size : ℕ) (apcs : Apcs) → 0 < length l → progressOf room l ≡ On left size apcs → Goes room l left size apcs
+unfolding walkFrom progressOf
+progress-goes room [] left size apcs h q = absurd (omega arith)
+progress-goes room (b ∷ bs) left size apcs h q = goes-step b bs room left size apcs (stepOf (b ∷ bs)) refl q refl
 
-pub turn-ended : (room : ℕ) (l : List ℕ) (fill : ℕ) → 0 < length l → turnOf room l ≡ Ended fill → told (walkFrom room 0 l) ≡ Listed 0 fill Absent
-unfolding walkFrom turnOf
+pub turn-ended : (room : ℕ) (l : List ℕ) (fill : ℕ) → 0 < length l → progressOf room l ≡ Ended fill → walkAnswer (walkFrom room 0 l) ≡ Listed 0 fill Absent
+unfolding walkFrom progressOf
 turn-ended room [] fill h q = absurd (omega arith)
 turn-ended room (b ∷ bs) fill h q = ended-step b bs room fill (stepOf (b ∷ bs)) q
 
-pub turn-failed : (room : ℕ) (l : List ℕ) (fault : Fault) → 0 < length l → turnOf room l ≡ Failed fault → told (walkFrom room 0 l) ≡ Faulty fault
-unfolding walkFrom turnOf
+pub turn-failed : (room : ℕ) (l : List ℕ) (fault : Fault) → 0 < length l → progressOf room l ≡ Failed fault → walkAnswer (walkFrom room 0 l) ≡ Faulty fault
+unfolding walkFrom progressOf
 turn-failed room [] fault h q = absurd (omega arith)
 turn-failed room (b ∷ bs) fault h q = failed-step b bs room fault (stepOf (b ∷ bs)) q
 
-pub told-none : (room skip : ℕ) → told (walkFrom room skip []) ≡ Listed 0 0 Absent
+pub told-none : (room skip : ℕ) → walkAnswer (walkFrom room skip []) ≡ Listed 0 0 Absent
 unfolding walkFrom apcsOf
 told-none room skip = refl
 
 -- a loop's turn: what was told of the whole by the rest is told by what is left of it
 pub turn-on : (whole : Walk) (l : List ℕ) (room left next at size : ℕ) (passed apcs sum : Apcs) → left ≤ room
-    → whole ≡ behind (room - left) passed (told (walkFrom left 0 (drop at l))) → Goes left (drop at l) next size apcs → sum ≡ joined passed apcs
-    → whole ≡ behind (room - next) sum (told (walkFrom next 0 (drop (at + size) l)))
+    → whole ≡ behind (room - left) passed (walkAnswer (walkFrom left 0 (drop at l))) → Goes left (drop at l) next size apcs → sum ≡ joined passed apcs
+    → whole ≡ behind (room - next) sum (walkAnswer (walkFrom next 0 (drop (at + size) l)))
 turn-on whole l room left next at size passed apcs sum h e g j =
-    let rest : Walk = told (walkFrom next 0 (drop size (drop at l))) in
+    let rest : Walk = walkAnswer (walkFrom next 0 (drop size (drop at l))) in
     let count : room - left + (left - next) ≡ room - next = omega (arith, g .less) in
     e ∙ ap (behind (room - left) passed) (g .carries) ∙ behind-behind (room - left) (left - next) passed apcs rest
     ∙ ap₂ (λ (n : ℕ) (a : Apcs). behind n a rest) count (sym j)
-    ∙ ap (λ (t : List ℕ). behind (room - next) sum (told (walkFrom next 0 t))) (drop-drop size at l)
+    ∙ ap (λ (t : List ℕ). behind (room - next) sum (walkAnswer (walkFrom next 0 t))) (drop-drop size at l)

@@ -1,4 +1,4 @@
 pub mod Kinds
 pub mod Step
 pub mod Walk
-pub mod Turn
+pub mod Progress

@@ -49,20 +49,20 @@ sound (suc room) item rest = before item (rest room)
 
 -- What follows from the step at the front of `l`. `rest room skip` is the walk behind its first byte, `skip` bytes further on.
 -- The walk ends at the end or at EOL, which with all behind it is the fill; NOPs are skipped.
-abbrev pub met : ℕ → List ℕ → Step → (ℕ → ℕ → Walked) → Walked
-met room l End rest = listed [] 0
-met room l Eol rest = listed [] (length l)
-met room l Nop rest = rest room 0
-met room l (Found kind header size) rest =
+abbrev pub walkAt : ℕ → List ℕ → Step → (ℕ → ℕ → Walked) → Walked
+walkAt room l End rest = listed [] 0
+walkAt room l Eol rest = listed [] (length l)
+walkAt room l Nop rest = rest room 0
+walkAt room l (Found kind header size) rest =
     cond (eqb kind frag) (faulty Malformed) (sound room (itemOf kind header size l) (λ left. rest left (size - 1)))
-met room l Unsound rest = faulty Malformed
-met room l Outlawed rest = faulty Unsafe
+walkAt room l Unsound rest = faulty Malformed
+walkAt room l Outlawed rest = faulty Unsafe
 
 -- the walk of a list in which FRAG has no place: `room` options may still come, `skip` bytes belong to what was met before
 unfoldable pub walkFrom : ℕ → ℕ → List ℕ → Walked
 walkFrom room skip [] = listed [] 0
 walkFrom room (suc skip) (b ∷ bs) = walkFrom room skip bs
-walkFrom room zero (b ∷ bs) = met room (b ∷ bs) (stepOf (b ∷ bs)) (λ left skip. walkFrom left skip bs)
+walkFrom room zero (b ∷ bs) = walkAt room (b ∷ bs) (stepOf (b ∷ bs)) (λ left skip. walkFrom left skip bs)
 
 -- ---- what of a walk the answer tells
 
@@ -81,6 +81,6 @@ unfoldable pub apcsOf : List Item → Apcs
 apcsOf [] = Absent
 apcsOf (item ∷ items) = joined (apcOf item) (apcsOf items)
 
-abbrev pub told : Walked → Walk
-told (listed items fill) = Listed (length items) fill (apcsOf items)
-told (faulty fault) = Faulty fault
+abbrev pub walkAnswer : Walked → Walk
+walkAnswer (listed items fill) = Listed (length items) fill (apcsOf items)
+walkAnswer (faulty fault) = Faulty fault

@@ -4,8 +4,8 @@ use crate::step::Step;
 ghost use mathlib.Core.Path.{_≡_};
 ghost use Prim.Native.Nat.{_<_};
 ghost use lib.ListN.{length};
-ghost use Rattle.wire_options.specs.Walk.{joined, told, walkFrom};
-ghost use Rattle.wire_options.specs.Turn.{turnOf};
+ghost use Rattle.wire_options.specs.Walk.{joined, walkAnswer, walkFrom};
+ghost use Rattle.wire_options.specs.Progress.{progressOf};
 
 // How many options besides NOP and EOL a list may have: a house rule.
 pub const OPTION_LIMIT: usize = 32;
@@ -41,7 +41,7 @@ pub enum Walk {
 }
 
 // What one step of the walk comes to.
-enum Turn {
+enum Progress {
     // The walk goes on, `size` bytes further.
     On {
         room: usize,
@@ -56,15 +56,15 @@ enum Turn {
 
 // Walks a list that may have `room` options.
 pub fn walk_list(list: &[u8], room: usize) -> Walk
-    ensures { λ r. ⌜ r ≡ told (walkFrom room 0 (now (list .entry))) ⌝ }
+    ensures { λ r. ⌜ r ≡ walkAnswer (walkFrom room 0 (now (list .entry))) ⌝ }
 {
     let mut at = 0;
     let mut left = room;
     let mut apcs = Apcs::Absent;
     while at < list.len() {
-        let turn = turn_at(&list[at..], left);
+        let turn = progress_at(&list[at..], left);
         match turn {
-            Turn::On {
+            Progress::On {
                 room: r,
                 size,
                 apcs: a,
@@ -73,14 +73,14 @@ pub fn walk_list(list: &[u8], room: usize) -> Walk
                 left = r;
                 apcs = join(apcs, a);
             }
-            Turn::Ended { fill } => {
+            Progress::Ended { fill } => {
                 return Walk::Listed {
                     count: room - left,
                     fill,
                     apcs,
                 };
             }
-            Turn::Failed(fault) => {
+            Progress::Failed(fault) => {
                 return Walk::Faulty(fault);
             }
         }
@@ -93,20 +93,20 @@ pub fn walk_list(list: &[u8], room: usize) -> Walk
 }
 
 // One step of the walk.
-fn turn_at(rest: &[u8], room: usize) -> Turn
-    ensures { λ r. ⌜ r ≡ turnOf room (now (rest .entry)) ⌝ }
+fn progress_at(rest: &[u8], room: usize) -> Progress
+    ensures { λ r. ⌜ r ≡ progressOf room (now (rest .entry)) ⌝ }
 {
     let step = step::next(rest);
     match step {
-        Step::End => Turn::Ended { fill: 0 },
-        Step::Eol => Turn::Ended { fill: rest.len() },
+        Step::End => Progress::Ended { fill: 0 },
+        Step::Eol => Progress::Ended { fill: rest.len() },
         Step::Nop => on(room, 1, Apcs::Absent),
         Step::Found { kind, header, size } => {
             if kind == FRAG {
-                return Turn::Failed(Fault::Malformed);
+                return Progress::Failed(Fault::Malformed);
             }
             if room == 0 {
-                return Turn::Failed(Fault::Crowded);
+                return Progress::Failed(Fault::Crowded);
             }
             if kind == APC {
                 let value = number_octets::get_u32(rest, header);
@@ -114,15 +114,15 @@ fn turn_at(rest: &[u8], room: usize) -> Turn
             }
             on(room - 1, size, Apcs::Absent)
         }
-        Step::Malformed => Turn::Failed(Fault::Malformed),
-        Step::Outlawed => Turn::Failed(Fault::Unsafe),
+        Step::Malformed => Progress::Failed(Fault::Malformed),
+        Step::Outlawed => Progress::Failed(Fault::Unsafe),
     }
 }
 
-fn on(room: usize, size: usize, apcs: Apcs) -> Turn
-    ensures { λ r. ⌜ r ≡ Turn.On room size apcs ⌝ }
+fn on(room: usize, size: usize, apcs: Apcs) -> Progress
+    ensures { λ r. ⌜ r ≡ Progress.On room size apcs ⌝ }
 {
-    Turn::On { room, size, apcs }
+    Progress::On { room, size, apcs }
 }
 
 // The APCs of two parts of a list taken together.

@@ -1,8 +1,8 @@
 -- `host_readings::rereading_of` meets its contract: a refusal is its number, and a rereading its parts.
 -- Assumes nothing.
 use mathlib.Core.Path.{sym, ap, _∙_}
-use Rattle.wire_datagram.specs.Rereading.{reAnswerOf}
-use Rattle.wire_datagram.specs.declared.rereading.RereadOutcome.{RereadOutcome}
+use Rattle.wire_original.specs.Rereading.{reAnswerOf}
+use Rattle.wire_original.specs.declared.RereadOutcome.{RereadOutcome}
 use Rattle.host_readings.specs.Reading.{unreread, hostRereading}
 use borrow.Author.Needs.{needs}
 use Rattle.host_readings.proofs.rereading_of.Statement.{statement}

@@ -10,7 +10,7 @@ use native.Mathlib.Omega.{arith}
 use lib.ListN.{length, drop, take, getD, length-drop}
 use lib.Seq.{take-all, getD-drop}
 use Rattle.wire_options.specs.Step.{stepOf}
-use Rattle.wire_area.specs.Area.{fieldsOf, ledBy, toldArea}
+use Rattle.wire_area.specs.Area.{fieldsOf, ledBy, areaAnswer}
 use Rattle.wire_options.specs.declared.step.Step.{Step}
 use Rattle.wire_options.specs.declared.step.Step.the-variants.{Found}
 use Rattle.wire_area.proofs.Areas.{frag-found}
@@ -95,37 +95,37 @@ returns c =
     let place = c .before .before in
     let size : ℕ = place .before .step .given .0 .1 .1 .0 in
     c .behind-frag .ensures
-    ∙ ap (λ (f : Fields). toldArea
+    ∙ ap (λ (f : Fields). areaAnswer
     (behindFrag (a .empty) (a .list .now) (a .base .0) (a .nops + size) (fragmentOf f (a .base .0) (a .nops + size) (length (a .list .now)))))
     (c .before .fields-of .ensures .0
     ∙ ap (fieldsOf size) (rest-is (a .list .now) (a .nops)
     (omega (arith, c .before .before .before .before .before .before .before .before .pre .0))))
-    ∙ ap (λ (s : Step). toldArea (ledBy (a .empty) (a .list .now) (a .base .0) (a .nops) s)) (sym (found place))
+    ∙ ap (λ (s : Step). areaAnswer (ledBy (a .empty) (a .list .now) (a .base .0) (a .nops) s)) (sym (found place))
 
 returns-2 : tie.Need-returns-2
 returns-2 c =
     let a = c .before .before .before .before .before .args in
-    ap (λ (s : Step). toldArea (ledBy (a .empty) (a .list .now) (a .base .0) (a .nops) s)) (sym (stepped (c .before .before) ∙ c .enum-told .given .1))
+    ap (λ (s : Step). areaAnswer (ledBy (a .empty) (a .list .now) (a .base .0) (a .nops) s)) (sym (stepped (c .before .before) ∙ c .enum-told .given .1))
 
 returns-3 : tie.Need-returns-3
 returns-3 c =
     let a = c .before .before .before .before .before .args in
-    ap (λ (s : Step). toldArea (ledBy (a .empty) (a .list .now) (a .base .0) (a .nops) s)) (sym (stepped (c .before .before) ∙ c .enum-told2 .given .1))
+    ap (λ (s : Step). areaAnswer (ledBy (a .empty) (a .list .now) (a .base .0) (a .nops) s)) (sym (stepped (c .before .before) ∙ c .enum-told2 .given .1))
 
 returns-4 : tie.Need-returns-4
 returns-4 c =
     let a = c .before .before .before .before .before .args in
-    ap (λ (s : Step). toldArea (ledBy (a .empty) (a .list .now) (a .base .0) (a .nops) s)) (sym (stepped (c .before .before) ∙ c .enum-told3 .given .1))
+    ap (λ (s : Step). areaAnswer (ledBy (a .empty) (a .list .now) (a .base .0) (a .nops) s)) (sym (stepped (c .before .before) ∙ c .enum-told3 .given .1))
 
 returns-5 : tie.Need-returns-5
 returns-5 c =
     let a = c .before .before .before .before .before .args in
-    ap (λ (s : Step). toldArea (ledBy (a .empty) (a .list .now) (a .base .0) (a .nops) s)) (sym (stepped (c .before .before) ∙ c .enum-told4 .given .1))
+    ap (λ (s : Step). areaAnswer (ledBy (a .empty) (a .list .now) (a .base .0) (a .nops) s)) (sym (stepped (c .before .before) ∙ c .enum-told4 .given .1))
 
 returns-6 : tie.Need-returns-6
 returns-6 c =
     let a = c .before .before .before .before .before .args in
-    ap (λ (s : Step). toldArea (ledBy (a .empty) (a .list .now) (a .base .0) (a .nops) s)) (sym (stepped (c .before .before) ∙ c .enum-told5 .given .1))
+    ap (λ (s : Step). areaAnswer (ledBy (a .empty) (a .list .now) (a .base .0) (a .nops) s)) (sym (stepped (c .before .before) ∙ c .enum-told5 .given .1))
 
 pub led-spec : {M : Type 1} → statement M
 led-spec =

@@ -11,15 +11,15 @@ use lib.Dec.{eqb}
 use lib.ListN.{length, drop, getD, List·getD-eq-default}
 use Rattle.wire_options.specs.Kinds.{eol, frag}
 use Rattle.wire_options.specs.Step.{stepOf}
-use Rattle.wire_area.specs.Area.{nopsOf, ledBy, areaOf, plainly, toldArea}
+use Rattle.wire_area.specs.Area.{nopsOf, ledBy, areaOf, plainly, areaAnswer}
 use Rattle.wire_area.specs.Area.{asArea}
-use Rattle.wire_options.specs.Walk.{Walked, listed, faulty, walkFrom, told, optionLimit}
+use Rattle.wire_options.specs.Walk.{Walked, listed, faulty, walkFrom, walkAnswer, optionLimit}
 use borrow.Author.Needs.{needs}
 use Rattle.wire_area.proofs.walk_area.Statement.{statement}
 use Rattle.wire_area.proofs.walk_area.Tie as tie
 
 -- what a walk without FRAG tells is what the area's walk tells
-plain-told : (w : Walked) → asArea (told w) ≡ toldArea (plainly w)
+plain-told : (w : Walked) → asArea (walkAnswer w) ≡ areaAnswer (plainly w)
 plain-told (listed items fill) = refl
 plain-told (faulty x) = refl
 
@@ -50,7 +50,7 @@ returns c =
     let led-here : eqb (getD (a .list .now) (nopsOf (a .list .now)) eol) frag ≡ true =
     eq-eqb _ frag (ap (λ (n : ℕ). getD (a .list .now) n 0) (sym (nops .ensures .0)) ∙ c .before .if2 .taken) in
     c .led .ensures
-    ∙ ap (λ (n : ℕ). toldArea (ledBy (a .empty) (a .list .now) (a .base .0) n (stepOf (drop n (a .list .now))))) (nops .ensures .0)
+    ∙ ap (λ (n : ℕ). areaAnswer (ledBy (a .empty) (a .list .now) (a .base .0) n (stepOf (drop n (a .list .now))))) (nops .ensures .0)
     ∙ sym (simp led-here)
 
 walk-list-requires : tie.Need-walk-list-requires

@@ -49,32 +49,32 @@ start-of-requires c κs = simp (length-take, length-drop) (omega (arith, c .befo
 enum-told : tie.Need-enum-told
 enum-told c = search needs
 
-quiet-requires : tie.Need-quiet-requires
-quiet-requires c κs = search needs
+optionless-requires : tie.Need-optionless-requires
+optionless-requires c κs = search needs
 
 enum-told-2 : tie.Need-enum-told-2
 enum-told-2 c = search needs
 
-quiet-requires-2 : tie.Need-quiet-requires-2
-quiet-requires-2 c κs = search needs
+optionless-requires-2 : tie.Need-optionless-requires-2
+optionless-requires-2 c κs = search needs
 
 enum-told-3 : tie.Need-enum-told-3
 enum-told-3 c = search needs
 
-quiet-requires-3 : tie.Need-quiet-requires-3
-quiet-requires-3 c κs = search needs
+optionless-requires-3 : tie.Need-optionless-requires-3
+optionless-requires-3 c κs = search needs
 
 enum-told-4 : tie.Need-enum-told-4
 enum-told-4 c = search needs
 
-quiet-requires-4 : tie.Need-quiet-requires-4
-quiet-requires-4 c κs = search needs
+optionless-requires-4 : tie.Need-optionless-requires-4
+optionless-requires-4 c κs = search needs
 
 enum-told-5 : tie.Need-enum-told-5
 enum-told-5 c = search needs
 
-quiet-requires-5 : tie.Need-quiet-requires-5
-quiet-requires-5 c κs = search needs
+optionless-requires-5 : tie.Need-optionless-requires-5
+optionless-requires-5 c κs = search needs
 
 enum-known-start : tie.Need-enum-known-start
 enum-known-start c = search needs
@@ -88,27 +88,27 @@ listed-requires c κs = (c .before .before .before .before .before .before .pre 
 returns : tie.Need-returns
 returns c =
     let a = c .before .before .before .before .before .before .args in
-    c .quiet .ensures ∙ ap (started (a .payload .now) (a .size)) (sym (begun (c .before .before .before) ∙ c .before .enum-told .given .1))
+    c .optionless .ensures ∙ ap (started (a .payload .now) (a .size)) (sym (begun (c .before .before .before) ∙ c .before .enum-told .given .1))
 
 returns-2 : tie.Need-returns-2
 returns-2 c =
     let a = c .before .before .before .before .before .before .args in
-    c .quiet2 .ensures ∙ ap (started (a .payload .now) (a .size)) (sym (begun (c .before .before .before) ∙ c .before .enum-told2 .given .1))
+    c .optionless2 .ensures ∙ ap (started (a .payload .now) (a .size)) (sym (begun (c .before .before .before) ∙ c .before .enum-told2 .given .1))
 
 returns-3 : tie.Need-returns-3
 returns-3 c =
     let a = c .before .before .before .before .before .before .args in
-    c .quiet3 .ensures ∙ ap (started (a .payload .now) (a .size)) (sym (begun (c .before .before .before) ∙ c .before .enum-told3 .given .1))
+    c .optionless3 .ensures ∙ ap (started (a .payload .now) (a .size)) (sym (begun (c .before .before .before) ∙ c .before .enum-told3 .given .1))
 
 returns-4 : tie.Need-returns-4
 returns-4 c =
     let a = c .before .before .before .before .before .before .args in
-    c .quiet4 .ensures ∙ ap (started (a .payload .now) (a .size)) (sym (begun (c .before .before .before) ∙ c .before .enum-told4 .given .1))
+    c .optionless4 .ensures ∙ ap (started (a .payload .now) (a .size)) (sym (begun (c .before .before .before) ∙ c .before .enum-told4 .given .1))
 
 returns-5 : tie.Need-returns-5
 returns-5 c =
     let a = c .before .before .before .before .before .before .args in
-    c .quiet5 .ensures ∙ ap (started (a .payload .now) (a .size)) (sym (begun (c .before .before .before) ∙ c .before .enum-told5 .given .1))
+    c .optionless5 .ensures ∙ ap (started (a .payload .now) (a .size)) (sym (begun (c .before .before .before) ∙ c .before .enum-told5 .given .1))
 
 returns-6 : tie.Need-returns-6
 returns-6 c =
@@ -124,15 +124,15 @@ accept-spec =
     part-start-of-end
     start-of-requires
     enum-told
-    quiet-requires
+    optionless-requires
     enum-told-2
-    quiet-requires-2
+    optionless-requires-2
     enum-told-3
-    quiet-requires-3
+    optionless-requires-3
     enum-told-4
-    quiet-requires-4
+    optionless-requires-4
     enum-told-5
-    quiet-requires-5
+    optionless-requires-5
     enum-known-start
     add-t18
     listed-requires

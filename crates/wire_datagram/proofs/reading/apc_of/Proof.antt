@@ -3,7 +3,7 @@
 use mathlib.Core.Path.{sym, ap, _∙_}
 use borrow.Author.Tests.{eq-eqb, ne-eqb}
 use Rattle.number_crc32c.specs.Crc.{crcOf}
-use Rattle.wire_datagram.specs.Private.{apcBy}
+use Rattle.wire_datagram.specs.ByWalk.{apcBy}
 use borrow.Author.Needs.{needs}
 use Rattle.wire_datagram.proofs.reading.apc_of.Statement.{statement}
 use Rattle.wire_datagram.proofs.reading.apc_of.Tie as tie

@@ -1,6 +1,6 @@
 -- `wire_datagram::reading::listed` meets its contract: the arm knows what the walk told, and the reading by that is the definition's.
 -- Assumes nothing.
-use Rattle.wire_datagram.specs.Reading.{extent, noData, quiet}
+use Rattle.wire_datagram.specs.Reading.{extent, noData, optionless}
 use mathlib.Core.Path.{_≡_, refl, sym, ap, _∙_}
 use mathlib.Core.List.{List}
 use Prim.Native.Nat.{ℕ, _-_, _≤_}
@@ -8,9 +8,9 @@ use native.Mathlib.Omega.{arith}
 use lib.ListN.{length, drop, length-drop}
 use lib.Seq.{take-all}
 use Rattle.number_offsets.specs.Offsets.{udpHeader}
-use Rattle.wire_area.specs.Area.{areaOf, toldArea}
+use Rattle.wire_area.specs.Area.{areaOf, areaAnswer}
 use Rattle.wire_area.specs.declared.Area.the-variants.{Listed}
-use Rattle.wire_datagram.specs.Private.{readingBy}
+use Rattle.wire_datagram.specs.ByWalk.{readingBy}
 use Rattle.wire_datagram.specs.declared.reading.Verdict.the-variants.{Read}
 use Rattle.wire_datagram.proofs.Readings.{reading-told}
 use borrow.Author.Needs.{needs}
@@ -19,13 +19,13 @@ use Rattle.wire_datagram.proofs.reading.listed.Tie as tie
 
 -- the walk was made of the list behind `from`
 area : (c : tie.After-walk-area) → let a = c .before .before .before .args in
-    toldArea (areaOf (noData (a .size)) (a .from .0) (drop (a .from .0) (a .payload .now))) ≡ c .walk-area .result
+    areaAnswer (areaOf (noData (a .size)) (a .from .0) (drop (a .from .0) (a .payload .now))) ≡ c .walk-area .result
 unfolding udpHeader
 area c =
     let start = c .before .before .before in
     let l = start .args .payload .now in
     sym (c .walk-area .ensures
-    ∙ ap (λ (t : List ℕ). toldArea (areaOf (noData (start .args .size)) (start .args .from .0) t))
+    ∙ ap (λ (t : List ℕ). areaAnswer (areaOf (noData (start .args .size)) (start .args .from .0) t))
     (take-all (length l - start .args .from .0) (drop (start .args .from .0) l) (simp length-drop (omega arith))))
 
 sub-walk-area : tie.Need-sub-walk-area
@@ -60,8 +60,8 @@ apc-of-requires c κs = search needs
 enum-known-list-2 : tie.Need-enum-known-list-2
 enum-known-list-2 c = search needs
 
-quiet-requires : tie.Need-quiet-requires
-quiet-requires c κs = search needs
+optionless-requires : tie.Need-optionless-requires
+optionless-requires c κs = search needs
 
 enum-known-list-3 : tie.Need-enum-known-list-3
 enum-known-list-3 c = search needs
@@ -69,8 +69,8 @@ enum-known-list-3 c = search needs
 verdict-of-requires : tie.Need-verdict-of-requires
 verdict-of-requires c κs = search needs
 
-quiet-requires-2 : tie.Need-quiet-requires-2
-quiet-requires-2 c κs = search needs
+optionless-requires-2 : tie.Need-optionless-requires-2
+optionless-requires-2 c κs = search needs
 
 returns : tie.Need-returns
 unfolding udpHeader
@@ -96,7 +96,7 @@ unfolding udpHeader
 returns-2 c =
     let a = c .before .before .before .before .before .before .before .args in
     let place = c .before .before .before .before in
-    c .quiet .ensures
+    c .optionless .ensures
     ∙ ap (readingBy (a .payload .now) (a .size) (a .from .0)) (sym (area place ∙ c .before .before .list2 .given .1))
     ∙ reading-told (a .payload .now) (a .size) (a .from .0) (areaOf (noData (a .size)) (a .from .0) (drop (a .from .0) (a .payload .now)))
 
@@ -105,7 +105,7 @@ unfolding udpHeader
 returns-3 c =
     let a = c .before .before .before .before .before .before .before .before .args in
     let place = c .before .before .before .before .before in
-    c .quiet2 .ensures ∙ ap (quiet (a .size)) (c .before .verdict-of .ensures)
+    c .optionless2 .ensures ∙ ap (optionless (a .size)) (c .before .verdict-of .ensures)
     ∙ ap (readingBy (a .payload .now) (a .size) (a .from .0)) (sym (area place ∙ c .before .before .before .list3 .given .1))
     ∙ reading-told (a .payload .now) (a .size) (a .from .0) (areaOf (noData (a .size)) (a .from .0) (drop (a .from .0) (a .payload .now)))
 
@@ -123,10 +123,10 @@ listed-spec =
     part-apc-of-end
     apc-of-requires
     enum-known-list-2
-    quiet-requires
+    optionless-requires
     enum-known-list-3
     verdict-of-requires
-    quiet-requires-2
+    optionless-requires-2
     returns
     returns-2
     returns-3)

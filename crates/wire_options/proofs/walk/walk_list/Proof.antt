@@ -9,25 +9,25 @@ use native.Mathlib.Omega.{arith}
 use borrow.Author.Needs.{needs}
 use lib.ListN.{length, drop, length-drop, drop-of-length-le}
 use lib.Seq.{take-all}
-use Rattle.wire_options.specs.Turn.{turnOf}
-use Rattle.wire_options.specs.Walk.{told, walkFrom}
+use Rattle.wire_options.specs.Progress.{progressOf}
+use Rattle.wire_options.specs.Walk.{walkAnswer, walkFrom}
 use Rattle.wire_options.specs.declared.walk.Apcs.{Apcs}
 use Rattle.wire_options.specs.declared.walk.Apcs.the-variants.{Absent}
 use Rattle.wire_options.specs.declared.walk.Walk.the-variants.{Listed, Faulty}
-use Rattle.wire_options.proofs.Walks.{Goes, behind, behind-none, turn-on, joined-absent, turn-goes, turn-ended, turn-failed, told-none}
+use Rattle.wire_options.proofs.Walks.{Goes, behind, behind-none, turn-on, joined-absent, progress-goes, turn-ended, turn-failed, told-none}
 use Rattle.wire_options.proofs.walk.walk_list.Statement.{statement}
 use Rattle.wire_options.proofs.walk.walk_list.Tie as tie
 
 abbrev Inv-loop : tie.InvT-loop
 Inv-loop list room at₀ left₀ apcs₀ at left apcs =
     (at ≤ length list) × (left ≤ room)
-    × (told (walkFrom room 0 list) ≡ behind (room - left) apcs (told (walkFrom left 0 (drop at list))))
+    × (walkAnswer (walkFrom room 0 list) ≡ behind (room - left) apcs (walkAnswer (walkFrom left 0 (drop at list))))
 
 abbrev μ-loop : tie.MeasureT-loop
 μ-loop list room at₀ left₀ apcs₀ at left apcs = length list - at
 
 -- the turn that was made, over the rest of the list
-module _ (c : tie.After-turn-at Inv-loop μ-loop) where
+module _ (c : tie.After-progress-at Inv-loop μ-loop) where
   abbrev at-loop : tie.At-loop Inv-loop μ-loop
   at-loop = c .before .before .before
 
@@ -37,15 +37,15 @@ module _ (c : tie.After-turn-at Inv-loop μ-loop) where
   some-rest : 0 < length rest
   some-rest = simp length-drop (omega (arith, c .before .before .loop-test .taken))
 
-  turned : turnOf (at-loop .loop .left) rest ≡ c .turn-at .result
+  turned : progressOf (at-loop .loop .left) rest ≡ c .progress-at .result
   turned =
       let l = at-loop .before .before .args .list .now in
-      sym (c .turn-at .ensures ∙ ap (turnOf (at-loop .loop .left)) (take-all (length l - at-loop .loop .at) rest (simp length-drop (omega arith))))
+      sym (c .progress-at .ensures ∙ ap (progressOf (at-loop .loop .left)) (take-all (length l - at-loop .loop .at) rest (simp length-drop (omega arith))))
 
 -- a turn that goes on
 goes : (c : tie.After-turn Inv-loop μ-loop) → let p = c .before .before in
     Goes (at-loop p .loop .left) (rest p) (c .turn .given .0 .0) (c .turn .given .0 .1 .0) (c .turn .given .0 .1 .1 .0)
-goes c = let p = c .before .before in turn-goes (at-loop p .loop .left) (rest p) _ _ _ (some-rest p) (turned p ∙ c .turn .given .1)
+goes c = let p = c .before .before in progress-goes (at-loop p .loop .left) (rest p) _ _ _ (some-rest p) (turned p ∙ c .turn .given .1)
 
 bound : (c : tie.After-turn Inv-loop μ-loop) → let p = c .before .before in
     at-loop p .loop .at + c .turn .given .0 .1 .0 ≤ length (at-loop p .before .before .args .list .now)
@@ -61,21 +61,21 @@ loop-holds c =
       search needs,
       search needs,
       sym
-          (ap (λ (n : ℕ). behind n Absent (told (walkFrom (a .room) 0 (a .list .now)))) none
-          ∙ behind-none (told (walkFrom (a .room) 0 (a .list .now)))),
+          (ap (λ (n : ℕ). behind n Absent (walkAnswer (walkFrom (a .room) 0 (a .list .now)))) none
+          ∙ behind-none (walkAnswer (walkFrom (a .room) 0 (a .list .now)))),
     )
 
-sub-turn-at : tie.Need-sub-turn-at Inv-loop μ-loop
-sub-turn-at c = omega arith
+sub-progress-at : tie.Need-sub-progress-at Inv-loop μ-loop
+sub-progress-at c = omega arith
 
-part-turn-at-start : tie.Need-part-turn-at-start Inv-loop μ-loop
-part-turn-at-start c = omega arith
+part-progress-at-start : tie.Need-part-progress-at-start Inv-loop μ-loop
+part-progress-at-start c = omega arith
 
-part-turn-at-end : tie.Need-part-turn-at-end Inv-loop μ-loop
-part-turn-at-end c = omega arith
+part-progress-at-end : tie.Need-part-progress-at-end Inv-loop μ-loop
+part-progress-at-end c = omega arith
 
-turn-at-requires : tie.Need-turn-at-requires Inv-loop μ-loop
-turn-at-requires c κs = search needs
+progress-at-requires : tie.Need-progress-at-requires Inv-loop μ-loop
+progress-at-requires c κs = search needs
 
 enum-known-turn : tie.Need-enum-known-turn Inv-loop μ-loop
 enum-known-turn c = search needs
@@ -139,7 +139,7 @@ returns-3 c =
     let a = here .before .before .args in
     let n : ℕ = a .room - here .loop .left in
     sym (here .loop .inv .2
-    ∙ ap (λ (l : List ℕ). behind n (here .loop .apcs) (told (walkFrom (here .loop .left) 0 l))) (drop-of-length-le (a .list .now) (c .loop-test .left))
+    ∙ ap (λ (l : List ℕ). behind n (here .loop .apcs) (walkAnswer (walkFrom (here .loop .left) 0 l))) (drop-of-length-le (a .list .now) (c .loop-test .left))
     ∙ ap (behind n (here .loop .apcs)) (told-none (here .loop .left) 0)
     ∙ ap₂ (λ (k : ℕ) (x : Apcs). Listed k 0 x) (add-zero n) (joined-absent (here .loop .apcs)))
 
@@ -150,10 +150,10 @@ walk-list-spec =
     Inv-loop
     μ-loop
     loop-holds
-    sub-turn-at
-    part-turn-at-start
-    part-turn-at-end
-    turn-at-requires
+    sub-progress-at
+    part-progress-at-start
+    part-progress-at-end
+    progress-at-requires
     enum-known-turn
     add-at
     join-requires

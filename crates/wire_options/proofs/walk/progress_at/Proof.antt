@@ -9,18 +9,18 @@ use lib.ListN.{length}
 use Rattle.number_octets.specs.Octets.{number, part}
 use Rattle.wire_options.specs.Kinds.{apc}
 use Rattle.wire_options.specs.Step.{stepOf}
-use Rattle.wire_options.specs.Turn.{roomTurn, turnIn, turnOf}
+use Rattle.wire_options.specs.Progress.{roomProgress, progressIn, progressOf}
 use Rattle.wire_options.specs.Walk.{itemOf, apcOf}
 use Rattle.wire_options.specs.declared.step.Step.{Step}
 use Rattle.wire_options.specs.declared.step.Step.the-variants.{Found}
 use Rattle.wire_options.specs.declared.walk.Apcs.{Apcs}
 use Rattle.wire_options.specs.declared.walk.Apcs.the-variants.{Absent, Same}
 use Rattle.wire_options.specs.declared.walk.Fault.the-variants.{Crowded}
-use Rattle.wire_options.specs.declared.walk.Turn.the-variants.{On, Failed}
+use Rattle.wire_options.specs.declared.walk.Progress.the-variants.{On, Failed}
 use Rattle.wire_options.proofs.Steps.{apc-found}
 use borrow.Author.Needs.{needs}
-use Rattle.wire_options.proofs.walk.turn_at.Statement.{statement}
-use Rattle.wire_options.proofs.walk.turn_at.Tie as tie
+use Rattle.wire_options.proofs.walk.progress_at.Statement.{statement}
+use Rattle.wire_options.proofs.walk.progress_at.Tie as tie
 
 next-requires : tie.Need-next-requires
 next-requires c κs = search needs
@@ -40,9 +40,9 @@ on-requires c κs = search needs
 enum-known-step : tie.Need-enum-known-step
 enum-known-step c = search needs
 
-turn-is : (room : ℕ) (l : List ℕ) (step : Step) → stepOf l ≡ step → turnOf room l ≡ turnIn room l step
-unfolding turnOf
-turn-is room l step e = ap (turnIn room l) e
+turn-is : (room : ℕ) (l : List ℕ) (step : Step) → stepOf l ≡ step → progressOf room l ≡ progressIn room l step
+unfolding progressOf
+turn-is room l step e = ap (progressIn room l) e
 
 -- the step of the arm for an option
 abbrev kindOf : tie.After-known-told → ℕ
@@ -63,10 +63,10 @@ an-apc c e =
     apc-found (c .before .before .before .before .before .args .rest .now) (headerOf c) (sizeOf c)
     (found c ∙ ap (λ (k : ℕ). Found k (headerOf c) (sizeOf c)) e)
 
-no-room : (room size : ℕ) (apcs : Apcs) → room ≡ 0 → roomTurn room size apcs ≡ Failed Crowded
-no-room room size apcs e = ap (λ (r : ℕ). roomTurn r size apcs) e
+no-room : (room size : ℕ) (apcs : Apcs) → room ≡ 0 → roomProgress room size apcs ≡ Failed Crowded
+no-room room size apcs e = ap (λ (r : ℕ). roomProgress r size apcs) e
 
-some-room : (room size : ℕ) (apcs : Apcs) → (room ≡ 0 → ⊥) → roomTurn room size apcs ≡ On (room - 1) size apcs
+some-room : (room size : ℕ) (apcs : Apcs) → (room ≡ 0 → ⊥) → roomProgress room size apcs ≡ On (room - 1) size apcs
 some-room zero size apcs e = absurd (e refl)
 some-room (suc room) size apcs e = ap (λ (r : ℕ). On r size apcs) (omega arith)
 
@@ -141,8 +141,8 @@ returns-9 : tie.Need-returns-9
 returns-9 c = let a = c .before .before .before .before .args in sym
     (turn-is (a .room) (a .rest .now) _ (sym (c .before .before .next .ensures) ∙ c .enum-told5 .given .1))
 
-pub turn-at-spec : {M : Type 1} → statement M
-turn-at-spec =
+pub progress-at-spec : {M : Type 1} → statement M
+progress-at-spec =
     tie.close
     (tie.spec
     next-requires

@@ -21,15 +21,15 @@ use Rattle.wire_surplus.specs.declared.Start.the-variants.{
   BadSum as badSum,
   List as ListAt,
 }
 use Rattle.wire_datagram.specs.declared.reading.Apc.the-variants.{Absent}
 use Rattle.wire_datagram.specs.declared.reading.Verdict.{Verdict}
 use Rattle.wire_datagram.specs.declared.reading.Verdict.the-variants.{Bare, Short, Pad, Unsummed, BadSum, Malformed, FragData, Crowded, Read}
-use Rattle.wire_datagram.specs.declared.rereading.OriginalExtent.{OriginalExtent}
-use Rattle.wire_datagram.specs.declared.rereading.Rereading.{Rereading}
-use Rattle.wire_datagram.specs.declared.rereading.RereadRefusal.{RereadRefusal}
-use Rattle.wire_datagram.specs.declared.rereading.RereadRefusal.the-variants.{OriginalTooLong, OptionStartPastEnd, UnsafeOption}
-use Rattle.wire_datagram.specs.declared.rereading.RereadOutcome.{RereadOutcome}
-use Rattle.wire_datagram.specs.declared.rereading.RereadOutcome.the-variants.{Refused, Accepted}
+use Rattle.wire_original.specs.declared.OriginalExtent.{OriginalExtent}
+use Rattle.wire_original.specs.declared.Rereading.{Rereading}
+use Rattle.wire_original.specs.declared.RereadRefusal.{RereadRefusal}
+use Rattle.wire_original.specs.declared.RereadRefusal.the-variants.{OriginalTooLong, OptionStartPastEnd, UnsafeOption}
+use Rattle.wire_original.specs.declared.RereadOutcome.{RereadOutcome}
+use Rattle.wire_original.specs.declared.RereadOutcome.the-variants.{Refused, Accepted}
 
 -- the largest payload less a UDP header
 unfoldable pub originalLimit : ℕ
@@ -44,15 +44,15 @@ pub data ReAnswer : Type 0 where
   rereads : Rereading → ReAnswer
 
 -- user data is 0 to r; no option is reported
-abbrev pub quietly : ℕ → Verdict → ReAnswer
-quietly r verdict = rereads (record { user = places 0 r; verdict = verdict; options = places 0 0; count = 0; fill = 0; apc = Absent })
+abbrev pub originalOptionless : ℕ → Verdict → ReAnswer
+originalOptionless r verdict = rereads (record { user = places 0 r; verdict = verdict; options = places 0 0; count = 0; fill = 0; apc = Absent })
 
 -- 5: verdict unsafe, nothing delivered
-abbrev pub faultily : ℕ → Fault → ReAnswer
-faultily r unsafeList = refused 5
-faultily r malformedList = quietly r Malformed
-faultily r fragData = quietly r FragData
-faultily r crowdedList = quietly r Crowded
+abbrev pub originalFaulty : ℕ → Fault → ReAnswer
+originalFaulty r unsafeList = refused 5
+originalFaulty r malformedList = originalOptionless r Malformed
+originalFaulty r fragData = originalOptionless r FragData
+originalFaulty r crowdedList = originalOptionless r Crowded
 
 -- the list starts at place `from`; FRAG has no place in it
 abbrev pub rewalked : List ℕ → ℕ → ℕ → Walked → ReAnswer
@@ -64,14 +64,14 @@ rewalked original r from (listed items fill) = rereads (record {
   fill = fill;
   apc = apcOf (take r original) (apcValues items);
 })
-rewalked original r from (faulty fault) = faultily r fault
+rewalked original r from (faulty fault) = originalFaulty r fault
 
 abbrev pub restarted : List ℕ → ℕ → Start → ReAnswer
-restarted original r Empty = quietly r Bare
-restarted original r shortArea = quietly r Short
-restarted original r badPad = quietly r Pad
-restarted original r noSum = quietly r Unsummed
-restarted original r badSum = quietly r BadSum
+restarted original r Empty = originalOptionless r Bare
+restarted original r shortArea = originalOptionless r Short
+restarted original r badPad = originalOptionless r Pad
+restarted original r noSum = originalOptionless r Unsummed
+restarted original r badSum = originalOptionless r BadSum
 restarted original r (ListAt at) = rewalked original r (r + at) (walkFrom optionLimit 0 (drop (r + at) original))
 
 abbrev pub reTests : List ℕ → ℕ → List (Bool × ℕ)

@@ -18,8 +18,8 @@ use Rattle.wire_options.specs.declared.walk.Fault.the-variants.{
   Crowded as crowdedList,
 }
 use Rattle.wire_surplus.specs.Surplus.{startOf}
 use Rattle.wire_datagram.specs.Reading.{isOdd}
-use Rattle.wire_datagram.specs.Rereading.{places, ReAnswer, refused, rereads, quietly, rewalked, restarted, reTests, reAnswered, rereading}
+use Rattle.wire_original.specs.Rereading.{places, ReAnswer, refused, rereads, originalOptionless, rewalked, restarted, reTests, reAnswered, rereading}
 use Rattle.wire_surplus.specs.declared.Start.{Start}
 use Rattle.wire_surplus.specs.declared.Start.the-variants.{
   Empty,
@@ -29,10 +29,10 @@ use Rattle.wire_surplus.specs.declared.Start.the-variants.{
   BadSum as badSum,
   List as ListAt,
 }
 use Rattle.wire_datagram.specs.declared.reading.Apc.the-variants.{Absent}
 use Rattle.wire_datagram.specs.declared.reading.Verdict.{Verdict}
 use Rattle.wire_datagram.specs.declared.reading.Verdict.the-variants.{Bare, Short, Pad, Unsummed, BadSum, Malformed, FragData, Crowded, Read}
-use Rattle.wire_datagram.specs.declared.rereading.Rereading.{Rereading}
+use Rattle.wire_original.specs.declared.Rereading.{Rereading}
 
 -- nothing is reported of the area
 pub record Silent (x : Rereading) : Type 0 where
@@ -50,8 +50,8 @@ abbrev RereadBy : ℕ → ReAnswer → Type 0
 RereadBy r (refused n) = Unit {0}
 RereadBy r (rereads x) = Reread r x
 
-quietly-by : (r : ℕ) (verdict : Verdict) → RereadBy r (quietly r verdict)
-quietly-by r verdict = record {
+optionless-by : (r : ℕ) (verdict : Verdict) → RereadBy r (originalOptionless r verdict)
+optionless-by r verdict = record {
   user = refl;
   options-only-with-read = inr (record { no-list = refl; no-count = refl; no-fill = refl; no-apc = refl });
 }
@@ -59,16 +59,16 @@ quietly-by r verdict = record {
 rewalked-by : (original : List ℕ) (r from : ℕ) (w : Walked) → RereadBy r (rewalked original r from w)
 rewalked-by original r from (listed items fill) = record { user = refl; options-only-with-read = inl refl }
 rewalked-by original r from (faulty unsafeList) = tt
-rewalked-by original r from (faulty malformedList) = quietly-by r Malformed
-rewalked-by original r from (faulty fragData) = quietly-by r FragData
-rewalked-by original r from (faulty crowdedList) = quietly-by r Crowded
+rewalked-by original r from (faulty malformedList) = optionless-by r Malformed
+rewalked-by original r from (faulty fragData) = optionless-by r FragData
+rewalked-by original r from (faulty crowdedList) = optionless-by r Crowded
 
 restarted-by : (original : List ℕ) (r : ℕ) (start : Start) → RereadBy r (restarted original r start)
-restarted-by original r Empty = quietly-by r Bare
-restarted-by original r shortArea = quietly-by r Short
-restarted-by original r badPad = quietly-by r Pad
-restarted-by original r noSum = quietly-by r Unsummed
-restarted-by original r badSum = quietly-by r BadSum
+restarted-by original r Empty = optionless-by r Bare
+restarted-by original r shortArea = optionless-by r Short
+restarted-by original r badPad = optionless-by r Pad
+restarted-by original r noSum = optionless-by r Unsummed
+restarted-by original r badSum = optionless-by r BadSum
 restarted-by original r (ListAt at) = rewalked-by original r (r + at) (walkFrom optionLimit 0 (drop (r + at) original))
 
 pub reread-claims : (original : List ℕ) (r : ℕ) (x : Rereading) → rereading original r ≡ rereads x → Reread r x

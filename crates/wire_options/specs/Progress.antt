@@ -14,21 +14,21 @@ use Rattle.wire_options.specs.declared.walk.Apcs.{Apcs}
 use Rattle.wire_options.specs.declared.walk.Apcs.the-variants.{Absent}
 use Rattle.wire_options.specs.declared.walk.Walk.{Walk}
 use Rattle.wire_options.specs.declared.walk.Walk.the-variants.{Listed, Faulty}
-use Rattle.wire_options.specs.declared.walk.Turn.{Turn}
-use Rattle.wire_options.specs.declared.walk.Turn.the-variants.{On, Ended, Failed}
+use Rattle.wire_options.specs.declared.walk.Progress.{Progress}
+use Rattle.wire_options.specs.declared.walk.Progress.the-variants.{On, Ended, Failed}
 
 -- a sound option, where there is room for one
-abbrev pub roomTurn : ℕ → ℕ → Apcs → Turn
-roomTurn zero size apcs = Failed Crowded
-roomTurn (suc room) size apcs = On room size apcs
+abbrev pub roomProgress : ℕ → ℕ → Apcs → Progress
+roomProgress zero size apcs = Failed Crowded
+roomProgress (suc room) size apcs = On room size apcs
 
-abbrev pub turnIn : ℕ → List ℕ → Step → Turn
-turnIn room l End = Ended 0
-turnIn room l Eol = Ended (length l)
-turnIn room l Nop = On room 1 Absent
-turnIn room l (Found kind header size) = cond (eqb kind frag) (Failed Malformed) (roomTurn room size (apcOf (itemOf kind header size l)))
-turnIn room l Unsound = Failed Malformed
-turnIn room l Outlawed = Failed Unsafe
+abbrev pub progressIn : ℕ → List ℕ → Step → Progress
+progressIn room l End = Ended 0
+progressIn room l Eol = Ended (length l)
+progressIn room l Nop = On room 1 Absent
+progressIn room l (Found kind header size) = cond (eqb kind frag) (Failed Malformed) (roomProgress room size (apcOf (itemOf kind header size l)))
+progressIn room l Unsound = Failed Malformed
+progressIn room l Outlawed = Failed Unsafe
 
-unfoldable pub turnOf : ℕ → List ℕ → Turn
-turnOf room l = turnIn room l (stepOf l)
+unfoldable pub progressOf : ℕ → List ℕ → Progress
+progressOf room l = progressIn room l (stepOf l)

@@ -1,8 +1,8 @@
 // Rereading an original that was reassembled from fragments.
-use crate::reading;
-use crate::reading::Apc;
-use crate::reading::Verdict;
 use number_offsets::OriginalOffset;
+use wire_datagram::reading;
+use wire_datagram::reading::Apc;
+use wire_datagram::reading::Verdict;
 use wire_options::walk;
 use wire_options::walk::Fault;
 use wire_options::walk::Walk;
@@ -11,7 +11,7 @@ ghost use mathlib.Core.Path.{_≡_};
 ghost use Prim.Native.Nat.{_≤_};
 ghost use lib.ListN.{length, drop};
 ghost use Rattle.wire_options.specs.Walk.{walkFrom, optionLimit};
-ghost use Rattle.wire_datagram.specs.Rereading.{quietly, faultily, rewalked, rereading, reAnswerOf};
+ghost use Rattle.wire_original.specs.Rereading.{originalOptionless, originalFaulty, rewalked, rereading, reAnswerOf};
 
 // The largest payload less a UDP header.
 pub const ORIGINAL_LIMIT: usize = 65507;
@@ -58,11 +58,11 @@ pub fn reread(original: &[u8], option_start: OriginalOffset) -> RereadOutcome
     }
     let start = wire_surplus::start_of(&original[r..], r % 2 == 1, true);
     match start {
-        Start::Empty => quietly(option_start, Verdict::Bare),
-        Start::Short => quietly(option_start, Verdict::Short),
-        Start::Pad => quietly(option_start, Verdict::Pad),
-        Start::Unsummed => quietly(option_start, Verdict::Unsummed),
-        Start::BadSum => quietly(option_start, Verdict::BadSum),
+        Start::Empty => optionless(option_start, Verdict::Bare),
+        Start::Short => optionless(option_start, Verdict::Short),
+        Start::Pad => optionless(option_start, Verdict::Pad),
+        Start::Unsummed => optionless(option_start, Verdict::Unsummed),
+        Start::BadSum => optionless(option_start, Verdict::BadSum),
         Start::List(at) => relisted(original, option_start, OriginalOffset(r + at)),
     }
 }
@@ -90,24 +90,24 @@ fn relisted(original: &[u8], r: OriginalOffset, from: OriginalOffset) -> RereadO
             fill,
             apc: reading::apc_of(&original[..user_end], apcs),
         }),
-        Walk::Faulty(fault) => faultily(r, fault),
+        Walk::Faulty(fault) => faulty(r, fault),
     }
 }
 
-fn faultily(r: OriginalOffset, fault: Fault) -> RereadOutcome
-    ensures { λ a. ⌜ reAnswerOf a ≡ faultily (r .0) fault ⌝ }
+fn faulty(r: OriginalOffset, fault: Fault) -> RereadOutcome
+    ensures { λ a. ⌜ reAnswerOf a ≡ originalFaulty (r .0) fault ⌝ }
 {
     match fault {
         Fault::Unsafe => RereadOutcome::Refused(RereadRefusal::UnsafeOption),
-        Fault::Malformed => quietly(r, Verdict::Malformed),
-        Fault::FragData => quietly(r, Verdict::FragData),
-        Fault::Crowded => quietly(r, Verdict::Crowded),
+        Fault::Malformed => optionless(r, Verdict::Malformed),
+        Fault::FragData => optionless(r, Verdict::FragData),
+        Fault::Crowded => optionless(r, Verdict::Crowded),
     }
 }
 
 // A rereading that reports no option.
-fn quietly(r: OriginalOffset, verdict: Verdict) -> RereadOutcome
-    ensures { λ a. ⌜ reAnswerOf a ≡ quietly (r .0) verdict ⌝ }
+fn optionless(r: OriginalOffset, verdict: Verdict) -> RereadOutcome
+    ensures { λ a. ⌜ reAnswerOf a ≡ originalOptionless (r .0) verdict ⌝ }
 {
     RereadOutcome::Accepted(Rereading {
         user: OriginalExtent {

@@ -1,9 +1,9 @@
--- Names for what private functions answer: a reading by what the walk of the list tells.
+-- A reading by what the walk of the list answers: what the functions that make it answer.
 use mathlib.Core.Bool.{cond}
 use mathlib.Core.List.{List}
 use Prim.Native.Nat.{ℕ, _-_}
 use lib.Dec.{eqb}
-use lib.ListN.{length, take}
+use lib.ListN.{length}
 use Rattle.number_octets.specs.Octets.{part}
 use Rattle.number_offsets.specs.Offsets.{udpHeader}
 use Rattle.number_crc32c.specs.Crc.{crcOf}
@@ -11,10 +11,7 @@ use Rattle.wire_options.specs.declared.walk.Apcs.{Apcs}
 use Rattle.wire_options.specs.declared.walk.Apcs.the-variants.{Absent as absent, Same, Different}
 use Rattle.wire_area.specs.declared.Area.{Area}
 use Rattle.wire_area.specs.declared.Area.the-variants.{Listed, Piece as pieceArea, Faulty}
-use Rattle.wire_options.specs.declared.walk.Walk.{Walk}
-use Rattle.wire_options.specs.declared.walk.Walk.the-variants.{Listed as WalkListed, Faulty as WalkFaulty}
-use Rattle.wire_datagram.specs.Rereading.{places, faultily, rereads, ReAnswer}
-use Rattle.wire_datagram.specs.Reading.{extent, quiet, verdictOf}
+use Rattle.wire_datagram.specs.Reading.{extent, optionless, verdictOf}
 use Rattle.wire_datagram.specs.declared.reading.Apc.{Apc}
 use Rattle.wire_datagram.specs.declared.reading.Apc.the-variants.{Absent, Right, Wrong}
 use Rattle.wire_datagram.specs.declared.reading.Verdict.the-variants.{Read, Piece}
@@ -35,16 +32,5 @@ readingBy payload size from (Listed count fill apcs) = record {
   fill = fill;
   apc = apcBy (part udpHeader (size - udpHeader) payload) apcs;
 }
-readingBy payload size from (pieceArea fragment) = quiet size (Piece fragment)
-readingBy payload size from (Faulty f) = quiet size (verdictOf f)
-
-abbrev pub rewalkedBy : List ℕ → ℕ → ℕ → Walk → ReAnswer
-rewalkedBy original r from (WalkListed count fill apcs) = rereads (record {
-  user = places 0 r;
-  verdict = Read;
-  options = places from (length original);
-  count = count;
-  fill = fill;
-  apc = apcBy (take r original) apcs;
-})
-rewalkedBy original r from (WalkFaulty fault) = faultily r fault
+readingBy payload size from (pieceArea fragment) = optionless size (Piece fragment)
+readingBy payload size from (Faulty f) = optionless size (verdictOf f)

@@ -1,4 +1,4 @@
--- `wire_datagram::rereading::relisted` meets its contract: the arm knows what the walk told, and the rereading by that is the definition's.
+-- `wire_original::relisted` meets its contract: the arm knows what the walk told, and the rereading by that is the definition's.
 -- Assumes nothing.
 use mathlib.Core.Path.{_≡_, refl, sym, ap, _∙_}
 use mathlib.Core.List.{List}
@@ -6,25 +6,25 @@ use Prim.Native.Nat.{ℕ, _-_}
 use native.Mathlib.Omega.{arith}
 use lib.ListN.{length, drop, length-take, length-drop}
 use lib.Seq.{take-all}
-use Rattle.wire_options.specs.Walk.{walkFrom, optionLimit, told}
+use Rattle.wire_options.specs.Walk.{walkFrom, optionLimit, walkAnswer}
 use Rattle.wire_options.specs.declared.walk.Walk.the-variants.{Listed as WalkListed}
-use Rattle.wire_datagram.specs.Rereading.{places, rereads}
-use Rattle.wire_datagram.specs.Private.{rewalkedBy}
+use Rattle.wire_original.specs.Rereading.{places, rereads}
+use Rattle.wire_original.specs.ByWalk.{rewalkedBy}
 use Rattle.wire_datagram.specs.declared.reading.Verdict.the-variants.{Read}
-use Rattle.wire_datagram.proofs.Readings.{rereading-told}
+use Rattle.wire_original.proofs.Rereadings.{rereading-told}
 use borrow.Author.Needs.{needs}
-use Rattle.wire_datagram.proofs.rereading.relisted.Statement.{statement}
-use Rattle.wire_datagram.proofs.rereading.relisted.Tie as tie
+use Rattle.wire_original.proofs.relisted.Statement.{statement}
+use Rattle.wire_original.proofs.relisted.Tie as tie
 
 -- the walk was made of the list behind `from`
 walk : (c : tie.After-walk-list) → let a = c .before .before .before .args in
-    told (walkFrom optionLimit 0 (drop (a .from .0) (a .original .now))) ≡ c .walk-list .result
+    walkAnswer (walkFrom optionLimit 0 (drop (a .from .0) (a .original .now))) ≡ c .walk-list .result
 unfolding optionLimit
 walk c =
     let start = c .before .before .before in
     let l = start .args .original .now in
     sym (c .walk-list .ensures
-    ∙ ap (λ (t : List ℕ). told (walkFrom 32 0 t)) (take-all (length l - start .args .from .0) (drop (start .args .from .0) l) (simp length-drop (omega arith))))
+    ∙ ap (λ (t : List ℕ). walkAnswer (walkFrom 32 0 t)) (take-all (length l - start .args .from .0) (drop (start .args .from .0) l) (simp length-drop (omega arith))))
 
 sub-walk-list : tie.Need-sub-walk-list
 sub-walk-list c = search needs
@@ -50,8 +50,8 @@ apc-of-requires c κs = search needs
 enum-known-list-2 : tie.Need-enum-known-list-2
 enum-known-list-2 c = search needs
 
-faultily-requires : tie.Need-faultily-requires
-faultily-requires c κs = search needs
+faulty-requires : tie.Need-faulty-requires
+faulty-requires c κs = search needs
 
 returns : tie.Need-returns
 returns c =
@@ -75,7 +75,7 @@ returns-2 : tie.Need-returns-2
 returns-2 c =
     let a = c .before .before .before .before .before .before .before .args in
     let place = c .before .before .before .before in
-    c .faultily .ensures
+    c .faulty .ensures
     ∙ ap (rewalkedBy (a .original .now) (a .r .0) (a .from .0)) (sym (walk place ∙ c .before .before .list2 .given .1))
     ∙ rereading-told (a .original .now) (a .r .0) (a .from .0) (walkFrom optionLimit 0 (drop (a .from .0) (a .original .now)))
 
@@ -91,6 +91,6 @@ relisted-spec =
     slice-aggregate-apc-of
     apc-of-requires
     enum-known-list-2
-    faultily-requires
+    faulty-requires
     returns
     returns-2)

@@ -1,4 +1,4 @@
--- `wire_datagram::rereading::reread` meets its contract: the code makes the papers' tests in order, and the arm knows how the area starts.
+-- `wire_original::reread` meets its contract: the code makes the papers' tests in order, and the arm knows how the area starts.
 -- Assumes nothing.
 use mathlib.Core.Path.{_≡_, sym, ap, _∙_}
 use mathlib.Core.Bool.{Bool, true}
@@ -10,13 +10,13 @@ use lib.ListN.{length, drop, length-take, length-drop}
 use lib.Seq.{take-all}
 use Rattle.number_offsets.specs.Offsets.{udpHeader}
 use Rattle.wire_surplus.specs.Surplus.{startOf}
 use Rattle.wire_datagram.specs.Reading.{isOdd}
-use Rattle.wire_datagram.specs.Rereading.{originalLimit, restarted, rereading}
-use Rattle.wire_datagram.proofs.Refusals.{re-long, re-past, re-accepted}
+use Rattle.wire_original.specs.Rereading.{originalLimit, restarted, rereading}
+use Rattle.wire_original.proofs.Refusals.{re-long, re-past, re-accepted}
 use Rattle.wire_surplus.proofs.Starts.{start-list}
 use borrow.Author.Needs.{needs}
-use Rattle.wire_datagram.proofs.rereading.reread.Statement.{statement}
-use Rattle.wire_datagram.proofs.rereading.reread.Tie as tie
+use Rattle.wire_original.proofs.reread.Statement.{statement}
+use Rattle.wire_original.proofs.reread.Tie as tie
 
 -- the area is all that stands behind the option start, and 8 + r has the parity of r
 begun : (c : tie.After-start-of) → let a = c .before .before .before .before .before .args in
@@ -74,32 +74,32 @@ start-of-requires c κs = search needs
 enum-told : tie.Need-enum-told
 enum-told c = search needs
 
-quietly-requires : tie.Need-quietly-requires
-quietly-requires c κs = search needs
+optionless-requires : tie.Need-optionless-requires
+optionless-requires c κs = search needs
 
 enum-told-2 : tie.Need-enum-told-2
 enum-told-2 c = search needs
 
-quietly-requires-2 : tie.Need-quietly-requires-2
-quietly-requires-2 c κs = search needs
+optionless-requires-2 : tie.Need-optionless-requires-2
+optionless-requires-2 c κs = search needs
 
 enum-told-3 : tie.Need-enum-told-3
 enum-told-3 c = search needs
 
-quietly-requires-3 : tie.Need-quietly-requires-3
-quietly-requires-3 c κs = search needs
+optionless-requires-3 : tie.Need-optionless-requires-3
+optionless-requires-3 c κs = search needs
 
 enum-told-4 : tie.Need-enum-told-4
 enum-told-4 c = search needs
 
-quietly-requires-4 : tie.Need-quietly-requires-4
-quietly-requires-4 c κs = search needs
+optionless-requires-4 : tie.Need-optionless-requires-4
+optionless-requires-4 c κs = search needs
 
 enum-told-5 : tie.Need-enum-told-5
 enum-told-5 c = search needs
 
-quietly-requires-5 : tie.Need-quietly-requires-5
-quietly-requires-5 c κs = search needs
+optionless-requires-5 : tie.Need-optionless-requires-5
+optionless-requires-5 c κs = search needs
 
 enum-known-start : tie.Need-enum-known-start
 enum-known-start c = search needs
@@ -117,31 +117,31 @@ relisted-requires c κs =
 returns-3 : tie.Need-returns-3
 returns-3 c =
     let a = c .before .before .before .before .before .before .before .before .args in
-    c .quietly .ensures ∙ ap (restarted (a .original .now) (a .option-start .0))
+    c .optionless .ensures ∙ ap (restarted (a .original .now) (a .option-start .0))
     (sym (begun (c .before .before .before) ∙ c .before .enum-told .given .1)) ∙ sym (taken (c .before .before .before))
 
 returns-4 : tie.Need-returns-4
 returns-4 c =
     let a = c .before .before .before .before .before .before .before .before .args in
-    c .quietly2 .ensures ∙ ap (restarted (a .original .now) (a .option-start .0))
+    c .optionless2 .ensures ∙ ap (restarted (a .original .now) (a .option-start .0))
     (sym (begun (c .before .before .before) ∙ c .before .enum-told2 .given .1)) ∙ sym (taken (c .before .before .before))
 
 returns-5 : tie.Need-returns-5
 returns-5 c =
     let a = c .before .before .before .before .before .before .before .before .args in
-    c .quietly3 .ensures ∙ ap (restarted (a .original .now) (a .option-start .0))
+    c .optionless3 .ensures ∙ ap (restarted (a .original .now) (a .option-start .0))
     (sym (begun (c .before .before .before) ∙ c .before .enum-told3 .given .1)) ∙ sym (taken (c .before .before .before))
 
 returns-6 : tie.Need-returns-6
 returns-6 c =
     let a = c .before .before .before .before .before .before .before .before .args in
-    c .quietly4 .ensures ∙ ap (restarted (a .original .now) (a .option-start .0))
+    c .optionless4 .ensures ∙ ap (restarted (a .original .now) (a .option-start .0))
     (sym (begun (c .before .before .before) ∙ c .before .enum-told4 .given .1)) ∙ sym (taken (c .before .before .before))
 
 returns-7 : tie.Need-returns-7
 returns-7 c =
     let a = c .before .before .before .before .before .before .before .before .args in
-    c .quietly5 .ensures ∙ ap (restarted (a .original .now) (a .option-start .0))
+    c .optionless5 .ensures ∙ ap (restarted (a .original .now) (a .option-start .0))
     (sym (begun (c .before .before .before) ∙ c .before .enum-told5 .given .1)) ∙ sym (taken (c .before .before .before))
 
 returns-8 : tie.Need-returns-8
@@ -161,15 +161,15 @@ reread-spec =
     part-start-of-end
     start-of-requires
     enum-told
-    quietly-requires
+    optionless-requires
     enum-told-2
-    quietly-requires-2
+    optionless-requires-2
     enum-told-3
-    quietly-requires-3
+    optionless-requires-3
     enum-told-4
-    quietly-requires-4
+    optionless-requires-4
     enum-told-5
-    quietly-requires-5
+    optionless-requires-5
     enum-known-start
     add-t20
     relisted-requires
