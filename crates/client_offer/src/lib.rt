@@ -88,10 +88,10 @@ fn join(c: Client, share: &[u8], out: &mut [u8], p: usize, a: Assembly, f: Fragm
 {
     let b = client_placement::added(a, f);
     let n = f.length as u64;
-    if client_record::whole(b) {
-        let last = client_record::last_of(b);
+    if client_fragments::whole(b) {
+        let last = client_fragments::last_of(b);
         let options = last.option_start as usize;
-        let length = client_record::end_of(last);
+        let length = client_fragments::end_of(last);
         let start = p * client_record::DATAGRAM_LIMIT;
         let stop = start + length;
         number_octets::copy(&share[start..stop], out, 0);
@@ -131,7 +131,7 @@ fn place(
             answer: Answer::Repeated,
         };
     }
-    if client_record::conflicts_any(a, f) {
+    if client_fragments::conflicts_any(a, f) {
         return Step {
             client: client_placement::conflicting(c, p, a, n),
             answer: Answer::Conflict,

@@ -102,9 +102,12 @@ pub fn assembly_for(c: Client, p: usize, o: Arrival) -> Assembly
 fn alike(f: Fragment, g: Fragment) -> bool
     ensures { λ r. ⌜ r ≡ alike f g ⌝ }
 {
-    let marks = client_record::same_mark(client_record::is_last(f), client_record::is_last(g));
+    let marks = client_record::same_mark(
+        client_fragments::is_last(f),
+        client_fragments::is_last(g),
+    );
     let starts = client_record::either(
-        !client_record::is_last(f),
+        !client_fragments::is_last(f),
         f.option_start == g.option_start,
     );
     client_record::both(
@@ -117,7 +120,7 @@ fn alike(f: Fragment, g: Fragment) -> bool
 fn alike_any(a: Assembly, f: Fragment) -> bool
     ensures { λ r. ⌜ r ≡ any (alike f) (heldFragments a) ⌝ }
 {
-    let n = client_record::held_count(a);
+    let n = client_fragments::held_count(a);
     let mut found = false;
     let mut i = 0;
     while i < n {
@@ -192,7 +195,7 @@ pub fn conflicting(c: Client, p: usize, a: Assembly, n: u64) -> Client
     requires { ⌜ Ending c p a n ⌝ }
     ensures { λ r. ⌜ r ≡ conflicting p a n c ⌝ }
 {
-    let bytes = client_record::bytes_held(a) as u64;
+    let bytes = client_fragments::bytes_held(a) as u64;
     let none = client_record::fresh_assembly();
     let mut d = c;
     d.offered = c.offered + n;
@@ -207,7 +210,7 @@ pub fn delivering(c: Client, p: usize, a: Assembly, n: u64) -> Client
     requires { ⌜ Ending c p a n ⌝ }
     ensures { λ r. ⌜ r ≡ delivering p a n c ⌝ }
 {
-    let bytes = client_record::bytes_held(a) as u64;
+    let bytes = client_fragments::bytes_held(a) as u64;
     let none = client_record::fresh_assembly();
     let mut d = c;
     d.offered = c.offered + n;

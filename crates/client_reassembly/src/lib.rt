@@ -99,7 +99,7 @@ fn bytes_lost(a: Assembly, time: u64) -> u32
     ensures { λ r. ⌜ r ≡ lost time a ⌝ }
 {
     if old(a, time) {
-        client_record::bytes_held(a)
+        client_fragments::bytes_held(a)
     } else {
         0
     }

@@ -28,9 +28,9 @@ fn fresh_slot(f: Fragment) -> bool
 fn fragment_sound(f: Fragment) -> bool
     ensures { λ r. ⌜ r ≡ soundFragment f ⌝ }
 {
-    let past = client_record::end_of(f);
+    let past = client_fragments::end_of(f);
     let options = f.option_start as usize;
-    let inside = client_record::either(!client_record::is_last(f), options <= past);
+    let inside = client_record::either(!client_fragments::is_last(f), options <= past);
     client_record::both(
         f.length != 0,
         client_record::both(past <= client_record::DATAGRAM_LIMIT, inside),
@@ -40,7 +40,7 @@ fn fragment_sound(f: Fragment) -> bool
 fn fragments_sound(a: Assembly) -> bool
     ensures { λ r. ⌜ r ≡ all soundFragment (heldFragments a) ⌝ }
 {
-    let n = client_record::held_count(a);
+    let n = client_fragments::held_count(a);
     let mut ok = true;
     let mut i = 0;
     while i < n {
@@ -55,12 +55,12 @@ fn fragments_sound(a: Assembly) -> bool
 fn fragments_compatible(a: Assembly) -> bool
     ensures { λ r. ⌜ r ≡ compatible (heldFragments a) ⌝ }
 {
-    let n = client_record::held_count(a);
+    let n = client_fragments::held_count(a);
     let mut ok = true;
     let mut i = 0;
     while i < n {
         let f = a.fragments[i];
-        ok = client_record::both(ok, !client_record::conflicts_among(a, i, f));
+        ok = client_record::both(ok, !client_fragments::conflicts_among(a, i, f));
         i += 1;
     }
     ok
@@ -71,7 +71,7 @@ fn spare_fresh(a: Assembly) -> bool
     ensures { λ r. ⌜ r ≡ all isFreshFragment (spareSlots a) ⌝ }
 {
     let mut ok = true;
-    let mut i = client_record::held_count(a);
+    let mut i = client_fragments::held_count(a);
     while i < client_record::FRAGMENT_LIMIT {
         let f = a.fragments[i];
         ok = client_record::both(ok, fresh_slot(f));
@@ -121,7 +121,7 @@ fn live_sound(a: Assembly, time: u64) -> bool
     let fragments = client_record::both(fragments_sound(a), fragments_compatible(a));
     if fragments {
         return client_record::both(
-            !client_record::whole(a),
+            !client_fragments::whole(a),
             client_record::both(opened_within(a, time), spare_fresh(a)),
         );
     }
@@ -202,7 +202,7 @@ fn total_held(c: Client) -> u64
     let mut i = 0;
     while i < client_record::ASSEMBLY_LIMIT {
         let a = c.assemblies[i];
-        let bytes = client_record::bytes_held(a);
+        let bytes = client_fragments::bytes_held(a);
         total += bytes as u64;
         i += 1;
     }
