@@ -5,9 +5,9 @@ use client_record::Fragment;
 ghost use mathlib.Core.Path.{_≡_};
 ghost use lib.ListN.{take};
 ghost use Rattle.client_record.specs.Lists.{any};
-ghost use Rattle.client_record.specs.Post.{HeldCount, HeldFront, beyond};
-ghost use Rattle.client_record.specs.Record.{isLast, end, covers, conflicts};
-ghost use Rattle.client_record.specs.Record.{outruns, overlaps, coveredTo, lastOf, whole, heldFragments, bytesHeld};
+ghost use mathlib.Core.Bool.{true};
+ghost use Rattle.client_record.specs.Post.{HeldCount, HeldFront};
+ghost use Rattle.client_record.specs.Record.{isLast, end, overlaps, outruns, conflicts, compatible, lastOf, whole, heldFragments, bytesHeld};
 
 // ---- one fragment, and two
 
@@ -23,15 +23,6 @@ pub fn end_of(f: Fragment) -> usize
     ensures { λ r. ⌜ r ≡ end f ⌝ }
 {
     (f.offset as usize) + (f.length as usize)
-}
-
-// The fragment holds the place `i`.
-pub fn covers(f: Fragment, i: usize) -> bool
-    ensures { λ r. ⌜ r ≡ covers i f ⌝ }
-{
-    let start = f.offset as usize;
-    let past = end_of(f);
-    client_record::both(start <= i, i < past)
 }
 
 // `f` ends past the end that `g`, the last one, makes known.
@@ -96,37 +87,6 @@ pub fn conflicts_any(a: Assembly, f: Fragment) -> bool
     conflicts_among(a, held_count(a), f)
 }
 
-// The place behind the first fragment that holds the place `at`; `at` itself if none does.
-fn beyond(a: Assembly, at: usize) -> usize
-    ensures { λ r. ⌜ r ≡ beyond at (heldFragments a) ⌝ }
-{
-    let n = held_count(a);
-    let mut i = 0;
-    while i < n {
-        let f = a.fragments[i];
-        if covers(f, at) {
-            return end_of(f);
-        }
-        i += 1;
-    }
-    at
-}
-
-// Every place before `past` is held: it goes on from fragment to fragment, not from place to place.
-fn covered_to(a: Assembly, past: usize) -> bool
-    ensures { λ r. ⌜ r ≡ coveredTo past (heldFragments a) ⌝ }
-{
-    let mut at = 0;
-    while at < past {
-        let next = beyond(a, at);
-        if next == at {
-            return false;
-        }
-        at = next;
-    }
-    true
-}
-
 // The fragment that is marked last; a fresh one if there is none.
 pub fn last_of(a: Assembly) -> Fragment
     ensures { λ r. ⌜ r ≡ lastOf (heldFragments a) ⌝ }
@@ -143,19 +103,34 @@ pub fn last_of(a: Assembly) -> Fragment
     client_record::fresh_fragment()
 }
 
-// The last fragment is held, and all before its end: the completion test.
-pub fn whole(a: Assembly) -> bool
-    ensures { λ r. ⌜ r ≡ whole (heldFragments a) ⌝ }
-{
-    let last = last_of(a);
-    let past = end_of(last);
-    client_record::both(is_last(last), covered_to(a, past))
-}
-
 fn length_of(f: Fragment) -> u16
     ensures { λ r. ⌜ r ≡ f .length ⌝ }
 {
     f.length
+}
+
+// The completion test: the last fragment is held, and all before its end. Fragments of which none contradicts another cover it exactly if
+// their lengths sum to it, so one pass decides.
+pub fn whole(a: Assembly) -> bool
+    requires { ⌜ compatible (heldFragments a) ≡ true ⌝ }
+    ensures { λ r. ⌜ r ≡ whole (heldFragments a) ⌝ }
+{
+    let held = held_count(a);
+    let mut total = 0;
+    let mut known = false;
+    let mut past = 0;
+    let mut i = 0;
+    while i < held {
+        let f = a.fragments[i];
+        let bytes = length_of(f);
+        total += bytes as usize;
+        if is_last(f) {
+            known = true;
+            past = end_of(f);
+        }
+        i += 1;
+    }
+    client_record::both(known, total == past)
 }
 
 // The bytes of the held fragments.

@@ -1,7 +1,7 @@
 -- Laws of a fragment that joins an assembly: what is held with it, and that the end of the last one is within the limit.
 -- Assumes nothing.
 use mathlib.Core.Path.{_≡_, ap, ap₂, _∙_}
-use mathlib.Core.Bool.{Bool, true, false, _&&_, cond}
+use mathlib.Core.Bool.{Bool, true, false, not, _&&_, cond}
 use mathlib.Core.List.{List, [], _∷_, _++_}
 use Prim.Native.Nat.{ℕ, _<_, _≤_}
 use native.Mathlib.Numerals.{add-one}
@@ -13,15 +13,23 @@ use Rattle.number_tests.proofs.Tests.{both-true}
 use Rattle.client_record.specs.declared.Fragment.{Fragment}
 use Rattle.client_record.specs.declared.Assembly.{Assembly}
 use Rattle.client_record.specs.Limits.{datagramLimit}
-use Rattle.client_record.specs.Lists.{all}
-use Rattle.client_record.specs.Record.{freshFragment, isLast, end, fits, lastOf, heldFragments}
-use Rattle.client_record.proofs.Lists.{all-append}
-use Rattle.client_reassembly.specs.Offer.{added}
+use Rattle.client_record.specs.Lists.{all, pairs}
+use Rattle.client_record.specs.Record.{freshFragment, isLast, end, fits, conflicts, compatible, lastOf, heldFragments}
+use Rattle.client_record.proofs.Lists.{all-append, all-not, pairs-append}
+use Rattle.client_reassembly.specs.Offer.{isConflict, added}
 
 -- the fragment is listed after the earlier ones
 pub held-added : (a : Assembly) (f : Fragment) → a .count < length (a .fragments) → heldFragments (added a f) ≡ heldFragments a ++ (f ∷ [])
 unfolding heldFragments added
 held-added a f h = ap (λ (k : ℕ). take k (set (a .fragments) (a .count) f)) (add-one (a .count)) ∙ take-suc-set (a .fragments) (a .count) f h
+
+-- where it contradicts none of them, none contradicts another
+pub added-compatible : (a : Assembly) (f : Fragment) → a .count < length (a .fragments) → compatible (heldFragments a) ≡ true → isConflict a f ≡ false
+    → compatible (heldFragments (added a f)) ≡ true
+unfolding compatible isConflict
+added-compatible a f h two apart =
+    ap (pairs (λ x y. not (conflicts x y))) (held-added a f h) ∙ pairs-append (λ x y. not (conflicts x y)) (heldFragments a) f
+    ∙ ap₂ _&&_ two (all-not (λ x. conflicts x f) (heldFragments a) ∙ ap not apart)
 
 none-within : end freshFragment ≤ datagramLimit
 unfolding end freshFragment

@@ -14,7 +14,7 @@ use Rattle.client_record.specs.declared.Fragment.{Fragment}
 use Rattle.client_record.specs.declared.Assembly.{Assembly}
 use Rattle.client_record.specs.declared.Client.{Client}
 use Rattle.client_record.specs.Limits.{fragmentLimit, offeredLimit}
-use Rattle.client_record.specs.Lists.{all, any, sum}
+use Rattle.client_record.specs.Lists.{all, any, pairs, sum}
 use Rattle.client_record.specs.Record.{
   freshFlow,
   freshAssembly,
@@ -54,8 +54,9 @@ unfolding bytesHeld sum
 empty-bytes a e = ap (sum (λ (f : Fragment). f .length)) (empty-held a e)
 
 empty-steady : (a : Assembly) → a .count ≡ 0 → steady a ≡ true
-unfolding steady all
-empty-steady a e = ap₂ _&&_ (le-leb (a .count) fragmentLimit (omega (arith, e))) (ap (all fits) (empty-held a e))
+unfolding steady all compatible pairs
+empty-steady a e =
+    ap₂ _&&_ (le-leb (a .count) fragmentLimit (omega (arith, e))) (ap (λ (fs : List Fragment). all fits fs && compatible fs) (empty-held a e))
 
 pub fresh-count : freshAssembly .count ≡ 0
 unfolding freshAssembly
@@ -74,7 +75,7 @@ live-steady t a e =
     let rest : Bool = compatible held && (not (whole held) && (openedWithin t a && all isFreshFragment (spareSlots a))) in
     let one = both-true (leb (a .count) fragmentLimit) (all soundFragment held && rest) e in
     let two = both-true (all soundFragment held) rest (one .1) in
-    ap₂ _&&_ (one .0) (all-weaker soundFragment fits sound-fits held (two .0))
+    ap₂ _&&_ (one .0) (ap₂ _&&_ (all-weaker soundFragment fits sound-fits held (two .0)) (both-true (compatible held) _ (two .1) .0))
 
 unused-count : (a : Assembly) → isFreshAssembly a ≡ true → a .count ≡ 0
 unfolding isFreshAssembly
@@ -138,11 +139,15 @@ module _ (t : ℕ) (c : Client) (sound : soundRecord c ≡ true) where
 pub record Fit (c : Client) (a : Assembly) : Type 0 where
   pub slots : a .count ≤ fragmentLimit
   pub ends : all fits (heldFragments a) ≡ true
+  pub apart : compatible (heldFragments a) ≡ true
   pub held : bytesHeld a ≤ c .held
 
 steady-fit : (c : Client) (a : Assembly) → steady a ≡ true → bytesHeld a ≤ c .held → Fit c a
 unfolding steady
-steady-fit c a e h = let t = both-true _ _ e in record { slots = leb-true _ _ (t .0); ends = t .1; held = h }
+steady-fit c a e h =
+    let t = both-true _ _ e in
+    let u = both-true _ _ (t .1) in
+    record { slots = leb-true _ _ (t .0); ends = u .0; apart = u .1; held = h }
 
 pub assembly-fit : (c : Client) (o : Arrival) (p : ℕ) → c .held ≡ sum bytesHeld (c .assemblies) → all steady (c .assemblies) ≡ true
     → p < length (c .assemblies) → Fit c (assemblyFor o p (c .assemblies))

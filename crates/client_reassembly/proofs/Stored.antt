@@ -43,7 +43,7 @@ use Rattle.client_record.proofs.Held.{marks-last}
 use Rattle.client_reassembly.specs.declared.Arrival.{Arrival}
 use Rattle.client_reassembly.specs.Offer.{fragmentOf, opening, isConflict, added}
 use Rattle.client_reassembly.specs.Post.{Sized}
-use Rattle.client_reassembly.proofs.Joins.{held-added}
+use Rattle.client_reassembly.proofs.Joins.{held-added, added-compatible}
 use Rattle.client_reassembly.proofs.Kept.{LiveParts}
 
 -- ---- the fragment that is stored
@@ -52,7 +52,9 @@ pub fragment-sound : (o : Arrival) (n : ℕ) → Sized o n → (n ≡ 0 → ⊥)
 unfolding fragmentOf soundFragment nonEmpty fits end startsOptionsInside
 fragment-sound o n s some =
     ap₂ _&&_ (ap not (ne-eqb n 0 some))
-    (ap₂ _&&_ (le-leb (o .offset .0 + n) datagramLimit (s .ends)) (ap (λ (b : Bool). not b || leb (cond (o .last) (o .«option_start» .0) 0) (o .offset .0 + n)) (marks-last (fragmentOf o n) (o .last) refl) ∙ inside (o .last) (s .starts)))
+    (ap₂ _&&_ (le-leb (o .offset .0 + n) datagramLimit (s .ends))
+    (ap (λ (b : Bool). not b || leb (cond (o .last) (o .«option_start» .0) 0) (o .offset .0 + n)) (marks-last (fragmentOf o n) (o .last) refl)
+    ∙ inside (o .last) (s .starts)))
   where
     inside : (b : Bool) → b && ltb (o .offset .0 + n) (o .«option_start» .0) ≡ false
         → not b || leb (cond b (o .«option_start» .0) 0) (o .offset .0 + n) ≡ true
@@ -88,15 +90,14 @@ opened-after t a f e = e
 
 pub added-parts : (t : ℕ) (a : Assembly) (f : Fragment) → LiveParts t a → a .count < fragmentLimit → length (a .fragments) ≡ fragmentLimit
     → soundFragment f ≡ true → isConflict a f ≡ false → whole (heldFragments (added a f)) ≡ false → LiveParts t (added a f)
-unfolding isConflict all compatible
+unfolding all
 added-parts t a f k free slots ok apart open-still =
     let h : a .count < length (a .fragments) = omega arith in
     let held = heldFragments a in
     record {
       slots = count-after a f free;
       each = ap (all soundFragment) (held-added a f h) ∙ all-append soundFragment held (f ∷ []) ∙ ap₂ (λ (x y : Bool). x && (y && true)) (k .each) ok;
-      two = ap (pairs (λ x y. not (conflicts x y))) (held-added a f h) ∙ pairs-append (λ x y. not (conflicts x y)) held f
-          ∙ ap₂ _&&_ (k .two) (all-not (λ x. conflicts x f) held ∙ ap not apart);
+      two = added-compatible a f h (k .two) apart;
       unfinished = ap not open-still;
       opened = opened-after t a f (k .opened);
       spare = added-spare a f h (k .spare);

@@ -10,12 +10,12 @@ use Rattle.client_record.specs.declared.Assembly.{Assembly}
 use Rattle.client_record.specs.declared.Client.{Client}
 use Rattle.client_record.specs.Limits.{datagramLimit, fragmentLimit, assemblyLimit, offeredLimit, shareSize}
 use Rattle.client_record.specs.Lists.{all, sum}
-use Rattle.client_record.specs.Record.{end, fits, heldFragments, bytesHeld, figureSum}
+use Rattle.client_record.specs.Record.{end, fits, compatible, heldFragments, bytesHeld, figureSum}
 use Rattle.client_reassembly.specs.declared.Step.{Step}
 use Rattle.client_reassembly.specs.declared.Arrival.{Arrival}
 use Rattle.client_reassembly.specs.Answer.{replyOf}
 use Rattle.client_reassembly.specs.Advance.{Turn}
-use Rattle.client_reassembly.specs.Offer.{placeFor, Outcome}
+use Rattle.client_reassembly.specs.Offer.{placeFor, added, Outcome}
 
 -- the step has the turn's record, and its answer stands for the turn's
 pub record Turned (t : Turn) (s : Step) : Type 0 where
@@ -55,18 +55,19 @@ pub record Left (o : Outcome) (s : Step) (share out : List ℕ) : Type 0 where
   pub share-left : share ≡ o .share
   pub out-left : out ≡ o .out
 
--- the fragment f can join the assembly a at place p
+-- the fragment f can join the assembly a at place p: it contradicts none that is held
 pub record Joining (c : Client) (share out : List ℕ) (p : ℕ) (a : Assembly) (f : Fragment) : Type 0 where
   pub ending : Ending c p a (f .length)
   pub free : a .count < fragmentLimit
   pub ends : all fits (heldFragments a) ≡ true
+  pub apart : compatible (heldFragments (added a f)) ≡ true
   pub last-end : end f ≤ datagramLimit
   pub share-size : length share ≡ shareSize
   pub out-size : datagramLimit ≤ length out
 
--- its fragments are within its slots, and each ends within the limit
+-- its fragments are within its slots, each ends within the limit, and none contradicts another
 unfoldable pub steady : Assembly → Bool
-steady a = leb (a .count) fragmentLimit && all fits (heldFragments a)
+steady a = leb (a .count) fragmentLimit && (all fits (heldFragments a) && compatible (heldFragments a))
 
 -- a fragment of these bytes, offered to a client that has its time, can be placed
 pub record Taking (c : Client) (share out : List ℕ) (o : Arrival) (bytes : List ℕ) : Type 0 where
@@ -82,6 +83,7 @@ pub record Placing (c : Client) (share out : List ℕ) (p : ℕ) (a : Assembly) 
   pub ending : Ending c p a (f .length)
   pub slots : a .count ≤ fragmentLimit
   pub ends : all fits (heldFragments a) ≡ true
+  pub apart : compatible (heldFragments a) ≡ true
   pub last-end : end f ≤ datagramLimit
   pub bytes-size : length bytes ≡ f .length
   pub share-size : length share ≡ shareSize

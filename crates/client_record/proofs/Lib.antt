@@ -1,6 +1,7 @@
-pub mod Covered
+pub mod Completion
 pub mod Held
 pub mod Lists
+pub mod Ranges
 pub mod Shapes
 pub mod SoundParts
 pub mod Tests

@@ -1,6 +1,6 @@
 -- What a record that passes the record test is known to have: its parts, one by one, and sums that are bounded by sums.
 -- Assumes nothing.
-use mathlib.Core.Path.{_≡_, refl, ap, _∙_}
+use mathlib.Core.Path.{_≡_, refl, ap, ap₂, _∙_}
 use mathlib.Core.Bool.{Bool, true, _&&_}
 use mathlib.Core.List.{List, [], _∷_, map}
 use Prim.Native.Nat.{ℕ, zero, suc, _<_, _≤_}
@@ -11,7 +11,7 @@ use borrow.Author.Tests.{eqb-true, leb-true}
 use Rattle.number_tests.proofs.Tests.{both-true}
 use Rattle.client_record.specs.declared.Client.{Client}
 use Rattle.client_record.specs.Limits.{offeredLimit}
-use Rattle.client_record.specs.Lists.{all, sum}
+use Rattle.client_record.specs.Lists.{all, pairs, sum}
 use Rattle.client_record.specs.Record.{bytesHeld, soundAssembly, keysDiffer, heldRight, figureSum, sumsTo, balanced, soundRecord}
 
 pub record Sound (c : Client) : Type 0 where
@@ -56,6 +56,12 @@ module _ {ℓ} {A : Type ℓ} where
   all-weaker p q h [] e = refl
   all-weaker p q h (x ∷ l) e =
       let t = both-true (p x) (all p l) e in ap (λ (b : Bool). b && all q l) (h x (t .0)) ∙ all-weaker p q h l (t .1)
+
+  pub pairs-weaker : (q r : A → A → Bool) → ((x y : A) → q x y ≡ true → r x y ≡ true) → (l : List A) → pairs q l ≡ true → pairs r l ≡ true
+  unfolding pairs
+  pairs-weaker q r h [] e = refl
+  pairs-weaker q r h (x ∷ l) e =
+      let t = both-true (all (q x) l) (pairs q l) e in ap₂ _&&_ (all-weaker (q x) (r x) (h x) l (t .0)) (pairs-weaker q r h l (t .1))
 
   pub all-map : {B : Type ℓ} (p : B → Bool) (f : A → B) (l : List A) → all p (map f l) ≡ all (λ x. p (f x)) l
   unfolding all

@@ -1,13 +1,10 @@
 -- What contracts promise beside an equation with a definition.
 use Prim.Native.Nat.{ℕ, _≤_}
 use mathlib.Core.Path.{_≡_}
-use mathlib.Core.List.{List, [], _∷_}
 use lib.ListN.{length}
-use mathlib.Core.Bool.{cond}
-use Rattle.client_record.specs.declared.Fragment.{Fragment}
 use Rattle.client_record.specs.declared.Assembly.{Assembly}
 use Rattle.client_record.specs.Limits.{fragmentLimit}
-use Rattle.client_record.specs.Record.{end, covers, heldFragments}
+use Rattle.client_record.specs.Record.{heldFragments}
 
 -- r is the number of fragments that a holds, and that many slots are there
 pub record HeldCount (a : Assembly) (r : ℕ) : Type 0 where
@@ -18,8 +15,3 @@ pub record HeldCount (a : Assembly) (r : ℕ) : Type 0 where
 pub record HeldFront (a : Assembly) (n : ℕ) : Type 0 where
   pub count : n ≤ length (heldFragments a)
   pub within : n ≤ fragmentLimit
-
--- the end of the first fragment that holds the place; the place itself if none does
-unfoldable pub beyond : ℕ → List Fragment → ℕ
-beyond at [] = at
-beyond at (f ∷ fs) = cond (covers at f) (end f) (beyond at fs)

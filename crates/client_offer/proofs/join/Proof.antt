@@ -10,7 +10,7 @@ use Rattle.number_octets.specs.Octets.{part, overlay}
 use Rattle.client_record.specs.declared.Fragment.{Fragment}
 use Rattle.client_record.specs.declared.Assembly.{Assembly}
 use Rattle.client_record.specs.Limits.{datagramLimit, fragmentLimit, assemblyLimit, shareSize}
-use Rattle.client_record.specs.Record.{end, lastOf, whole, heldFragments}
+use Rattle.client_record.specs.Record.{end, compatible, lastOf, whole, heldFragments}
 use Rattle.client_record.proofs.Lists.{front-below}
 use Rattle.client_record.proofs.Shapes.{slots}
 use Rattle.client_reassembly.specs.Answer.{stored, delivered}
@@ -53,7 +53,8 @@ cast-n : tie.Need-cast-n
 cast-n c = search needs
 
 whole-requires : tie.Need-whole-requires
-whole-requires c κs = search needs
+whole-requires c κs =
+    ap (λ (b : Assembly). compatible (heldFragments b)) (c .before .added .ensures) ∙ c .before .before .before .before .pre .apart
 
 last-of-requires : tie.Need-last-of-requires
 last-of-requires c κs = search needs

@@ -1,14 +1,18 @@
 -- `client_offer::place` meets its contract: the three tests decide in the definition's order, and the fragment's bytes lie within the place.
 -- Assumes nothing.
 use mathlib.Core.Path.{_≡_, refl, sym, ap, _∙_}
+use mathlib.Core.Bool.{false}
 use mathlib.Core.List.{List}
-use Prim.Native.Nat.{ℕ, _+_, _-_, _*_}
+use Prim.Native.Nat.{ℕ, _+_, _-_, _*_, _<_}
 use native.Mathlib.Omega.{arith}
+use lib.ListN.{length}
 use borrow.Author.Tests.{eq-eqb, ne-eqb}
 use Rattle.number_octets.specs.Octets.{part}
 use Rattle.client_record.specs.Limits.{datagramLimit, fragmentLimit, assemblyLimit, shareSize}
 use Rattle.client_record.specs.Record.{end}
 use Rattle.client_reassembly.specs.Offer.{repeats, isConflict, isFull, base, joined, startOf}
+use Rattle.client_record.proofs.Shapes.{slots}
+use Rattle.client_reassembly.proofs.Joins.{added-compatible}
 use Rattle.client_reassembly.proofs.Fates.{left-of, placed-repeated, placed-conflict, placed-full, placed-joined}
 use borrow.Author.Needs.{needs}
 use Rattle.client_offer.proofs.place.Statement.{statement}
@@ -118,15 +122,20 @@ unfolding datagramLimit assemblyLimit shareSize end
 copy-requires c κs = omega arith
 
 join-requires : tie.Need-join-requires
-unfolding fragmentLimit start-of
+unfolding fragmentLimit isConflict start-of
 join-requires c κs =
     let copied = c .before .before .before .before in
     let free = copied .before .before in
     let k = start-of free .pre in
+    let x = start-of free .args in
+    let all-slots : length (x .a .fragments) ≡ fragmentLimit = slots (x .a) _ (start-of free .good .1 .1 .1 .1 .0) in
+    let room : x .a .count < fragmentLimit = omega (arith, free .if3 .left, k .slots) in
+    let apart : isConflict (x .a) (x .f) ≡ false = sym (free .before .before .conflicts-any .ensures) ∙ free .before .if2 .left in
     record {
       ending = k .ending;
-      free = omega (arith, free .if3 .left, k .slots);
+      free = room;
       ends = k .ends;
+      apart = added-compatible (x .a) (x .f) (omega arith) (k .apart) apart;
       last-end = k .last-end;
       share-size = copied .copy .kept .1 .0 ∙ k .share-size;
       out-size = k .out-size;

@@ -72,6 +72,7 @@ place-requires c κs =
       ending = record { room = room; within = place-within w; held = fit .held };
       slots = fit .slots;
       ends = fit .ends;
+      apart = fit .apart;
       last-end = omega (arith, ap end e, k .sized .ends);
       bytes-size = sym size;
       share-size = k .share-size;

@@ -27,8 +27,15 @@ fragments-compatible-requires c κs = search needs
 both-requires : tie.Need-both-requires
 both-requires c κs = search needs
 
+-- both tests of the fragments have passed
+passed : (c : tie.Then2) → let a = c .before .before .before .before .before .args .a in
+    (all soundFragment (heldFragments a) ≡ true) × (compatible (heldFragments a) ≡ true)
+passed c =
+    let t = both-true _ _ (sym (c .before .both .ensures) ∙ c .if2 .taken) in
+    (sym (c .before .before .before .fragments-sound .ensures) ∙ t .0, sym (c .before .before .fragments-compatible .ensures) ∙ t .1)
+
 whole-requires : tie.Need-whole-requires
-whole-requires c κs = search needs
+whole-requires c κs = passed c .1
 
 opened-within-requires : tie.Need-opened-within-requires
 opened-within-requires c κs = search needs
@@ -46,12 +53,7 @@ returns-2 : tie.Need-returns-2
 unfolding soundLive fragmentLimit
 returns-2 c =
     let f = c .before .before .before .before .before in
-    let s = f .before .before .before .before in
-    let a = s .before .args .a in
-    let t = both-true _ _ (sym (f .before .both .ensures) ∙ f .if2 .taken) in
-    let each : all soundFragment (heldFragments a) ≡ true = sym (f .before .before .before .fragments-sound .ensures) ∙ t .0 in
-    let two : compatible (heldFragments a) ≡ true = sym (f .before .before .fragments-compatible .ensures) ∙ t .1 in
-    simp (le-leb _ _ (s .if1 .left), each, two) (cc)
+    simp (le-leb _ _ (f .before .before .before .before .if1 .left), passed f .0, passed f .1) (cc)
 
 returns-3 : tie.Need-returns-3
 unfolding soundLive fragmentLimit
