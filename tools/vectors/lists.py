@@ -1,6 +1,7 @@
 """lists.py: the lists of calls that rust/scripts runs, as its lists/calls.txt has them. tools/vectors/table.py predicts the answers."""
 import random
 import sys
+from itertools import permutations
 
 SHARE, MOST, LIMIT = 16384, 2**64 - 1, 10**15
 LINES = []
@@ -256,9 +257,75 @@ def sound_marks(mark):
     ]
 
 
+# Live pieces (from, to, and END for the last one) whose lengths sum to the last one's end T, or nearly; what is offered then; and what stands
+# in a slot behind them.
+END = 1
+SIXTEENTHS = [(256 * i, 256 * i + 256, END * (i == 15)) for i in range(16)]
+FORGED_SUMS = [
+    *(("sum T, an overlap, 4 and 5 open: " + " ".join(f"{p[0]}-{p[1]}" for p in pieces), pieces, (4, 6))
+      for pieces in permutations([(0, 4), (0, 2), (6, 8, END)])),
+    ("sum T, one piece twice, 4 to 8 open", [(0, 4), (0, 4), (8, 12, END)], (4, 8)),
+    ("sum T, one inside another, 6 and 7 open", [(0, 6), (2, 4), (8, 10, END)], (6, 8)),
+    ("sum T, the last one overlaps, 2 and 3 open", [(0, 2), (4, 8), (6, 10, END)], (2, 4)),
+    ("sum T of 4,096, an overlap, 2,048 to 3,072 open", [(0, 2048), (0, 1024), (3072, 4096, END)], (2048, 3072)),
+    ("sum T, 16 pieces, the first one in the place of the second", [(0, 256), (0, 256), *SIXTEENTHS[2:]], (256, 512)),
+    ("sum T, one past the end, 4 and 5 open", [(0, 4), (10, 12), (6, 8, END)], (4, 6)),
+    ("sum T, two last ones, 4 and 5 open", [(0, 4), (6, 8, END), (8, 10, END)], (4, 6)),
+    ("sum T modulo 65,536, 4 and 5 open", [(0, 4), (0, 65535), (0, 3), (6, 8, END)], (4, 6)),
+    ("sum T with an unused slot, 4 and 5 open", [(0, 4), (6, 8, END)], (4, 6), (0, 2)),
+    ("sum T with an unused slot that fills the gap", [(0, 4), (6, 8, END)], (4, 6), (4, 6)),
+    ("sum T with the last one in an unused slot", [(0, 4), (4, 6)], (4, 6), (6, 8, END)),
+    ("sum T + 1, an overlap, 4 and 5 open", [(0, 4), (0, 3), (6, 8, END)], (4, 6)),
+    ("sum T + 1, an overlap, all covered", [(0, 5), (4, 8, END)], (4, 6)),
+    ("sum T - 1, an overlap, 4 and 5 open", [(0, 4), (3, 4), (6, 8, END)], (4, 6)),
+    ("covered by one", [(0, 8, END)], (4, 6)),
+    ("covered by two", [(0, 4), (4, 8, END)], (4, 6)),
+    ("covered by two, the last one first", [(4, 8, END), (0, 4)], (4, 6)),
+    ("covered by two and an empty one", [(0, 4), (2, 2), (4, 8, END)], (4, 6)),
+    ("covered by 16", SIXTEENTHS, (0, 256)),
+    ("covered by 16, from behind", SIXTEENTHS[::-1], (0, 256)),
+]
+SOUND_SUMS = [
+    ("no last one, 0 to 8 covered", [(0, 4), (4, 8)], (8, 9)),
+    ("no last one, sum 8 before 10", [(0, 4), (6, 10)], (4, 6)),
+    ("no last one, 0 to 4,096 covered by 16", [(*p[:2], 0) for p in SIXTEENTHS], (0, 256)),
+    ("sum T - 1, the first byte open", [(4, 8, END), (1, 4)], (0, 1)),
+    ("sum T - 1, a byte within open", [(0, 4), (5, 8, END)], (4, 5)),
+    ("sum T - 1, 15 pieces", [(0, 511), *SIXTEENTHS[2:]], (511, 512)),
+    ("sum T - 1, 16 pieces", [(0, 255), *SIXTEENTHS[1:]], (255, 256)),
+]
+
+
+def forged_pieces(pieces, *spare):
+    """Makes these of a record with one piece at 0; held and offered are their bytes."""
+    fields = [(COUNT, len(pieces))]
+    for slot, (start, past, *end) in enumerate([*pieces, *spare]):
+        fields += [field for field in ((PLACE, start, 0, slot), (LENGTH, past - start, 0, slot), (LAST, sum(end), 0, slot)) if field[1]]
+    held = sum(p[1] - p[0] for p in pieces)
+    return fields + [(HELD, held), (OFFERED, held)]
+
+
+def forged_sums():
+    """Bill, clock and piece on each, the piece of the same original and of another, beside the record of client 0."""
+    begin("22: lengths that sum to the end", 2)
+    for title, pieces, (start, past), *spare in FORGED_SUMS + SOUND_SUMS:
+        say(f"-- {title}")
+        say("set up")
+        piece(1, 100, 1, 0, 8)
+        forge(1, *forged_pieces(pieces, *spare))
+        bill(1)
+        clock(1, 100)
+        piece(1, 100, 2, 0, 8)
+        piece(1, 100, 1, start, past - start)
+        last(1, 100, 1, 7, 1, 0)
+        bill(1)
+        piece(0, 0, 1, 0, 1)
+    end()
+
+
 MARKS = (2, 255, 65535)
-BROKEN = FORGED + FORGED_FLOWS + FORGED_COUNTS + [case for mark in MARKS for case in forged_marks(mark)]
-PASSING = SOUND + SOUND_FLOWS + [case for mark in MARKS for case in sound_marks(mark)]
+BROKEN = FORGED + FORGED_FLOWS + FORGED_COUNTS + [case for mark in MARKS for case in forged_marks(mark)] + FORGED_SUMS
+PASSING = SOUND + SOUND_FLOWS + [case for mark in MARKS for case in sound_marks(mark)] + SOUND_SUMS
 
 
 def tried(cases):
@@ -603,6 +670,59 @@ def fates():
     end()
 
 
+# ---- when an original is whole
+
+def cut(lengths):
+    """Pieces of these lengths, one behind the other: place, length, and whether it is the last one."""
+    return [(sum(lengths[:i]), n, i + 1 == len(lengths)) for i, n in enumerate(lengths)]
+
+
+def offered(key, pieces):
+    for place, length, end in pieces:
+        piece(0, 0, key, place, length, 0 if end else None, last=end)
+
+
+def completions():
+    orders = (("in order", [256] * 16, lambda rest: rest), ("from behind", [256] * 16, lambda rest: rest[::-1]),
+              ("1 to 16 bytes long, mixed", [*range(1, 17)], lambda rest: [rest[7 * i % 15] for i in range(15)]))
+    for words, lengths, order in orders:
+        pieces = cut(lengths)
+        for which, late in (("first", 0), ("eighth", 7), ("last", 15)):
+            begin(f"16 pieces, {words}, the {which} one after all others")
+            offered(1, order(pieces[:late] + pieces[late + 1:]))
+            bill(0)
+            offered(1, [pieces[late]])
+            bill(0)
+            end()
+    begin("what does not count for completion")
+    say("-- a repeat")
+    offered(1, [(0, 4, False), (8, 4, True), (0, 4, False), (8, 4, True), (4, 4, False)])
+    bill(0)
+    say("-- the bytes of another original")
+    offered(1, [(0, 4, False), (8, 4, True)])
+    offered(2, [(4, 4, False), (0, 4, False)])
+    bill(0)
+    offered(2, [(8, 4, True)])
+    offered(1, [(4, 4, False)])
+    bill(0)
+    say("-- what a clash has ended")
+    offered(1, [(0, 4, False), (2, 4, False), (4, 4, True)])
+    bill(0)
+    offered(1, [(0, 4, False)])
+    say("-- what was turned away")
+    offered(1, [(i, 1, False) for i in range(15)] + [(25, 1, True), (15, 10, False), (15, 10, False)])
+    bill(0)
+    end()
+    begin("the sum is the end so far at every piece, and there is no last one till the end")
+    offered(1, cut([*range(1, 17)]))
+    bill(0)
+    end()
+    begin("the sum is the known end at the last of them only")
+    offered(1, [(12, 4, True), (0, 1, False), (11, 1, False), (1, 5, False), (7, 4, False), (6, 1, False)])
+    bill(0)
+    end()
+
+
 # ---- RFC 9868, sections 11.4 and 11.6: two fragments that each fit an MTU of 1,500 bytes, 2,926 bytes with the UDP header
 
 def least_sizes():
@@ -775,6 +895,8 @@ def stored():
         end()
     forged_fields()
     least_sizes()
+    forged_sums()
+    completions()
     return "\n".join(LINES) + "\n"
 
 

@@ -7,6 +7,7 @@
 #![forbid(unsafe_code)]
 
 mod cases;
+mod tables;
 
 use cases::{Case, Side};
 use std::process::ExitCode;
@@ -41,6 +42,7 @@ struct Result {
 
 /// Batches of both sides in turns, the first side changing each round.
 fn measure(case: &Case) -> Result {
+    assert!((case.alike)(), "{}: the answers differ", case.name);
     let (mut one, mut two) = ((case.library)(), (case.reference)());
     let (mut library, mut reference, mut ratios) = (Vec::new(), Vec::new(), Vec::new());
     for round in 0..WARM_UP + ROUNDS {

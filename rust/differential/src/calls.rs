@@ -5,7 +5,7 @@
 use crate::convert::{answer, answer_word, flow, hex, reading, taken, Raw};
 use crate::counts::Counts;
 use crate::payloads::{same, same_bytes, Check};
-use crate::records::{bytes_of, patterned};
+use crate::records::{bytes_of, count_completion, patterned};
 use reference as plain;
 use reference::checksum;
 use reference::generate::{self, Ask, Call, Datagram, Lent, Random, World};
@@ -116,7 +116,13 @@ fn forged(random: &mut Random, counts: &mut Counts, way: Way, most: usize) -> Re
         let number = random.below(clients);
         world.records[number] = patterned(random, &world.records[number]);
     }
+    if random.one_in(8) {
+        let number = random.below(clients);
+        world.records[number] = generate::sound_record(random);
+        generate::summed(random, &mut world.records[number]);
+    }
     for record in &world.records {
+        count_completion(counts, record);
         let sound = plain::record_test(record);
         counts.add("forged record", if sound { "sound" } else { "damaged" });
     }

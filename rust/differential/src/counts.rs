@@ -32,6 +32,10 @@ fn wanted() -> Vec<String> {
     add("receive", &numbers);
     add("forged record", &["sound", "damaged"]);
     add("record with one byte changed", &["sound", "damaged"]);
+    let word = "forged assembly";
+    add(word, &["no last one", "sum T, covered", "sum T, a gap"]);
+    add(word, &["sum T with unused slots, a gap"]);
+    add(word, &["other sum, covered", "other sum, a gap"]);
     names
 }
 

@@ -5,7 +5,10 @@ use crate::calls::{run, Pair, Way};
 use crate::counts::Counts;
 use reference as plain;
 use reference::generate::{self, Ask, Call, Random, World};
-use wuraketozo::Client;
+use wuraketozo::{Client, SHARE};
+
+/// How many records `sums` makes.
+const SUMS: u64 = 10_000;
 
 /// The bytes of a record.
 pub type Bytes = [u8; Client::SIZE];
@@ -116,6 +119,104 @@ pub fn patterned(random: &mut Random, sound: &plain::Record) -> plain::Record {
         }
     }
     record_of(bytes)
+}
+
+/// The end of the last one that is held, T.
+fn known_end(held: &[plain::Slot]) -> Option<usize> {
+    let last = held.iter().find(|slot| slot.is_last())?;
+    Some(usize::from(last.offset) + usize::from(last.length))
+}
+
+/// A place is held, looked at by itself.
+fn is_held(held: &[plain::Slot], place: usize) -> bool {
+    held.iter().any(|slot| {
+        let start = usize::from(slot.offset);
+        (start..start + usize::from(slot.length)).contains(&place)
+    })
+}
+
+fn sum(slots: &[plain::Slot]) -> usize {
+    slots.iter().map(|slot| usize::from(slot.length)).sum()
+}
+
+/// How the lengths of a live assembly stand to T, and whether each place
+/// before T is held.
+fn completion(assembly: &plain::Assembly) -> &'static str {
+    let (held, unused) = assembly.pieces.split_at(assembly.filled());
+    let Some(end) = known_end(held) else {
+        return "no last one";
+    };
+    let covered = (0..end).all(|place| is_held(held, place));
+    match (sum(held) == end, covered) {
+        (true, true) => "sum T, covered",
+        (true, false) => "sum T, a gap",
+        (false, true) => "other sum, covered",
+        (false, false) if sum(held) + sum(unused) == end => "sum T with unused slots, a gap",
+        (false, false) => "other sum, a gap",
+    }
+}
+
+/// Counts the forged assemblies of a record.
+pub fn count_completion(counts: &mut Counts, record: &plain::Record) {
+    for assembly in &record.assemblies {
+        if assembly.count != 0 {
+            counts.add("forged assembly", completion(assembly));
+        }
+    }
+}
+
+/// Offers what is open first in a live assembly, now and then all but a byte
+/// of it. None where nothing is open.
+fn filling(random: &mut Random, record: &plain::Record) -> Option<Ask> {
+    let live = record.assemblies.iter();
+    let live: Vec<_> = live.filter(|assembly| assembly.count != 0).collect();
+    let assembly = random.pick(&live);
+    let held = &assembly.pieces[..assembly.filled()];
+    let end = known_end(held).unwrap_or(4_096);
+    let place = (0..end).find(|&place| !is_held(held, place))?;
+    let past = (place..end).find(|&place| is_held(held, place));
+    let length = past.unwrap_or(end) - place;
+    let short = usize::from(length > 1 && random.one_in(4));
+    Some(Ask::Piece {
+        client: 0,
+        time: record.time,
+        flow: assembly.flow,
+        identification: assembly.identification,
+        place,
+        bytes: random.bytes(length - short),
+        last: false,
+        r: 0,
+        out: 4_096,
+    })
+}
+
+/// Calls on records whose lengths sum to an end, or nearly: an account, the
+/// clock, what fills a gap, and calls that look at what is held. Returns the
+/// calls made.
+pub fn sums(random: &mut Random, counts: &mut Counts) -> Result<u64, String> {
+    let mut made = 0;
+    for number in 0..SUMS {
+        let mut record = generate::sound_record(random);
+        if !generate::summed(random, &mut record) {
+            continue;
+        }
+        count_completion(counts, &record);
+        let mut asks = vec![Ask::Bill { client: 0 }];
+        let time = record.time;
+        asks.push(Ask::Clock { client: 0, time });
+        asks.extend((0..3).filter_map(|_| filling(random, &record)));
+        let store = random.bytes(SHARE);
+        let records = vec![record];
+        let mut pair = Pair::of(World { records, store });
+        asks.extend((0..2).map(|_| generate::call_on(random, &pair.plain).ask));
+        for ask in asks {
+            let lent = pair.plain.lent();
+            run(random, counts, Way::Offered, &mut pair, &Call { lent, ask })
+                .map_err(|text| format!("record {number}, {record:?}: {text}"))?;
+            made += 1;
+        }
+    }
+    Ok(made)
 }
 
 /// Each byte of a sound record set to every value, and a call made on it.

@@ -1250,6 +1250,96 @@ pub fn damage(random: &mut Random, record: &mut Record, way: usize) -> bool {
     true
 }
 
+/// The pieces of an original of T bytes, mixed, with the last one marked:
+/// their lengths sum to T, and they cover it.
+fn cut(random: &mut Random) -> Vec<Slot> {
+    let end = random.pick(&[1, 2, 8, 8, 40, 300, PLACE]);
+    let count = (1 + random.below(PIECES)).min(end);
+    let mut cuts = vec![0, end];
+    while cuts.len() <= count {
+        let cut = 1 + random.below(end - 1);
+        if !cuts.contains(&cut) {
+            cuts.push(cut);
+        }
+    }
+    cuts.sort_unstable();
+    let one = |pair: &[usize]| Slot {
+        offset: pair[0] as u16,
+        length: (pair[1] - pair[0]) as u16,
+        ..Slot::default()
+    };
+    let mut slots: Vec<Slot> = cuts.windows(2).map(one).collect();
+    slots[count - 1].last = random.pick(&[1, 1, 2, 255, 256, u16::MAX]);
+    slots[count - 1].option_start = random.below(end + 1) as u16;
+    for at in (1..count).rev() {
+        slots.swap(at, random.below(at + 1));
+    }
+    slots
+}
+
+/// Changes an original's pieces so that the lengths still sum to T, or
+/// nearly, or leaves them. Returns how many of them are counted.
+fn bend(random: &mut Random, slots: &mut Vec<Slot>) -> usize {
+    let count = slots.len();
+    let end: u16 = slots.iter().map(|slot| slot.length).sum();
+    let others: Vec<usize> = (0..count).filter(|&at| !slots[at].is_last()).collect();
+    if others.is_empty() {
+        return count;
+    }
+    let one = random.pick(&others);
+    let length = slots[one].length;
+    match random.below(10) {
+        // Anywhere in the original: an overlap and a gap.
+        0 | 1 => slots[one].offset = random.below(usize::from(end - length) + 1) as u16,
+        // A byte from one to another: a gap, and mostly an overlap.
+        2 if length > 1 => {
+            slots[one].length -= 1;
+            slots[random.pick(&others)].length += 1;
+        }
+        // Past the end, where there is room: a gap and no overlap.
+        3 => slots[one].offset = end.min(PLACE as u16 - length),
+        // In a slot past the count.
+        4 => return count - 1,
+        // Covered, with a byte twice.
+        5 => slots[one].length += 1,
+        // A second last one.
+        6 => slots[one].last = 1,
+        // Sound: a byte is open, or a piece, or there is no last one.
+        7 if length > 1 => slots[one].length -= 1,
+        8 => {
+            slots.remove(one);
+            return count - 1;
+        }
+        9 => slots.iter_mut().for_each(|slot| slot.last = 0),
+        _ => {}
+    }
+    count
+}
+
+/// Gives a live assembly of a sound record pieces whose lengths sum to the
+/// last one's end, or nearly. The figures fit what is held then. False if none
+/// is live.
+pub fn summed(random: &mut Random, record: &mut Record) -> bool {
+    let mut live: Vec<_> = record.assemblies.iter_mut().collect();
+    live.retain(|assembly| assembly.count != 0);
+    if live.is_empty() {
+        return false;
+    }
+    let mut slots = cut(random);
+    let at = random.below(live.len());
+    let assembly = &mut live[at];
+    assembly.count = bend(random, &mut slots) as u64;
+    assembly.pieces = Default::default();
+    assembly.pieces[..slots.len()].copy_from_slice(&slots);
+    let held = record.assemblies.iter();
+    let held = held.flat_map(|assembly| &assembly.pieces[..assembly.filled()]);
+    record.held = held.map(|slot| u64::from(slot.length)).sum();
+    // Offered may stand at its limit.
+    record.delivered -= record.delivered.min(1 << 20);
+    record.offered = figures(record);
+    true
+}
+
 /// A forged table: mostly sound records, a few with one damaged field, and
 /// a store of any bytes.
 pub fn forged_world(random: &mut Random, clients: usize) -> World {

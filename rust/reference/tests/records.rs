@@ -1,7 +1,7 @@
 //! The record test against a second one that paints bytes, and on records
 //! with one damaged field.
 
-use reference::generate::{damage, sound_record, Random, DAMAGES};
+use reference::generate::{damage, sound_record, summed, Random, DAMAGES};
 use reference::*;
 
 /// The record test, spelled over painted bytes and sets.
@@ -166,4 +166,26 @@ fn small_assemblies() {
         sound += u32::from(record_test(&record));
     }
     assert!(sound > 1_000, "{sound}");
+}
+
+/// Lengths that sum to the last one's end: a whole one, or an overlap or a
+/// piece past the end beside a gap.
+#[test]
+fn summed_assemblies() {
+    let mut random = Random::new(15);
+    let mut sound = 0;
+    let mut damaged = 0;
+    for _ in 0..4_000 {
+        let mut record = sound_record(&mut random);
+        if !summed(&mut random, &mut record) {
+            continue;
+        }
+        assert_eq!(record_test(&record), second_test(&record), "{record:?}");
+        if record_test(&record) {
+            sound += 1;
+        } else {
+            damaged += 1;
+        }
+    }
+    assert!(sound > 500 && damaged > 2_000, "{sound} {damaged}");
 }
