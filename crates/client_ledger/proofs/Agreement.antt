@@ -8,7 +8,7 @@ use mathlib.Core.List.{List, [], _∷_, map}
 use native.Mathlib.Omega.{arith}
 use lib.ListN.{length, getD}
 use borrow.Author.Tests.{leb-true, eqb-true, eqb-false, not-true, not-false}
-use Rattle.number_tests.proofs.Tests.{both-true, cond-yes}
+use Rattle.number_tests.proofs.Tests.{true-false, both-true, both-false, cond-yes}
 use Rattle.number_octets.proofs.Laws.{length-part}
 use Rattle.client_record.specs.declared.Fragment.{Fragment}
 use Rattle.client_record.specs.declared.Assembly.{Assembly}
@@ -38,12 +38,8 @@ use Rattle.client_reassembly.proofs.Kept.{LiveParts, live-parts}
 use Rattle.client_reassembly.proofs.Steady.{empty-bytes}
 use Rattle.client_ledger.specs.Book.{Key, Content, Entry, size, total, heldBytes, sameKey, mine, others}
 use Rattle.client_ledger.specs.Stands.{keyOf, owns, at, contentOf, Agrees}
-use Rattle.client_ledger.proofs.Keys.{same-key, key-same, true-false, mine-left, mine-others, no-entries}
+use Rattle.client_ledger.proofs.Keys.{same-key, key-same, mine-left, mine-others, no-entries}
 use Rattle.client_ledger.proofs.Sum.{mine-bytes}
-
-pub or-none : (a b : Bool) → a || b ≡ false → (a ≡ false) × (b ≡ false)
-or-none true b e = absurd (true-false e)
-or-none false b e = (refl, e)
 
 -- ---- a sum whose parts agree
 
@@ -51,7 +47,7 @@ or-none false b e = (refl, e)
 sum-failing {ℓ} : {A : Type ℓ} (f g : A → ℕ) (p : A → Bool) → ((x : A) → p x ≡ false → f x ≡ g x) → (l : List A) → any p l ≡ false → sum f l ≡ sum g l
 unfolding sum any
 sum-failing f g p h [] e = refl
-sum-failing f g p h (x ∷ l) e = let t = or-none (p x) (any p l) e in ap₂ _+_ (h x (t .0)) (sum-failing f g p h l (t .1))
+sum-failing f g p h (x ∷ l) e = let t = both-false (p x) (any p l) e in ap₂ _+_ (h x (t .0)) (sum-failing f g p h l (t .1))
 
 -- at every index
 pub sum-at {ℓ} : {A : Type ℓ} (f g : A → ℕ) (d : A) (l : List A) → ((i : ℕ) → i < length l → f (getD l i d) ≡ g (getD l i d)) → sum f l ≡ sum g l

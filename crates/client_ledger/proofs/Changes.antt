@@ -10,7 +10,7 @@ use lib.Dec.{eqb, ltb}
 use lib.ListN.{length, take, drop, getD, set, length-set}
 use lib.Seq.{take-add, drop-at, drop-drop, take-take, length-take-le, getD-set-same, getD-set-other}
 use borrow.Author.Tests.{ltb-true, ltb-false, leb-true, eqb-true, eqb-false}
-use Rattle.number_tests.proofs.Tests.{both-true}
+use Rattle.number_tests.proofs.Tests.{true-false, both-false, both-true}
 use Rattle.number_octets.specs.Octets.{part, overlay}
 use Rattle.number_octets.proofs.Laws.{length-overlay, take-overlay, drop-overlay, part-overlay}
 use Rattle.client_record.specs.declared.Fragment.{Fragment}
@@ -30,7 +30,6 @@ use Rattle.client_ledger.specs.Book
 use Rattle.client_ledger.specs.Book.{Key, Content, Entry, Book, sameKey, of, mine, others, openedAt, entry, with}
 use Rattle.client_ledger.specs.Stands.{keyOf, owns, at, contentOf, Shows, Agrees, Stands, offerOf}
 use Rattle.client_ledger.proofs.Keys.{
-  true-false,
   same-key,
   own-key,
   mine-left,
@@ -40,7 +39,7 @@ use Rattle.client_ledger.proofs.Keys.{
   mine-other,
   opened-other,
 }
-use Rattle.client_ledger.proofs.Agreement.{or-none, differs, not-owned, parts-fit, in-share}
+use Rattle.client_ledger.proofs.Agreement.{differs, not-owned, parts-fit, in-share}
 use Rattle.client_ledger.proofs.Clock.{fresh-not-live}
 use Rattle.client_ledger.proofs.Home.{Home, below, parts-at}
 
@@ -82,15 +81,15 @@ module _ {ℓ} {A : Type ℓ} where
   map-apart r s g h q [] e n = refl
   map-apart r s g h q (x ∷ l) e n =
       let t = both-true (r x) (all r l) e in
-      let u = or-none (s x) (any s l) n in
+      let u = both-false (s x) (any s l) n in
       ap₂ _∷_ (q x (t .0) (u .0)) (map-apart r s g h q l (t .1) (u .1))
 
   -- no element passed, with another in place of one that does not pass
   any-back : (q : A → Bool) (l : List A) (i : ℕ) (x d : A) → any q (set l i x) ≡ false → q (getD l i d) ≡ false → any q l ≡ false
   unfolding any
   any-back q [] i x d e n = refl
-  any-back q (y ∷ l) zero x d e n = ap₂ _||_ n (or-none (q x) (any q l) e .1)
-  any-back q (y ∷ l) (suc i) x d e n = let t = or-none (q y) (any q (set l i x)) e in ap₂ _||_ (t .0) (any-back q l i x d (t .1) n)
+  any-back q (y ∷ l) zero x d e n = ap₂ _||_ n (both-false (q x) (any q l) e .1)
+  any-back q (y ∷ l) (suc i) x d e n = let t = both-false (q y) (any q (set l i x)) e in ap₂ _||_ (t .0) (any-back q l i x d (t .1) n)
 
 -- ---- bytes that stay
 
@@ -110,7 +109,7 @@ unmoved-itself s p = record { others-stay = λ j n fs e. refl }
 
 overlap-free : (f g : Fragment) → conflicts g f ≡ false → ltb (g .offset) (end f) && ltb (f .offset) (end g) ≡ false
 unfolding conflicts overlaps
-overlap-free f g e = or-none (ltb (g .offset) (end f) && ltb (f .offset) (end g)) _ e .0
+overlap-free f g e = both-false (ltb (g .offset) (end f) && ltb (f .offset) (end g)) _ e .0
 
 fits-end : (g : Fragment) → fits g ≡ true → g .offset + g .length ≤ datagramLimit
 unfolding fits end

@@ -10,7 +10,7 @@ use native.Mathlib.Omega.{arith}
 use lib.Dec.{leb, ltb}
 use lib.ListN.{length, getD, replicate, length-map, List·getD-map}
 use borrow.Author.Tests.{ltb-true, ltb-false}
-use Rattle.number_tests.proofs.Tests.{both-true}
+use Rattle.number_tests.proofs.Tests.{true-false, both-true}
 use Rattle.number_tests.specs.Tests.{firstOf}
 use Rattle.client_record.specs.declared.Assembly.{Assembly}
 use Rattle.client_record.specs.declared.Client.{Client}
@@ -20,7 +20,7 @@ use Rattle.client_record.specs.Record.{freshAssembly, freshClient, live, soundR
 use Rattle.client_record.proofs.SoundParts.{sound-parts}
 use Rattle.client_reassembly.specs.Answer.{advanced, account}
 use Rattle.client_reassembly.specs.Advance
-use Rattle.client_reassembly.specs.Advance.{old, expire, elapse, Turn, advanceOn, accountOn}
+use Rattle.client_reassembly.specs.Advance.{old, expire, elapse, CallResult, advanceOn, accountOn}
 use Rattle.client_reassembly.specs.Offer.{firstIndex}
 use Rattle.client_reassembly.proofs.Expiry.{gone}
 use Rattle.client_reassembly.proofs.Kept.{any-at, elapse-sound}
@@ -50,7 +50,7 @@ use Rattle.client_ledger.specs.Book.{
   call,
 }
 use Rattle.client_ledger.specs.Stands.{keyOf, owns, at, Shows, Agrees, Shaped, Stands, Follows}
-use Rattle.client_ledger.proofs.Keys.{true-false, same-key, of-key, mine-kept, opened-kept, mine-dropped, mine-none}
+use Rattle.client_ledger.proofs.Keys.{same-key, of-key, mine-kept, opened-kept, mine-dropped, mine-none}
 use Rattle.client_ledger.proofs.Sum.{keep-bytes}
 use Rattle.client_ledger.proofs.Agreement.{held-sum}
 
@@ -114,7 +114,7 @@ module _ (c : Client) (share : List ℕ) (b : Book) (st : Stands c share b) wher
 
   pub account-stands : Follows (accountOn c) share (call bill b)
   account-stands =
-      subst (λ (t : Turn). Follows t share (call bill b)) (sym account-is) (record { reply = ap account same-figures; stands = st })
+      subst (λ (t : CallResult). Follows t share (call bill b)) (sym account-is) (record { reply = ap account same-figures; stands = st })
 
 -- ---- the clock
 
@@ -250,7 +250,7 @@ module _ (t : ℕ) (c : Client) (share : List ℕ) (b : Book) (st : Stands c sha
 
   pub advance-stands : Follows (advanceOn c t) share (call (clock t) b)
   advance-stands =
-      subst (λ (x : Turn). Follows x share (call (clock t) b)) (sym advance-is)
+      subst (λ (x : CallResult). Follows x share (call (clock t) b)) (sym advance-is)
       (subst
       (λ (r : Result).
       Follows (Advance.refuseOr c (cond (ltb t (c .time)) (some 27) none) (record { client = elapse t c; reply = advanced })) share r)

@@ -10,7 +10,7 @@ use lib.Dec.{ltb, leb}
 use lib.ListN.{length, drop, getD, length-drop}
 use lib.Seq.{take-suc, getD-take, getD-drop}
 use borrow.Author.Tests.{ltb-true, leb-true, le-leb}
-use Rattle.number_tests.proofs.Tests.{both-true}
+use Rattle.number_tests.proofs.Tests.{true-false, both-true}
 use Rattle.number_octets.specs.Octets.{part}
 use Rattle.client_record.specs.declared.Fragment.{Fragment}
 use Rattle.client_record.specs.Limits.{datagramLimit, assemblyLimit, shareSize}
@@ -19,7 +19,6 @@ use Rattle.client_record.specs.Record.{freshFragment, isLast, end, fits, covers
 use Rattle.client_reassembly.specs.Offer.{base}
 use Rattle.client_ledger.specs.Book.{lastOne, byteAt, bytesTo}
 use Rattle.client_ledger.specs.Stands.{contentOf}
-use Rattle.client_ledger.proofs.Keys.{true-false}
 use Rattle.client_ledger.proofs.Tests.{same-within}
 
 -- ---- the last one

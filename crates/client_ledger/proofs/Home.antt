@@ -11,7 +11,7 @@ use lib.Dec.{eqb, ltb}
 use lib.ListN.{length, length-map}
 use lib.Seq.{length-take-le}
 use borrow.Author.Tests.{ltb-true, ltb-false, eqb-true, eqb-false, eq-eqb, ne-eqb, not-true}
-use Rattle.number_tests.proofs.Tests.{both-true, cond-yes, cond-no}
+use Rattle.number_tests.proofs.Tests.{true-false, both-true, cond-yes, cond-no}
 use Rattle.client_record.specs.declared.Assembly.{Assembly}
 use Rattle.client_record.specs.declared.Client.{Client}
 use Rattle.client_record.specs.Limits.{fragmentLimit, assemblyLimit}
@@ -29,7 +29,7 @@ use Rattle.client_reassembly.proofs.Lasting.{slots-of, fresh-slotted}
 use Rattle.client_ledger.specs.Book
 use Rattle.client_ledger.specs.Book.{Key, Content, Entry, Book, sameKey, mine, openedAt, keys, entry}
 use Rattle.client_ledger.specs.Stands.{keyOf, owns, at, contentOf, Stands, offerOf}
-use Rattle.client_ledger.proofs.Keys.{true-false, same-key, own-key, opened-first, opened-later, some, keys-split}
+use Rattle.client_ledger.proofs.Keys.{same-key, own-key, opened-first, opened-later, some, keys-split}
 use Rattle.client_ledger.proofs.Agreement.{parts-sum, sum-at, differs, not-owned, not-live-owned, not-same-owned, live-count, live-sound, parts-fit}
 
 -- the key that an arrival has

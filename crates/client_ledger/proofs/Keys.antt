@@ -8,7 +8,7 @@ use mathlib.Core.Logic.{_↔_}
 use native.Mathlib.Omega.{arith}
 use lib.Dec.{eqb}
 use borrow.Author.Tests.{eqb-true, eq-eqb}
-use Rattle.number_tests.proofs.Tests.{both-true}
+use Rattle.number_tests.proofs.Tests.{true-false, both-true}
 use Rattle.client_record.specs.declared.Flow.{Flow}
 use Rattle.client_record.specs.Lists.{sameBytes, any}
 use Rattle.client_record.specs.Record.{sameFlow}
@@ -66,9 +66,6 @@ same-flow-exactly x y = (same-flow x y, λ e. ap (sameFlow x) (sym e) ∙ flow-s
 
 pub same-key-exactly : (k j : Key) → (sameKey k j ≡ true) ↔ (k ≡ j)
 same-key-exactly k j = (same-key k j, λ e. ap (sameKey k) (sym e) ∙ key-same k)
-
-pub true-false : true ≡ false → ⊥
-true-false e = let z : _≡_ {A = ℕ} 0 1 = cc in omega arith
 
 pub own-key : (x : Entry) → of (x .key) x ≡ true
 unfolding of

@@ -10,20 +10,16 @@ use lib.Dec.{leb, ltb}
 use lib.ListN.{length, drop, getD, length-append, List·getD-append}
 use lib.Seq.{getD-take, getD-drop, ext-getD}
 use borrow.Author.Tests.{ltb-true, ltb-false, leb-true, lt-ltb, le-leb, not-true}
-use Rattle.number_tests.proofs.Tests.{both-true, cond-yes}
+use Rattle.number_tests.proofs.Tests.{true-false, both-true, both-false, cond-yes}
 use Rattle.number_octets.specs.Octets.{part}
 use Rattle.number_octets.proofs.Laws.{length-part}
 use Rattle.client_record.specs.Lists.{all, pairs}
+use Rattle.client_record.proofs.SoundParts.{all-weaker}
 use Rattle.client_ledger.specs.Book.{Content, size, endOf, of, overlap, contradicts, within, lastOne, byteAt, bytesTo, fragment}
 use Rattle.client_ledger.proofs.Apart.{follows}
-use Rattle.client_ledger.proofs.Keys.{true-false}
 use Rattle.client_ledger.proofs.Whole.{bytes-length, byte-placed}
 
 -- ---- what it means for two fragments
-
-or-false : (a b : Bool) → a || b ≡ false → (a ≡ false) × (b ≡ false)
-or-false true b e = absurd (true-false e)
-or-false false b e = (refl, e)
 
 and-second : (a b : Bool) → a ≡ true → a && b ≡ false → b ≡ false
 and-second true b p e = e
@@ -34,9 +30,9 @@ module _ (f g : Content) (h : follows f g ≡ true) where
   parts : (overlap g f ≡ false) × ((f .last && ltb (endOf f) (endOf g) ≡ false) × (g .last && ltb (endOf g) (endOf f) ≡ false))
   unfolding contradicts
   parts =
-      let a = or-false (overlap g f) _ (not-true _ h) in
-      let b = or-false (g .last && f .last) _ (a .1) in
-      let c = or-false (f .last && ltb (endOf f) (endOf g)) _ (b .1) in
+      let a = both-false (overlap g f) _ (not-true _ h) in
+      let b = both-false (g .last && f .last) _ (a .1) in
+      let c = both-false (f .last && ltb (endOf f) (endOf g)) _ (b .1) in
       (a .0, (c .0, c .1))
 
   -- no place is in both
@@ -86,12 +82,6 @@ last-in q (f ∷ cs) l h e = go (f .last) (last-in q cs l (b .1)) e
     go true ih e = let same : f ≡ l = cc in ap q (sym same) ∙ b .0
     go false ih e = ih e
 
-all-by : (p q : Content → Bool) (cs : List Content) → ((c : Content) → p c ≡ true → q c ≡ true) → all p cs ≡ true → all q cs ≡ true
-unfolding all
-all-by p q [] f h = refl
-all-by p q (c ∷ cs) f h =
-    let b = both-true (p c) (all p cs) h in ap (λ (z : Bool). z && all q cs) (f c (b .0)) ∙ all-by p q cs f (b .1)
-
 -- none ends past the last one
 last-ends : (cs : List Content) (l : Content) → pairs follows cs ≡ true → lastOne cs ≡ some l → all (λ c. leb (endOf c) (endOf l)) cs ≡ true
 unfolding pairs lastOne all
@@ -106,7 +96,7 @@ last-ends (f ∷ cs) l h e = go (f .last) refl (last-ends cs l (b .1)) e
     go true p ih e =
         let same : f ≡ l = cc in
         let rest : all (λ c. leb (endOf c) (endOf f)) cs ≡ true =
-        all-by (follows f) (λ c. leb (endOf c) (endOf f)) cs (λ c q. le-leb (endOf c) (endOf f) (later-ends f c q p)) (b .0) in
+        all-weaker (follows f) (λ c. leb (endOf c) (endOf f)) (λ c q. le-leb (endOf c) (endOf f) (later-ends f c q p)) cs (b .0) in
         subst (λ (m : Content). leb (endOf f) (endOf m) && all (λ c. leb (endOf c) (endOf m)) cs ≡ true) same
         (ap (λ (z : Bool). z && all (λ c. leb (endOf c) (endOf f)) cs) (le-leb (endOf f) (endOf f) (omega arith)) ∙ rest)
     go false p ih e =

@@ -3,12 +3,12 @@
 -- Assumes nothing.
 use Prim.Native.Nat.{ℕ, zero, suc, _+_, _<_}
 use mathlib.Core.Path.{_≡_, refl, sym, ap, ap₂, _∙_}
-use mathlib.Core.Bool.{Bool, true, false, not, _&&_, _||_, cond}
+use mathlib.Core.Bool.{Bool, true, false, not, _&&_, _||_, cond, and-true, and-false, and-comm, or-comm}
 use mathlib.Core.List.{List, [], _∷_, map}
 use lib.Dec.{eqb, ltb, leb}
 use lib.ListN.{length, length-map}
 use borrow.Author.Tests.{eqb-true, eqb-false, eq-eqb}
-use Rattle.number_tests.proofs.Tests.{both-true}
+use Rattle.number_tests.proofs.Tests.{true-false, both-true}
 use Rattle.number_octets.specs.Octets.{part}
 use Rattle.client_record.specs.declared.Fragment.{Fragment}
 use Rattle.client_record.specs.declared.Assembly.{Assembly}
@@ -16,7 +16,6 @@ use Rattle.client_record.specs.declared.Client.{Client}
 use Rattle.client_record.specs.Limits.{fragmentLimit, assemblyLimit, shareSize}
 use Rattle.client_record.specs.Lists.{sameMark, sameBytes, all, any}
 use Rattle.client_record.specs.Record.{isLast, end, fits, overlaps, bothLast, outruns, conflicts, covers, coveredTo, heldFragments}
-use Rattle.client_record.proofs.Lists.{and-true, and-false}
 use Rattle.client_record.proofs.Held.{marks-last}
 use Rattle.client_reassembly.specs.declared.Arrival.{Arrival}
 use Rattle.client_reassembly.specs.Offer
@@ -24,7 +23,7 @@ use Rattle.client_reassembly.specs.Offer.{fragmentOf, alike, base, startOf}
 use Rattle.client_ledger.specs.Book
 use Rattle.client_ledger.specs.Book.{Book, size, endOf, overlap, contradicts, within, complete, entry}
 use Rattle.client_ledger.specs.Stands.{contentOf, offerOf}
-use Rattle.client_ledger.proofs.Keys.{true-false, same-bytes}
+use Rattle.client_ledger.proofs.Keys.{same-bytes}
 use Rattle.client_ledger.proofs.Agreement.{content-size}
 use Rattle.client_ledger.proofs.Home.{Home, held-length}
 
@@ -55,16 +54,6 @@ module _ {ℓ} {A : Type ℓ} where
       go false t u = refl
 
 -- ---- numbers and marks
-
-and-comm : (a b : Bool) → a && b ≡ b && a
-and-comm true b = sym (and-true b)
-and-comm false b = sym (and-false b)
-
-or-comm : (a b : Bool) → a || b ≡ b || a
-or-comm true true = refl
-or-comm true false = refl
-or-comm false true = refl
-or-comm false false = refl
 
 -- a test moves behind two others, of which the second may change where the first passes
 swap : (s m t u : Bool) → (m ≡ true → t ≡ u) → s && (m && t) ≡ (m && u) && s

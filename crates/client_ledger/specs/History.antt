@@ -5,7 +5,7 @@ use mathlib.Core.List.{List, [], _∷_}
 use Rattle.client_record.specs.declared.Client.{Client}
 use Rattle.client_reassembly.specs.declared.Arrival.{Arrival}
 use Rattle.client_reassembly.specs.Answer.{Reply}
-use Rattle.client_reassembly.specs.Advance.{Turn, advanceOn, accountOn}
+use Rattle.client_reassembly.specs.Advance.{CallResult, advanceOn, accountOn}
 use Rattle.client_reassembly.specs.Offer.{Outcome, fragmentOn}
 
 -- the table that a call was lent: how many records, how many bytes of store
@@ -25,7 +25,7 @@ pub record Given : Type 0 where
   pub out : List ℕ
 
 -- a call that lends no out buffer
-abbrev pub outcome : Turn → List ℕ → Outcome
+abbrev pub outcome : CallResult → List ℕ → Outcome
 outcome t share = record { client = t .client; share = share; out = []; reply = t .reply }
 
 abbrev pub callOn : Client → List ℕ → Ask → Outcome

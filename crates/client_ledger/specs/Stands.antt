@@ -12,7 +12,7 @@ use Rattle.client_record.specs.declared.Client.{Client}
 use Rattle.client_record.specs.Lists.{any}
 use Rattle.client_record.specs.Record.{isLast, freshAssembly, live, heldFragments, soundRecord}
 use Rattle.client_reassembly.specs.declared.Arrival.{Arrival}
-use Rattle.client_reassembly.specs.Advance.{Turn}
+use Rattle.client_reassembly.specs.Advance.{CallResult}
 use Rattle.client_reassembly.specs.Offer.{base, Outcome}
 pub use Rattle.client_ledger.specs.Shapes.{Shaped}
 use Rattle.client_ledger.specs.Book.{Key, Content, Entry, Book, held, sameKey, mine, openedAt, Result, Offer}
@@ -74,7 +74,7 @@ offerOf o bytes = record {
 }
 
 -- a call on the record that lends no out buffer does what the book does
-pub record Follows (t : Turn) (share : List ℕ) (r : Result) : Type 0 where
+pub record Follows (t : CallResult) (share : List ℕ) (r : Result) : Type 0 where
   pub reply : t .reply ≡ r .reply
   pub stands : Stands (t .client) share (r .book)
 

@@ -1,7 +1,7 @@
 -- The record test passes again after every call: what the one-client theorem rests on.
 -- Assumes nothing.
 use mathlib.Core.Path.{_≡_, refl, sym, ap, ap₂, _∙_}
-use mathlib.Core.Bool.{Bool, true, false, not, _&&_, _||_, cond}
+use mathlib.Core.Bool.{Bool, true, false, not, _&&_, _||_, cond, and-false}
 use mathlib.Core.List.{List, [], _∷_, map}
 use Prim.Native.Nat.{ℕ, zero, suc, _+_, _<_, _≤_}
 use native.Mathlib.Nat.{not-suc-le-zero, le-of-suc-le-suc}
@@ -9,7 +9,7 @@ use native.Mathlib.Omega.{arith}
 use lib.Dec.{leb, ltb}
 use lib.ListN.{length, getD, set}
 use borrow.Author.Tests.{leb-true, leb-false, eq-eqb, le-leb, lt-ltb}
-use Rattle.number_tests.proofs.Tests.{both-true}
+use Rattle.number_tests.proofs.Tests.{true-false, both-true, both-false}
 use Rattle.client_record.specs.declared.Assembly.{Assembly}
 use Rattle.client_record.specs.declared.Client.{Client}
 use Rattle.client_record.specs.Limits.{fragmentLimit, addressSize, lifetime, offeredLimit}
@@ -40,7 +40,6 @@ use Rattle.client_record.specs.Record.{
   balanced,
   soundRecord,
 }
-use Rattle.client_record.proofs.Lists.{and-false}
 use Rattle.client_record.proofs.SoundParts.{Sound, sound-parts, all-at, all-weaker, all-map}
 use Rattle.client_reassembly.specs.Advance.{old, expire, elapse}
 use Rattle.client_reassembly.specs.Offer.{rejecting, repeating, conflicting, delivering}
@@ -58,13 +57,6 @@ sound-from c s =
     (ap₂ _&&_ (eq-eqb (figureSum c) (c .offered) (s .balance)) (le-leb (c .offered) offeredLimit (s .limit)))))
 
 -- ---- lists
-
-true-false : true ≡ false → ⊥
-true-false e = let z : _≡_ {A = ℕ} 0 1 = cc in omega arith
-
-or-none : (a b : Bool) → a || b ≡ false → (a ≡ false) × (b ≡ false)
-or-none true b e = absurd (true-false e)
-or-none false b e = (refl, e)
 
 suc-lt : {j n : ℕ} → j < n → suc j < suc n
 suc-lt k = omega arith
@@ -92,8 +84,8 @@ module _ {ℓ} {A : Type ℓ} where
   pub any-at : (p : A → Bool) (l : List A) (i : ℕ) (d : A) → i < length l → any p l ≡ false → p (getD l i d) ≡ false
   unfolding any
   any-at p [] i d h e = absurd (not-suc-le-zero h)
-  any-at p (x ∷ l) zero d h e = or-none (p x) (any p l) e .0
-  any-at p (x ∷ l) (suc i) d h e = any-at p l i d (le-of-suc-le-suc h) (or-none (p x) (any p l) e .1)
+  any-at p (x ∷ l) zero d h e = both-false (p x) (any p l) e .0
+  any-at p (x ∷ l) (suc i) d h e = any-at p l i d (le-of-suc-le-suc h) (both-false (p x) (any p l) e .1)
 
   -- every pair passes, with one element replaced by one that passes with those before it and those behind it
   pub pairs-set : (q : A → A → Bool) (l : List A) (i : ℕ) (a : A) → pairs q l ≡ true

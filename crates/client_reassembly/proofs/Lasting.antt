@@ -2,7 +2,7 @@
 -- A record's lists are as long as the code's arrays are (`Shaped`); that lasts too.
 -- Assumes nothing.
 use mathlib.Core.Path.{_≡_, refl, sym, ap, ap₂, _∙_, subst}
-use mathlib.Core.Bool.{Bool, true, false, not, _&&_, cond}
+use mathlib.Core.Bool.{Bool, true, false, not, _&&_, cond, and-false}
 use mathlib.Core.List.{List}
 use mathlib.Core.Option.{Option, none, some}
 use Prim.Native.Nat.{ℕ, zero, suc, _+_, _<_, _≤_}
@@ -36,7 +36,6 @@ use Rattle.client_record.specs.Record.{
   figureSum,
   soundRecord,
 }
-use Rattle.client_record.proofs.Lists.{and-false}
 use Rattle.client_record.proofs.SoundParts.{sound-parts, all-at, all-weaker, all-map}
 use Rattle.client_reassembly.specs.Shapes.{slotted, Shaped}
 use Rattle.client_reassembly.specs.declared.Arrival.{Arrival}

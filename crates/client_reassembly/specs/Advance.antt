@@ -39,17 +39,17 @@ elapse t c = record {
 }
 
 -- a client's record and what its call answers
-pub record Turn : Type 0 where
+pub record CallResult : Type 0 where
   pub client : Client
   pub reply : Reply
 
 -- a refusal changes nothing
-abbrev pub refuseOr : Client → Option ℕ → Turn → Turn
+abbrev pub refuseOr : Client → Option ℕ → CallResult → CallResult
 refuseOr c none t = t
 refuseOr c (some n) t = record { client = c; reply = refused n }
 
 -- clock: 22, 27, then the time is set and what is old expires
-unfoldable pub advanceOn : Client → ℕ → Turn
+unfoldable pub advanceOn : Client → ℕ → CallResult
 advanceOn c t =
     refuseOr c (firstOf ((not (soundRecord c), 22) ∷ (ltb t (c .time), 27) ∷ []))
     (record { client = elapse t c; reply = advanced })
@@ -59,5 +59,5 @@ unfoldable pub figures : Client → List ℕ
 figures c = c .offered ∷ c .held ∷ c .delivered ∷ c .expired ∷ c .conflicted ∷ c .repeated ∷ c .rejected ∷ []
 
 -- bill: 22, then the figures; the record stays
-unfoldable pub accountOn : Client → Turn
+unfoldable pub accountOn : Client → CallResult
 accountOn c = refuseOr c (firstOf ((not (soundRecord c), 22) ∷ [])) (record { client = c; reply = account (figures c) })

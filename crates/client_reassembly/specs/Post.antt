@@ -14,11 +14,11 @@ use Rattle.client_record.specs.Record.{end, fits, compatible, heldFragments, by
 use Rattle.client_reassembly.specs.declared.Step.{Step}
 use Rattle.client_reassembly.specs.declared.Arrival.{Arrival}
 use Rattle.client_reassembly.specs.Answer.{replyOf}
-use Rattle.client_reassembly.specs.Advance.{Turn}
+use Rattle.client_reassembly.specs.Advance.{CallResult}
 use Rattle.client_reassembly.specs.Offer.{placeFor, added, Outcome}
 
--- the step has the turn's record, and its answer stands for the turn's
-pub record Turned (t : Turn) (s : Step) : Type 0 where
+-- the step has the result's record, and its answer stands for the result's
+pub record StepGives (t : CallResult) (s : Step) : Type 0 where
   pub client : s .client ≡ t .client
   pub reply : replyOf (s .answer) ≡ t .reply
 

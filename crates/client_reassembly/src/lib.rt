@@ -10,7 +10,7 @@ ghost use mathlib.Core.List.{map};
 ghost use Rattle.client_record.specs.Lists.{sum};
 ghost use Rattle.client_record.specs.Record.{soundRecord};
 ghost use Rattle.client_reassembly.specs.Advance.{old, expire, lost, elapse, advanceOn, accountOn};
-ghost use Rattle.client_reassembly.specs.Post.{Turned};
+ghost use Rattle.client_reassembly.specs.Post.{StepGives};
 
 // Why a call changes nothing (document 01's 20 to 28; 20 and 21 are the table's), or a fragment is turned away (29, 30).
 pub enum Refusal {
@@ -158,7 +158,7 @@ pub fn elapsed(c: Client, time: u64) -> Client
 
 // Document 01's clock, after 21.
 pub fn advance(client: Client, time: u64) -> Step
-    ensures { λ r. ⌜ Turned (advanceOn client time) r ⌝ }
+    ensures { λ r. ⌜ StepGives (advanceOn client time) r ⌝ }
 {
     if client_record_test::sound(client) {
         if time < client.time {
@@ -180,7 +180,7 @@ pub fn advance(client: Client, time: u64) -> Step
 
 // Document 01's bill, after 21.
 pub fn account(client: Client) -> Step
-    ensures { λ r. ⌜ Turned (accountOn client) r ⌝ }
+    ensures { λ r. ⌜ StepGives (accountOn client) r ⌝ }
 {
     if client_record_test::sound(client) {
         let figures = Figures {

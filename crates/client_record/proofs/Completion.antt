@@ -10,7 +10,7 @@ use native.Mathlib.Omega.{arith}
 use lib.Dec.{eqb, leb, ltb}
 use lib.ListN.{length, getD}
 use borrow.Author.Tests.{ltb-true, ltb-false, le-leb, eq-eqb, ne-eqb, not-true}
-use Rattle.number_tests.proofs.Tests.{both-true, both-false, cond-yes, cond-no}
+use Rattle.number_tests.proofs.Tests.{true-false, both-true, both-false, cond-yes, cond-no}
 use Rattle.client_record.specs.declared.Fragment.{Fragment}
 use Rattle.client_record.specs.Lists.{all, any, pairs, sum}
 use Rattle.client_record.specs.Ranges.{holds, meets, Inside, Covered}
@@ -24,9 +24,6 @@ starts f = f .offset
 
 abbrev sizes : Fragment → ℕ
 sizes f = f .length
-
-true-false : true ≡ false → ⊥
-true-false e = let z : _≡_ {A = ℕ} 0 1 = cc in omega arith
 
 not-both : (a : Bool) → (a ≡ true → ⊥) → a ≡ false
 not-both true h = absurd (h refl)

@@ -1,7 +1,7 @@
 -- Laws of the tests and sums over lists: what one more element adds, and the list of a loop that goes through the front of an array.
 -- Assumes nothing.
 use mathlib.Core.Path.{_≡_, refl, sym, ap, ap₂, _∙_}
-use mathlib.Core.Bool.{Bool, true, false, not, _&&_, _||_}
+use mathlib.Core.Bool.{Bool, true, false, not, _&&_, _||_, and-true, and-assoc, or-false, or-assoc}
 use mathlib.Core.List.{List, [], _∷_, _++_, map}
 use Prim.Native.Nat.{ℕ, zero, suc, _+_, _<_, _≤_}
 use native.Mathlib.Numerals.{add-one}
@@ -11,26 +11,6 @@ use lib.Dec.{eqb}
 use lib.ListN.{length, take, drop, getD, length-take, length-map}
 use lib.Seq.{take-suc, drop-cons, getD-take}
 use Rattle.client_record.specs.Lists.{sameBytes, all, any, pairs, sum}
-
-pub and-true : (a : Bool) → a && true ≡ a
-and-true true = refl
-and-true false = refl
-
-pub and-false : (a : Bool) → a && false ≡ false
-and-false true = refl
-and-false false = refl
-
-pub and-assoc : (a b c : Bool) → (a && b) && c ≡ a && (b && c)
-and-assoc true b c = refl
-and-assoc false b c = refl
-
-pub or-false : (a : Bool) → a || false ≡ a
-or-false true = refl
-or-false false = refl
-
-pub or-assoc : (a b c : Bool) → (a || b) || c ≡ a || (b || c)
-or-assoc true b c = refl
-or-assoc false b c = refl
 
 -- the middle two change sides
 pub and-middle : (a b c d : Bool) → (a && b) && (c && d) ≡ (a && c) && (b && d)

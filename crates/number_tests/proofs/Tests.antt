@@ -1,6 +1,6 @@
 -- Laws of tests: what is known where none applies, of two at once, and of a choice by one.
 -- Assumes nothing.
-use mathlib.Core.Path.{_≡_, refl, ap}
+use mathlib.Core.Path.{_≡_, refl, sym, ap}
 use mathlib.Core.Bool.{Bool, true, false, cond, _&&_, _||_}
 use mathlib.Core.List.{List, _∷_}
 use mathlib.Core.Option.{none, some}
@@ -17,12 +17,15 @@ first-none x xs = go (x .0) refl
     go true e q = absurd (let z : _≡_ {A = ℕ} 0 1 = cc in omega arith)
     go false e q = (e, q)
 
+pub true-false : true ≡ false → ⊥
+true-false e = let z : _≡_ {A = ℕ} 0 1 = cc in omega arith
+
 pub both-true : (a b : Bool) → a && b ≡ true → (a ≡ true) × (b ≡ true)
 both-true true b e = (refl, e)
-both-true false b e = absurd (let z : _≡_ {A = ℕ} 0 1 = cc in omega arith)
+both-true false b e = absurd (true-false (sym e))
 
 pub both-false : (a b : Bool) → a || b ≡ false → (a ≡ false) × (b ≡ false)
-both-false true b e = absurd (let z : _≡_ {A = ℕ} 0 1 = cc in omega arith)
+both-false true b e = absurd (true-false e)
 both-false false b e = (refl, e)
 
 module _ {ℓ} {A : Type ℓ} where

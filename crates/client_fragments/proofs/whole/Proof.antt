@@ -2,7 +2,7 @@
 -- of them is the last one, which `past` is the end of (`Passed`). Of all of them the sum decides (`by-sum`).
 -- Assumes nothing.
 use Prim.Native.Nat.{ℕ, _+_, _*_, _-_, _≤_, _<_}
-use mathlib.Core.Bool.{Bool, true, false, _&&_, _||_}
+use mathlib.Core.Bool.{Bool, true, false, _&&_, _||_, or-true, or-false}
 use mathlib.Core.Logic.{⊎-elim}
 use mathlib.Core.Path.{_≡_, refl, sym, ap, ap₂, subst, _∙_}
 use mathlib.Core.List.{List}
@@ -17,13 +17,9 @@ use Rattle.client_record.specs.Lists.{any, sum}
 use Rattle.client_record.specs.Record.{isLast, end, compatible, lastOf, whole, heldFragments}
 use Rattle.client_record.proofs.Completion.{only-last, by-sum}
 use Rattle.client_record.proofs.Held.{none, held-at}
-use Rattle.client_record.proofs.Lists.{any-next, sum-next, or-false}
+use Rattle.client_record.proofs.Lists.{any-next, sum-next}
 use Rattle.client_fragments.proofs.whole.Statement.{statement}
 use Rattle.client_fragments.proofs.whole.Tie as tie
-
-or-true : (a : Bool) → a || true ≡ true
-or-true true = refl
-or-true false = refl
 
 -- ---- what is known of the first i fragments
 

@@ -1,14 +1,13 @@
 -- `client_reassembly::old` meets its contract: without the subtraction, which cannot wrap, the comparison is the definition's (`behind`).
 -- Assumes nothing.
 use Rattle.client_record.specs.Record.{live}
-use Rattle.client_record.proofs.Lists.{and-false}
 use Rattle.client_reassembly.proofs.Laws.{behind}
 use Rattle.client_reassembly.specs.Advance.{old}
 use borrow.Author.Tests.{lt-leb}
 use native.Mathlib.Omega.{arith}
 use Rattle.client_record.specs.Limits.{lifetime}
 use Prim.Native.Nat.{_+_, _<_}
-use mathlib.Core.Bool.{Bool, _&&_}
+use mathlib.Core.Bool.{Bool, _&&_, and-false}
 use mathlib.Core.Path.{sym, ap, ap₂, _∙_}
 use borrow.Author.Needs.{needs}
 use Rattle.client_reassembly.proofs.old.Statement.{statement}

@@ -1,7 +1,7 @@
 -- `client_record_test::spare_fresh` meets its contract: the loop's invariant says that `ok` and the test of the slots from `i` on make the test of all (`all-left`).
 -- Assumes nothing.
 use Rattle.client_record.proofs.Shapes.{slots}
-use Rattle.client_record.proofs.Lists.{all-left, and-assoc, and-true}
+use Rattle.client_record.proofs.Lists.{all-left}
 use Rattle.client_record.proofs.Held.{spare-from}
 use Rattle.client_record.specs.Record.{spareSlots, isFreshFragment}
 use Rattle.client_record.specs.Lists.{all}
@@ -11,7 +11,7 @@ use Rattle.client_record.specs.Limits.{fragmentLimit}
 use lib.Seq.{drop-length}
 use lib.ListN.{length, drop}
 use Prim.Native.Nat.{ℕ, _+_, _-_, _≤_, _<_}
-use mathlib.Core.Bool.{Bool, _&&_}
+use mathlib.Core.Bool.{Bool, _&&_, and-assoc, and-true}
 use mathlib.Core.Path.{_≡_, sym, ap, _∙_}
 use borrow.Author.Needs.{needs}
 use native.Mathlib.Omega.{arith}

@@ -1,12 +1,11 @@
 -- `client_record_test::unused` meets its contract: a live one has a count, and of one that is not live the slots behind the held fragments are all.
 -- Assumes nothing.
-use Rattle.client_record.proofs.Lists.{and-false}
 use Rattle.client_record.proofs.Held.{spare-all}
 use Rattle.client_record.specs.Record.{live, isFreshFragment, isFreshAssembly}
 use Rattle.client_record.specs.Lists.{all}
 use borrow.Author.Tests.{not-true, not-false, eqb-true}
 use lib.Dec.{eqb}
-use mathlib.Core.Bool.{true, false}
+use mathlib.Core.Bool.{true, false, and-false}
 use mathlib.Core.Path.{_≡_, sym, ap, _∙_}
 use borrow.Author.Needs.{needs}
 use Rattle.client_record_test.proofs.unused.Statement.{statement}
