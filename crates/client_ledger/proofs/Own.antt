@@ -2,13 +2,13 @@
 -- its sum.
 -- Assumes nothing.
 use Prim.Native.Nat.{ℕ}
-use mathlib.Core.Path.{_≡_, refl, ap, _∙_}
+use mathlib.Core.Path.{_≡_, refl}
 use mathlib.Core.Bool.{true, false}
 use mathlib.Core.List.{List, [], _∷_, _++_}
 use mathlib.Core.Option.{Option, none, some}
 use Rattle.number_tests.specs.Tests.{firstOf}
 use Rattle.client_reassembly.specs.Answer.{refused}
-use Rattle.client_ledger.specs.Book.{Book, empty, leaving, refuseOr, Call, call, Balanced}
+use Rattle.client_ledger.specs.Book.{Book, empty, leaving, refuseOr, call, Balanced}
 use Rattle.client_ledger.specs.Lent.{misfits, noClient, lentTests, Own, outOf, answered, keeping, bookOf}
 use Rattle.client_ledger.proofs.Sum.{call-balanced, empty-balanced}
 

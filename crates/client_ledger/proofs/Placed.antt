@@ -2,9 +2,9 @@
 -- Assumes nothing.
 use Prim.Native.Nat.{ℕ, _+_, _-_, _<_, _≤_}
 use mathlib.Core.Path.{_≡_, refl, sym, ap, subst, _∙_}
-use mathlib.Core.Bool.{Bool, true, false, _&&_, _||_, cond}
+use mathlib.Core.Bool.{Bool, true, false, _&&_, cond}
 use mathlib.Core.List.{List, [], _∷_, _++_}
-use mathlib.Core.Option.{none, some}
+use mathlib.Core.Option.{some}
 use native.Mathlib.Omega.{arith}
 use lib.Dec.{leb, ltb}
 use lib.ListN.{length, drop, getD, length-append, List·getD-append}
@@ -15,7 +15,7 @@ use Rattle.number_octets.specs.Octets.{part}
 use Rattle.number_octets.proofs.Laws.{length-part}
 use Rattle.client_record.specs.Lists.{all, pairs}
 use Rattle.client_record.proofs.SoundParts.{all-weaker}
-use Rattle.client_ledger.specs.Book.{Content, size, endOf, of, overlap, contradicts, within, lastOne, byteAt, bytesTo, fragment}
+use Rattle.client_ledger.specs.Book.{Content, size, endOf, overlap, contradicts, within, lastOne, byteAt, bytesTo}
 use Rattle.client_ledger.proofs.Apart.{follows}
 use Rattle.client_ledger.proofs.Whole.{bytes-length, byte-placed}
 

@@ -1,7 +1,7 @@
 -- A fragment call leaves the share as long as it was: only a fragment that joins is written, and that lies in its place's part of the share. This
 -- is a law of the record's own rules; the book has no part in it.
 -- Assumes nothing.
-use Prim.Native.Nat.{ℕ, _+_, _*_, _<_, _≤_}
+use Prim.Native.Nat.{ℕ, _+_, _<_, _≤_}
 use mathlib.Core.Path.{_≡_, refl, sym, subst, _∙_}
 use mathlib.Core.Bool.{Bool, true, false, cond}
 use mathlib.Core.List.{List}

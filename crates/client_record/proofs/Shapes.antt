@@ -1,7 +1,6 @@
 -- How many assemblies a record has and how many slots an assembly, from what a function is told of a parameter on entry. The one place
 -- that says where these fields stand in their structs.
 -- Assumes nothing.
-use Prim.Native.Nat.{ℕ}
 use mathlib.Core.Path.{_≡_}
 use mathlib.Core.List.{List}
 use lib.ListN.{length}

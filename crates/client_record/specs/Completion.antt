@@ -1,5 +1,4 @@
 -- Document 02, R-3: the completion test as one sum over fragments of which none contradicts another.
-use Prim.Native.Nat.{ℕ}
 use mathlib.Core.Path.{_≡_}
 use mathlib.Core.Bool.{true, false}
 use mathlib.Core.List.{List}

@@ -7,19 +7,18 @@ use mathlib.Core.Path.{_≡_, refl, sym, ap, ap₂, subst, _∙_}
 use mathlib.Core.Bool.{Bool, true, false, cond}
 use mathlib.Core.List.{List, [], _∷_}
 use lib.Dec.{eqb, ltb}
-use lib.ListN.{length, length-replicate, getD, replicate, getD-replicate}
+use lib.ListN.{length, length-replicate, getD, replicate}
 use borrow.Author.Tests.{eqb-true, eqb-false, ltb-true, ltb-false}
 use Rattle.client_record.specs.declared.Client.{Client}
 use Rattle.client_record.specs.Record.{freshClient, figureSum, soundRecord}
 use Rattle.client_record.proofs.SoundParts.{sound-parts}
-use Rattle.client_reassembly.specs.Answer.{refused, ready}
 use Rattle.client_reassembly.proofs.Lasting.{fresh-client-sound, fresh-client-shaped}
 use Rattle.client_ledger.specs.Shapes.{Shaped}
 use Rattle.client_ledger.specs.History.{Lent, Ask, Given, callOn}
 use Rattle.table_calls.specs.Table.{Table, lentOf, sized, shareOf, recordOf, After, cleared, resetOn, afterCall, askOn}
-use Rattle.table_calls.specs.Events.{Lending, current, another, Event, resetting, asking, tableFor, next, final, givenBy, gives, Allowed, Keeps, ownOnly}
+use Rattle.table_calls.specs.Events.{current, another, Event, resetting, asking, next, final, givenBy, gives, Allowed, Keeps, ownOnly}
 use Rattle.table_calls.specs.Apart.{Sums, Formed, Tested, Same, Apart}
-use Rattle.table_calls.proofs.Facts.{share-length, misfit-is, unknown-is, granted-is, reset-refused, reset-taken}
+use Rattle.table_calls.proofs.Facts.{share-length, unknown-is, granted-is, reset-taken}
 use Rattle.table_calls.proofs.PutBack.{unknown-table, asked-record, asked-share, asked-sizes, asked-other, asked-formed, asked-tested}
 
 -- ---- the sum is in the record test

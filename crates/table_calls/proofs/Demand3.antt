@@ -18,7 +18,7 @@ use Rattle.client_reassembly.specs.Answer.{refused, delivered}
 use Rattle.client_reassembly.specs.Advance.{figures}
 use Rattle.client_ledger.specs.Book as Book
 use Rattle.client_ledger.specs.Book.{Content, size, endOf, lastOne, bytesTo, fragment}
-use Rattle.client_ledger.specs.Lent.{misfits, Own, answered, bookOf}
+use Rattle.client_ledger.specs.Lent.{Own, answered, bookOf}
 use Rattle.client_ledger.specs.Stands.{Stands, offerOf}
 use Rattle.client_ledger.specs.History.{Lent, Ask, offering, Given}
 use Rattle.client_ledger.specs.Whole.{Whole, handed, Taken, assembled}

@@ -9,10 +9,10 @@ use lib.Dec.{eqb}
 use borrow.Author.Tests.{eqb-true}
 use Rattle.client_reassembly.specs.Answer.{refused, ready}
 use Rattle.client_ledger.specs.Lent.{Own, answered, bookOf}
-use Rattle.client_ledger.specs.History.{Lent, Ask, Given}
+use Rattle.client_ledger.specs.History.{Lent}
 use Rattle.table_calls.specs.Table.{Table, lentOf, sized, resetOn, askOn}
 use Rattle.table_calls.specs.Events.{Lending, current, another, Event, resetting, asking, tableFor, next, final, givenBy, gives, Keeps}
-use Rattle.table_calls.specs.Owed.{sizesFor, ownCall, sizesAfter, pastAfter, history, givenIn, resetOwes, owes}
+use Rattle.table_calls.specs.Owed.{sizesFor, ownCall, pastAfter, history, givenIn, resetOwes, owes}
 use Rattle.table_calls.proofs.Facts.{reset-refused, reset-taken}
 use Rattle.table_calls.proofs.Tests.{misfit-agrees}
 use Rattle.table_calls.proofs.Steps.{Holds, call-answer, event-next}

@@ -19,7 +19,7 @@ use Rattle.client_record.specs.Limits.{shareSize}
 use Rattle.client_record.specs.Record.{freshClient, soundRecord}
 use Rattle.client_reassembly.specs.Answer.{advanced}
 use Rattle.client_reassembly.specs.Advance as Advance
-use Rattle.client_reassembly.specs.Advance.{elapse, advanceOn, accountOn}
+use Rattle.client_reassembly.specs.Advance.{elapse, advanceOn}
 use Rattle.client_reassembly.specs.Offer.{Outcome}
 use Rattle.client_reassembly.specs.Shapes as Record
 use Rattle.client_reassembly.proofs.Lasting.{elapse-shaped, fragment-call-sound, fragment-call-shaped, advance-call-sound}

@@ -13,7 +13,7 @@ use Rattle.client_record.specs.declared.Client.{Client}
 use Rattle.client_reassembly.specs.Answer.{refused}
 use Rattle.client_ledger.specs.Book.{Book, Result, empty, leaving, call}
 use Rattle.client_ledger.specs.Lent.{misfits, noClient, Own, outOf, answered, bookOf}
-use Rattle.client_ledger.specs.Stands.{Stands, Fulfils}
+use Rattle.client_ledger.specs.Stands.{Stands}
 use Rattle.client_ledger.specs.History.{Lent, Ask, offering, advancing, accounting, callOn}
 use Rattle.client_ledger.specs.Bookkeeping.{callOf}
 use Rattle.client_ledger.proofs.Theorem.{one-client-theorem}

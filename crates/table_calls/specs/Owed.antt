@@ -5,7 +5,7 @@ use mathlib.Core.List.{List, [], _∷_, _++_}
 use lib.Dec.{eqb}
 use mathlib.Core.Bool.{cond}
 use Rattle.client_reassembly.specs.Answer.{refused, ready}
-use Rattle.client_ledger.specs.Book.{Book, Result}
+use Rattle.client_ledger.specs.Book.{Result}
 use Rattle.client_ledger.specs.Lent.{misfits, Own, answered, bookOf}
 use Rattle.client_ledger.specs.History.{Lent, Ask, Given}
 use Rattle.client_ledger.specs.Bookkeeping.{callOf}

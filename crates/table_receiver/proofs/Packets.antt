@@ -2,9 +2,9 @@
 -- fragment is no event.
 -- Assumes nothing.
 use Prim.Native.Nat.{ℕ, _<_}
-use mathlib.Core.Path.{_≡_, refl, sym, ap, ap₂, subst, _∙_}
+use mathlib.Core.Path.{_≡_, refl, sym, ap, subst, _∙_}
 use mathlib.Core.Bool.{Bool, true, false, cond}
-use mathlib.Core.List.{List, [], _∷_, _++_, append-assoc}
+use mathlib.Core.List.{List, [], _∷_, _++_}
 use mathlib.Core.Option.{Option, none, some}
 use mathlib.Core.Logic.{_↔_}
 use native.Mathlib.Omega.{arith}
@@ -21,27 +21,13 @@ use Rattle.client_ledger.specs.Book.{Content, size}
 use Rattle.client_ledger.specs.Whole.{Whole, handed, Taken, assembled}
 use Rattle.client_ledger.specs.History.{Given}
 use Rattle.table_calls.specs.Table.{Table, lentOf, shareOf, recordOf, askOn}
-use Rattle.table_calls.specs.Events.{Lending, current, another, Event, resetting, asking, tableFor, next, final, givenBy, gives, ownOnly}
+use Rattle.table_calls.specs.Events.{current, another, Event, resetting, asking, tableFor, next, final, givenBy, gives, ownOnly}
 use Rattle.table_calls.specs.Owed.{owes}
 use Rattle.table_calls.specs.Apart.{Sums}
 use Rattle.table_calls.specs.Demand3 as Table
 use Rattle.table_calls.specs.Demand3.{Terms}
 use Rattle.table_calls.proofs.Demand3.{demand-3}
-use Rattle.table_receiver.specs.Receive.{
-  pieceIn,
-  arrivalOf,
-  bytesOf,
-  Packet,
-  readingOf,
-  offerOf,
-  Fate,
-  offered,
-  Receipt,
-  fateOf,
-  taking,
-  receiving,
-  receiveOn,
-}
+use Rattle.table_receiver.specs.Receive.{pieceIn, arrivalOf, bytesOf, Packet, readingOf, offerOf, offered, Receipt, fateOf, receiving, receiveOn}
 use Rattle.table_receiver.specs.Packets.{
   Call,
   setUp,

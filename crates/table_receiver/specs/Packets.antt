@@ -9,7 +9,7 @@ use lib.Dec.{eqb}
 use lib.ListN.{length}
 use mathlib.Core.Bool.{cond}
 use Rattle.number_octets.specs.Octets.{part}
-use Rattle.client_reassembly.specs.Answer.{Reply, refused, delivered}
+use Rattle.client_reassembly.specs.Answer.{refused, delivered}
 use Rattle.client_reassembly.specs.Advance.{figures}
 use Rattle.wire_area.specs.declared.Fragment.{Fragment}
 use Rattle.client_ledger.specs.Book as Book

@@ -3,8 +3,8 @@
 -- `tools/lent/transplant.py` makes the modules below.
 -- Assumes nothing.
 use Prim.Native.Nat.{ℕ, _+_, _-_, _*_, _<_}
-use mathlib.Core.Path.{_≡_, refl, sym, ap, subst, _∙_}
-use mathlib.Core.Bool.{true, false}
+use mathlib.Core.Path.{_≡_, sym, ap, subst, _∙_}
+use mathlib.Core.Bool.{true}
 use mathlib.Core.List.{List, _++_}
 use native.Mathlib.Omega.{arith}
 use lib.ListN.{length, take, drop, set}
@@ -21,7 +21,7 @@ use Rattle.client_reassembly.specs.declared.Arrival.{Arrival}
 use Rattle.client_reassembly.specs.declared.Step.{Step}
 use Rattle.client_reassembly.specs.Offer.{fragmentOn}
 use Rattle.client_reassembly.specs.Post.{Left}
-use Rattle.client_ledger.specs.History.{Ask, offering}
+use Rattle.client_ledger.specs.History.{offering}
 use Rattle.table_calls.specs.Table.{Table, lentOf, sized, shareOf, recordOf, askOn, tableOf, Leaves}
 use Rattle.table_calls.proofs.Facts.{share-fits, share-cut}
 use Rattle.table_calls.proofs.Contracts.{misfit-leaves, unknown-leaves, granted-leaves}

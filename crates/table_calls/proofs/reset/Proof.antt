@@ -3,7 +3,6 @@
 -- Assumes nothing.
 use Prim.Native.Nat.{ℕ, _-_, _≤_, _<_, zero-le}
 use mathlib.Core.Path.{_≡_, refl, sym, ap, subst, _∙_}
-use mathlib.Core.Bool.{true, false}
 use mathlib.Core.List.{List, _++_}
 use native.Mathlib.Omega.{arith}
 use lib.ListN.{length, set, drop, replicate, length-set}
@@ -11,8 +10,7 @@ use borrow.Author.Needs.{needs}
 use borrow.Author.Tests.{not-true, not-false}
 use Rattle.client_record.specs.declared.Client.{Client}
 use Rattle.client_record.specs.Limits.{clientLimit}
-use Rattle.client_reassembly.specs.Answer.{replyOf}
-use Rattle.table_calls.specs.Table.{sized, tableOf, lentOf}
+use Rattle.table_calls.specs.Table.{sized, tableOf}
 use Rattle.table_calls.proofs.Facts.{fits, reset-refused-leaves, reset-leaves}
 use Rattle.table_calls.proofs.Contracts.{fill-none, fill-more, filled-all}
 use Rattle.table_calls.proofs.reset.Statement.{statement}

@@ -1,6 +1,6 @@
 -- `table_calls::sized` meets its contract: each test that applies makes the definition false, and behind them it is the last test.
 -- Assumes nothing.
-use mathlib.Core.Path.{sym, _∙_}
+use mathlib.Core.Path.{sym}
 use borrow.Author.Needs.{needs}
 use Rattle.client_record.specs.Limits.{shareSize, clientLimit}
 use Rattle.table_calls.proofs.Facts.{too-few, too-many, by-store}
