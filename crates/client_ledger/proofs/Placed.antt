@@ -9,11 +9,14 @@ use native.Mathlib.Omega.{arith}
 use lib.Dec.{leb, ltb}
 use lib.ListN.{length, drop, getD, length-append, List·getD-append}
 use lib.Seq.{getD-take, getD-drop, ext-getD}
-use borrow.Author.Tests.{ltb-true, ltb-false, leb-true, lt-ltb, le-leb, not-true}
-use Rattle.number_tests.proofs.Tests.{true-false, both-true, both-false, cond-yes}
+use borrow.Author.Tests.{leb-true, lt-ltb, le-leb, not-true}
+use Rattle.number_tests.proofs.Tests.{true-false, both-true, cond-yes}
 use Rattle.number_octets.specs.Octets.{part}
 use Rattle.number_octets.proofs.Laws.{length-part}
 use Rattle.client_record.specs.Lists.{all, pairs}
+use Rattle.client_record.specs.Ranges.{holds, meets}
+use Rattle.client_record.proofs.Ranges
+use Rattle.client_record.proofs.Ranges.{Agree}
 use Rattle.client_record.proofs.SoundParts.{all-weaker}
 use Rattle.client_ledger.specs.Book.{Content, size, endOf, overlap, contradicts, within, lastOne, byteAt, bytesTo}
 use Rattle.client_ledger.proofs.Apart.{follows}
@@ -21,37 +24,14 @@ use Rattle.client_ledger.proofs.Whole.{bytes-length, byte-placed}
 
 -- ---- what it means for two fragments
 
-and-second : (a b : Bool) → a ≡ true → a && b ≡ false → b ≡ false
-and-second true b p e = e
-and-second false b p e = absurd (true-false (sym p))
+agree : (f g : Content) → follows f g ≡ true → Agree (λ c. c .place) size (λ c. c .last) g f
+unfolding contradicts overlap endOf meets
+agree f g h = Ranges.agree (λ c. c .place) size (λ c. c .last) g f (not-true (contradicts g f) h)
 
--- the earlier f and the later g
-module _ (f g : Content) (h : follows f g ≡ true) where
-  parts : (overlap g f ≡ false) × ((f .last && ltb (endOf f) (endOf g) ≡ false) × (g .last && ltb (endOf g) (endOf f) ≡ false))
-  unfolding contradicts
-  parts =
-      let a = both-false (overlap g f) _ (not-true _ h) in
-      let b = both-false (g .last && f .last) _ (a .1) in
-      let c = both-false (f .last && ltb (endOf f) (endOf g)) _ (b .1) in
-      (a .0, (c .0, c .1))
-
-  -- no place is in both
-  pub no-place : (i : ℕ) → within i f ≡ true → within i g ≡ true → ⊥
-  unfolding overlap within
-  no-place i p q =
-      let a = both-true (leb (f .place) i) (ltb i (endOf f)) p in
-      let b = both-true (leb (g .place) i) (ltb i (endOf g)) q in
-      let first : ltb (g .place) (endOf f) ≡ true =
-      lt-ltb (g .place) (endOf f) (omega (arith, leb-true (g .place) i (b .0), ltb-true i (endOf f) (a .1))) in
-      let second : ltb (f .place) (endOf g) ≡ false = and-second (ltb (g .place) (endOf f)) (ltb (f .place) (endOf g)) first (parts .0) in
-      omega (arith, leb-true (f .place) i (a .0), ltb-true i (endOf g) (b .1), ltb-false (f .place) (endOf g) second)
-
-  -- neither ends past the other if that is the last one
-  later-ends : f .last ≡ true → endOf g ≤ endOf f
-  later-ends l = ltb-false (endOf f) (endOf g) (and-second (f .last) (ltb (endOf f) (endOf g)) l (parts .1 .0))
-
-  earlier-ends : g .last ≡ true → endOf f ≤ endOf g
-  earlier-ends l = ltb-false (endOf g) (endOf f) (and-second (g .last) (ltb (endOf g) (endOf f)) l (parts .1 .1))
+-- no place is in both
+pub no-place : (f g : Content) → follows f g ≡ true → (i : ℕ) → within i f ≡ true → within i g ≡ true → ⊥
+unfolding within endOf holds
+no-place f g h i p q = true-false (sym (Ranges.held-meets (λ c. c .place) size i g f q p) ∙ agree f g h .apart)
 
 -- ---- lists of fragments
 
@@ -84,7 +64,7 @@ last-in q (f ∷ cs) l h e = go (f .last) (last-in q cs l (b .1)) e
 
 -- none ends past the last one
 last-ends : (cs : List Content) (l : Content) → pairs follows cs ≡ true → lastOne cs ≡ some l → all (λ c. leb (endOf c) (endOf l)) cs ≡ true
-unfolding pairs lastOne all
+unfolding pairs lastOne all endOf
 last-ends [] l h e = refl
 last-ends (f ∷ cs) l h e = go (f .last) refl (last-ends cs l (b .1)) e
   where
@@ -96,12 +76,12 @@ last-ends (f ∷ cs) l h e = go (f .last) refl (last-ends cs l (b .1)) e
     go true p ih e =
         let same : f ≡ l = cc in
         let rest : all (λ c. leb (endOf c) (endOf f)) cs ≡ true =
-        all-weaker (follows f) (λ c. leb (endOf c) (endOf f)) (λ c q. le-leb (endOf c) (endOf f) (later-ends f c q p)) cs (b .0) in
+        all-weaker (follows f) (λ c. leb (endOf c) (endOf f)) (λ c q. le-leb (endOf c) (endOf f) (agree f c q .first-ends p)) cs (b .0) in
         subst (λ (m : Content). leb (endOf f) (endOf m) && all (λ c. leb (endOf c) (endOf m)) cs ≡ true) same
         (ap (λ (z : Bool). z && all (λ c. leb (endOf c) (endOf f)) cs) (le-leb (endOf f) (endOf f) (omega arith)) ∙ rest)
     go false p ih e =
         ap (λ (z : Bool). z && all (λ c. leb (endOf c) (endOf l)) cs)
-        (le-leb (endOf f) (endOf l) (earlier-ends f l (last-in (follows f) cs l (b .0) e) (last-marked cs l e)))
+        (le-leb (endOf f) (endOf l) (agree f l (last-in (follows f) cs l (b .0) e) .second-ends (last-marked cs l e)))
         ∙ ih e
 
 -- the byte at a place of g is g's

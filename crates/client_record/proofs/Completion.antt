@@ -1,7 +1,7 @@
 -- The completion test by a sum: fragments of which none contradicts another lie without overlap inside 0 to the end of the last one, so the law of
 -- ranges decides whether they cover it.
 -- Assumes nothing.
-use Prim.Native.Nat.{ℕ, zero, suc, _+_, _<_, _≤_}
+use Prim.Native.Nat.{ℕ, zero, suc, _+_, _<_}
 use mathlib.Core.Path.{_≡_, refl, sym, ap, ap₂, _∙_}
 use mathlib.Core.Bool.{Bool, true, false, not, _&&_, _||_, cond}
 use mathlib.Core.List.{List, [], _∷_}
@@ -10,13 +10,14 @@ use native.Mathlib.Omega.{arith}
 use lib.Dec.{eqb, leb, ltb}
 use lib.ListN.{length, getD}
 use borrow.Author.Tests.{ltb-true, ltb-false, le-leb, eq-eqb, ne-eqb, not-true}
-use Rattle.number_tests.proofs.Tests.{true-false, both-true, both-false, cond-yes, cond-no}
+use Rattle.number_tests.proofs.Tests.{true-false, both-true, cond-yes, cond-no}
 use Rattle.client_record.specs.declared.Fragment.{Fragment}
 use Rattle.client_record.specs.Lists.{all, any, pairs, sum}
 use Rattle.client_record.specs.Ranges.{holds, meets, Inside, Covered}
 use Rattle.client_record.specs.Record.{freshFragment, isLast, end, covers, overlaps, bothLast, outruns, conflicts, compatible, coveredTo, lastOf, whole}
 use Rattle.client_record.specs.Completion.{BySum}
-use Rattle.client_record.proofs.Ranges.{sum-law}
+use Rattle.client_record.proofs.Ranges
+use Rattle.client_record.proofs.Ranges.{Agree, sum-law}
 use Rattle.client_record.proofs.SoundParts.{all-at, all-weaker, pairs-weaker}
 
 abbrev starts : Fragment → ℕ
@@ -52,24 +53,9 @@ each-covered (suc n) fs c = ap₂ _&&_ (each-covered n fs (λ i h. c i (omega ar
 
 -- ---- two fragments that do not contradict each other
 
-record Agree (f g : Fragment) : Type 0 where
-  apart : not (meets starts sizes f g) ≡ true
-  one-last : isLast f ≡ true → isLast g ≡ true → ⊥
-  first-ends : isLast g ≡ true → end f ≤ end g
-  second-ends : isLast f ≡ true → end g ≤ end f
-
-agree : (f g : Fragment) → not (conflicts f g) ≡ true → Agree f g
+agree : (f g : Fragment) → not (conflicts f g) ≡ true → Agree starts sizes isLast f g
 unfolding conflicts overlaps bothLast outruns meets end
-agree f g h =
-    let a = both-false (overlaps f g) _ (not-true (conflicts f g) h) in
-    let b = both-false (bothLast f g) _ (a .1) in
-    let c = both-false (outruns f g) _ (b .1) in
-    record {
-      apart = ap not (a .0);
-      one-last = λ p q. true-false (sym (ap₂ _&&_ p q) ∙ b .0);
-      first-ends = λ p. ltb-false (end g) (end f) (sym (ap (λ (x : Bool). x && ltb (end g) (end f)) p) ∙ c .0);
-      second-ends = λ p. ltb-false (end f) (end g) (sym (ap (λ (x : Bool). x && ltb (end f) (end g)) p) ∙ c .1);
-    }
+agree f g h = Ranges.agree starts sizes isLast f g (not-true (conflicts f g) h)
 
 -- ---- the last one of several
 
@@ -131,7 +117,7 @@ module _ (fs : List Fragment) (h : compatible fs ≡ true) where
   unfolding compatible
   inside e = record {
     within = last-ends fs h e;
-    apart = pairs-weaker (λ f g. not (conflicts f g)) (λ f g. not (meets starts sizes f g)) (λ f g q. agree f g q .apart) fs h;
+    apart = pairs-weaker (λ f g. not (conflicts f g)) (λ f g. not (meets starts sizes f g)) (λ f g q. ap not (agree f g q .apart)) fs h;
   }
 
   pub by-sum : BySum fs

@@ -1,15 +1,15 @@
--- The law of R-3, by counting: ranges without overlap hold as many places before n as their sizes sum to, if none ends past n, and n places before n
--- are all of them.
+-- Laws of ranges. That of R-3 is by counting: ranges without overlap hold as many places before n as their sizes sum to, if none ends past n, and n
+-- places before n are all of them.
 -- Assumes nothing.
 use Prim.Native.Nat.{ℕ, zero, suc, _+_, _-_, _<_, _≤_}
-use mathlib.Core.Path.{_≡_, refl, sym, ap, _∙_}
+use mathlib.Core.Path.{_≡_, refl, sym, ap, ap₂, _∙_}
 use mathlib.Core.Bool.{Bool, true, false, not, _&&_, _||_, or-false}
 use mathlib.Core.List.{List, [], _∷_}
 use native.Mathlib.Nat.{not-suc-le-zero}
 use native.Mathlib.Omega.{arith}
 use lib.Dec.{leb, ltb}
 use borrow.Author.Tests.{leb-true, leb-false, ltb-true, ltb-false, lt-ltb, not-true}
-use Rattle.number_tests.proofs.Tests.{both-true}
+use Rattle.number_tests.proofs.Tests.{true-false, both-true, both-false}
 use Rattle.client_record.specs.Lists.{all, any, pairs, sum}
 use Rattle.client_record.specs.Ranges.{holds, meets, Inside, Covered, SumLaw}
 
@@ -26,7 +26,43 @@ module _ {A : Type 0} (start size : A → ℕ) where
   abbrev stop : A → ℕ
   stop x = start x + size x
 
-  -- how many places before n are held
+  -- ---- two ranges
+
+  -- a place in both makes them meet
+  pub held-meets : (i : ℕ) (x y : A) → holds start size i x ≡ true → holds start size i y ≡ true → meets start size x y ≡ true
+  unfolding holds meets
+  held-meets i x y p q =
+      let f = both-true (leb (start x) i) (ltb i (stop x)) p in
+      let g = both-true (leb (start y) i) (ltb i (stop y)) q in
+      ap₂ _&&_ (lt-ltb (start x) (stop y) (omega (arith, leb-true (start x) i (f .0), ltb-true i (stop y) (g .1))))
+      (lt-ltb (start y) (stop x) (omega (arith, leb-true (start y) i (g .0), ltb-true i (stop x) (f .1))))
+
+  -- where one of them may be marked last: what two have that do not contradict each other
+  module _ (last : A → Bool) where
+    abbrev contradicts : A → A → Bool
+    contradicts x y =
+        meets start size x y || ((last x && last y) || ((last y && ltb (stop y) (stop x)) || (last x && ltb (stop x) (stop y))))
+
+    pub record Agree (x y : A) : Type 0 where
+      pub apart : meets start size x y ≡ false
+      pub one-last : last x ≡ true → last y ≡ true → ⊥
+      pub first-ends : last y ≡ true → stop x ≤ stop y
+      pub second-ends : last x ≡ true → stop y ≤ stop x
+
+    pub agree : (x y : A) → contradicts x y ≡ false → Agree x y
+    agree x y h =
+        let a = both-false (meets start size x y) _ h in
+        let b = both-false (last x && last y) _ (a .1) in
+        let c = both-false (last y && ltb (stop y) (stop x)) _ (b .1) in
+        record {
+          apart = a .0;
+          one-last = λ p q. true-false (sym (ap₂ _&&_ p q) ∙ b .0);
+          first-ends = λ p. ltb-false (stop y) (stop x) (sym (ap (λ (z : Bool). z && ltb (stop y) (stop x)) p) ∙ c .0);
+          second-ends = λ p. ltb-false (stop x) (stop y) (sym (ap (λ (z : Bool). z && ltb (stop x) (stop y)) p) ∙ c .1);
+        }
+
+  -- ---- how many places before n are held
+
   count : ℕ → List A → ℕ
   count zero xs = 0
   count (suc n) xs = count n xs + one (any (holds start size n) xs)
@@ -67,7 +103,7 @@ module _ {A : Type 0} (start size : A → ℕ) where
   -- a place that one range holds is in none that does not meet it
   held-once : (i : ℕ) (x : A) (xs : List A) → all (λ y. not (meets start size x y)) xs ≡ true → holds start size i x ≡ true
       → any (holds start size i) xs ≡ false
-  unfolding all any holds meets
+  unfolding all any
   held-once i x [] h e = refl
   held-once i x (y ∷ xs) h e = go (holds start size i y) refl (held-once i x xs (b .1) e)
     where
@@ -75,15 +111,7 @@ module _ {A : Type 0} (start size : A → ℕ) where
       b = both-true (not (meets start size x y)) (all (λ z. not (meets start size x z)) xs) h
 
       go : (t : Bool) → holds start size i y ≡ t → any (holds start size i) xs ≡ false → t || any (holds start size i) xs ≡ false
-      go true p ih =
-          let f = both-true (leb (start x) i) (ltb i (stop x)) e in
-          let g = both-true (leb (start y) i) (ltb i (stop y)) p in
-          let x-first : start x ≤ i = leb-true (start x) i (f .0) in
-          let y-first : start y ≤ i = leb-true (start y) i (g .0) in
-          let one-way : ltb (start x) (stop y) ≡ true = lt-ltb (start x) (stop y) (omega (arith, ltb-true i (stop y) (g .1))) in
-          let other-way : ltb (start y) (stop x) ≡ true = lt-ltb (start y) (stop x) (omega (arith, ltb-true i (stop x) (f .1))) in
-          let no : meets start size x y ≡ false = not-true (meets start size x y) (b .0) in
-          absurd (let z : _≡_ {A = ℕ} 0 1 = cc in omega arith)
+      go true p ih = absurd (true-false (sym (held-meets i x y e p) ∙ not-true (meets start size x y) (b .0)))
       go false p ih = ih
 
   count-cons : (n : ℕ) (x : A) (xs : List A) → all (λ y. not (meets start size x y)) xs ≡ true
