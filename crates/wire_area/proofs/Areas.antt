@@ -15,7 +15,6 @@ use lib.Seq.{drop-cons}
 use Rattle.number_offsets.specs.Offsets.{placeOf}
 use Rattle.number_offsets.specs.declared.Origin.{Origin}
 use Rattle.number_offsets.specs.declared.Origin.the-variants.{At, BeforeData}
-use Rattle.number_octets.specs.Octets.{part}
 use Rattle.wire_options.specs.Kinds.{classOf, eol, nop, frag}
 use Rattle.wire_options.specs.Step.{stepOf}
 use Rattle.wire_options.specs.Walk.{Item, Walked, listed, faulty, walkFrom, optionLimit}

@@ -16,8 +16,7 @@ use Rattle.wire_options.specs.declared.step.Class.{Class}
 use Rattle.wire_options.specs.declared.step.Class.the-variants.{EndOfList, NoOperation, Fixed, Varying, Unsafe}
 use Rattle.wire_options.specs.declared.step.Header.{Header}
 use Rattle.wire_options.specs.declared.step.Header.the-variants.{Sound, Broken}
-use Rattle.wire_options.specs.declared.step.Step.{Step}
-use Rattle.wire_options.specs.declared.step.Step.the-variants.{End, Eol, Nop, Found, Malformed, Outlawed}
+use Rattle.wire_options.specs.declared.step.Step.the-variants.{Found, Malformed}
 
 -- ---- headers
 

@@ -1,7 +1,7 @@
 -- `number_checksum::add` meets its contract. The loop's invariant: the folded sum with what is left is that of the whole; a block has an even
 -- length, so parity stays, and folding early changes nothing (`folded-add`).
 -- Assumes nothing.
-use mathlib.Core.Path.{_≡_, refl, sym, ap, ap₂, _∙_}
+use mathlib.Core.Path.{_≡_, refl, ap, ap₂, _∙_}
 use mathlib.Core.List.{List}
 use Prim.Native.Nat.{ℕ, _+_, _-_, _≤_}
 use native.Mathlib.Omega.{arith}
@@ -9,7 +9,7 @@ use borrow.Author.Needs.{needs}
 use lib.ListN.{length, take, drop, length-take, length-drop}
 use lib.Seq.{drop-drop, take-all}
 use Rattle.number_checksum.specs.Checksum.{allOnes, folded, wordSum}
-use Rattle.number_checksum.proofs.Laws.{folded-le, folded-add, wordSum-cut}
+use Rattle.number_checksum.proofs.Laws.{folded-add, wordSum-cut}
 use Rattle.number_checksum.proofs.add.Statement.{statement}
 use Rattle.number_checksum.proofs.add.Tie as tie
 

@@ -1,15 +1,14 @@
 -- `wire_area::behind_frag` meets its contract: the arm knows what FRAG's tests came to, at which `behindFrag` computes.
 -- Assumes nothing.
 use mathlib.Core.Path.{_≡_, refl, sym, ap, ap₂, _∙_}
-use mathlib.Core.Bool.{Bool, true, false}
+use mathlib.Core.Bool.{Bool}
 use mathlib.Core.List.{List}
 use Prim.Native.Nat.{ℕ, _+_, _-_, _≤_}
 use native.Mathlib.Omega.{arith}
 use lib.ListN.{length}
 use Rattle.number_octets.specs.Octets.{part}
-use Rattle.wire_area.specs.Area.{behindFrag, fragmentOf, areaAnswer, pieceWith}
+use Rattle.wire_area.specs.Area.{behindFrag, areaAnswer, pieceWith, asPiece}
 use Rattle.wire_options.specs.Walk.{Walked, walkFrom, walkAnswer, optionLimit, listed, faulty}
-use Rattle.wire_area.specs.Area.{asPiece}
 use Rattle.wire_area.specs.declared.Fragment.{Fragment}
 use Rattle.wire_area.specs.declared.Placed.{Placed}
 use Rattle.wire_area.proofs.Areas.{fragment-within}

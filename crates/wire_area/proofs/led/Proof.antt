@@ -1,16 +1,15 @@
 -- `wire_area::led` meets its contract: the arm of the match is the step at FRAG, at which `ledBy` computes.
 -- Assumes nothing.
-use Rattle.wire_area.specs.Area.{fragmentOf, behindFrag}
+use Rattle.wire_area.specs.Area.{fragmentOf, behindFrag, fieldsOf, ledBy, areaAnswer}
 use Rattle.wire_area.specs.declared.Fields.{Fields}
 use mathlib.Core.Path.{_≡_, sym, ap, _∙_}
 use mathlib.Core.List.{List}
-use Prim.Native.Nat.{ℕ, _+_, _-_, _≤_, _<_}
+use Prim.Native.Nat.{ℕ, _+_, _-_, _≤_}
 use native.Mathlib.Nat.{add-zero}
 use native.Mathlib.Omega.{arith}
 use lib.ListN.{length, drop, take, getD, length-drop}
 use lib.Seq.{take-all, getD-drop}
 use Rattle.wire_options.specs.Step.{stepOf}
-use Rattle.wire_area.specs.Area.{fieldsOf, ledBy, areaAnswer}
 use Rattle.wire_options.specs.declared.step.Step.{Step}
 use Rattle.wire_options.specs.declared.step.Step.the-variants.{Found}
 use Rattle.wire_area.proofs.Areas.{frag-found}

@@ -1,12 +1,11 @@
 -- `wire_original::reread` meets its contract: the code makes the papers' tests in order, and the arm knows how the area starts.
 -- Assumes nothing.
 use mathlib.Core.Path.{_≡_, sym, ap, _∙_}
-use mathlib.Core.Bool.{Bool, true}
-use mathlib.Core.List.{List}
+use mathlib.Core.Bool.{true}
 use Prim.Native.Nat.{ℕ, _+_, _-_, _%_, _≤_}
 use native.Mathlib.Omega.{arith}
 use lib.Dec.{eqb}
-use lib.ListN.{length, drop, length-take, length-drop}
+use lib.ListN.{length, drop, length-drop}
 use lib.Seq.{take-all}
 use Rattle.number_offsets.specs.Offsets.{udpHeader}
 use Rattle.wire_surplus.specs.Surplus.{startOf}

@@ -1,7 +1,7 @@
 -- `wire_options::walk::walk_list` meets its contract. The loop's invariant: what the walk tells of the whole list is what it tells of the rest
 -- with the options passed before it (`behind`); each turn carries it on (`turn-goes`).
 -- Assumes nothing.
-use mathlib.Core.Path.{_≡_, refl, sym, ap, ap₂, _∙_}
+use mathlib.Core.Path.{_≡_, sym, ap, ap₂, _∙_}
 use mathlib.Core.List.{List}
 use Prim.Native.Nat.{ℕ, _+_, _-_, _≤_, _<_}
 use native.Mathlib.Nat.{add-zero}
@@ -13,7 +13,7 @@ use Rattle.wire_options.specs.Progress.{progressOf}
 use Rattle.wire_options.specs.Walk.{walkAnswer, walkFrom}
 use Rattle.wire_options.specs.declared.walk.Apcs.{Apcs}
 use Rattle.wire_options.specs.declared.walk.Apcs.the-variants.{Absent}
-use Rattle.wire_options.specs.declared.walk.Walk.the-variants.{Listed, Faulty}
+use Rattle.wire_options.specs.declared.walk.Walk.the-variants.{Listed}
 use Rattle.wire_options.proofs.Walks.{Goes, behind, behind-none, turn-on, joined-absent, progress-goes, turn-ended, turn-failed, told-none}
 use Rattle.wire_options.proofs.walk.walk_list.Statement.{statement}
 use Rattle.wire_options.proofs.walk.walk_list.Tie as tie
