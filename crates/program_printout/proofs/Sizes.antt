@@ -20,9 +20,10 @@ use Rattle.wire_datagram.specs.declared.reading.Reading.{Reading}
 use Rattle.wire_datagram.specs.declared.reading.Verdict.{Verdict}
 use Rattle.wire_datagram.specs.declared.reading.Verdict.the-variants.{Bare, Short, Pad, Unsummed, BadSum, Malformed, Unsafe, FragData, Crowded, Read, Piece}
 use Rattle.wire_datagram.proofs.Claims.{met-none}
+use Rattle.wire_options.specs.Kinds.{widthsOf}
 use Rattle.program_text.specs.Digits.{digit, digitsIn, longest, decimalOf, hexOf}
 use Rattle.program_text.specs.Characters.{blank, newline}
-use Rattle.program_lines.specs.Lines.{widthsOf, numbersOf, bodyOf, fieldsBy, fieldsOf, itemLine, itemLines, itemsOf}
+use Rattle.program_lines.specs.Lines.{numbersOf, bodyOf, fieldsBy, fieldsOf, itemLine, itemLines, itemsOf}
 use Rattle.program_verdict.specs.Words.{wordOf, verdictLine}
 use Rattle.program_report.specs.Words.{userWord, fillWord, refusedWord}
 use Rattle.program_report.specs.Report.{numberLine, listingOf, readingText, answerText, reportOf}
@@ -65,7 +66,6 @@ body-size (b ∷ bytes) = omega (arith, hex-size (b ∷ bytes))
 
 -- no kind has more than two numbers
 widths-few : (kind : ℕ) → length (widthsOf kind) ≤ 2
-unfolding widthsOf
 widths-few kind = go (eqb kind 2) (eqb kind 4) (eqb kind 5) (eqb kind 6) (eqb kind 7) (eqb kind 8)
   where
     go : (a b c d e f : Bool)

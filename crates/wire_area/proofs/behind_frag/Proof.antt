@@ -26,8 +26,9 @@ bounds : (c : tie.After-found) → let a = c .before .before .before .before .ar
     (a .base .0 + a .behind ≤ c .found .given .0 .0 .start .0) × (c .found .given .0 .0 .start .0 ≤ a .base .0 + length (a .list .now))
 bounds c =
     let a = c .before .before .before .before .args in
-    fragment-within (a .fields) (a .base .0) (a .behind) (length (a .list .now)) (c .found .given .0 .0)
-    (sym (c .before .before .fragment-of .ensures) ∙ c .found .given .1)
+    let w = fragment-within (a .fields) (a .base .0) (a .behind) (length (a .list .now)) (c .found .given .0 .0)
+    (sym (c .before .before .fragment-of .ensures) ∙ c .found .given .1) in
+    (w .0, w .1)
 
 fragment-of-requires : tie.Need-fragment-of-requires
 fragment-of-requires c κs = search needs
