@@ -154,6 +154,9 @@ unfolding walkFrom progressOf
 tells room [] progress h q = absurd (omega arith)
 tells room (b ∷ bs) progress h q = subst (Tells room (b ∷ bs)) q (tells-step b bs room (stepOf (b ∷ bs)) refl refl)
 
+pub progress-goes : (room : ℕ) (l : List ℕ) (left size : ℕ) (apcs : Apcs) → 0 < length l → progressOf room l ≡ On left size apcs → Goes room l left size apcs
+progress-goes room l left size apcs h q = tells room l (On left size apcs) h q
+
 pub told-none : (room skip : ℕ) → walkAnswer (walkFrom room skip []) ≡ Listed 0 0 Absent
 unfolding walkFrom apcsOf
 told-none room skip = refl

@@ -14,7 +14,7 @@ use Rattle.wire_options.specs.Walk.{walkAnswer, walkFrom}
 use Rattle.wire_options.specs.declared.walk.Apcs.{Apcs}
 use Rattle.wire_options.specs.declared.walk.Apcs.the-variants.{Absent}
 use Rattle.wire_options.specs.declared.walk.Walk.the-variants.{Listed}
-use Rattle.wire_options.proofs.Walks.{Goes, behind, behind-none, turn-on, joined-absent, tells, told-none}
+use Rattle.wire_options.proofs.Walks.{Goes, behind, behind-none, turn-on, joined-absent, progress-goes, tells, told-none}
 use Rattle.wire_options.proofs.walk.walk_list.Statement.{statement}
 use Rattle.wire_options.proofs.walk.walk_list.Tie as tie
 
@@ -43,7 +43,7 @@ module _ (c : tie.After-progress-at Inv-loop μ-loop) where
 -- a turn that goes on
 goes : (c : tie.After-turn Inv-loop μ-loop) → let p = c .before .before in
     Goes (at-loop p .loop .left) (rest p) (c .turn .given .0 .0) (c .turn .given .0 .1 .0) (c .turn .given .0 .1 .1 .0)
-goes c = let p = c .before .before in tells (at-loop p .loop .left) (rest p) _ (some-rest p) (turned p ∙ c .turn .given .1)
+goes c = let p = c .before .before in progress-goes (at-loop p .loop .left) (rest p) _ _ _ (some-rest p) (turned p ∙ c .turn .given .1)
 
 bound : (c : tie.After-turn Inv-loop μ-loop) → let p = c .before .before in
     at-loop p .loop .at + c .turn .given .0 .1 .0 ≤ length (at-loop p .before .before .args .list .now)
