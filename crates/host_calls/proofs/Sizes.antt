@@ -1,8 +1,7 @@
 -- The sizes of what crosses the surface, computed from the layouts: what sizeof must say of the structs of include/wuraketozo.h, in its order.
 -- Assumes nothing.
-use Prim.Native.Nat.{ℕ}
 use mathlib.Core.Path.{_≡_, refl}
-use mathlib.Core.List.{List, [], _∷_}
+use mathlib.Core.List.{[], _∷_}
 use prog.Memory.{size}
 use Rattle.wire_datagram.proofs.reading.Extent.Laws as Extent
 use Rattle.wire_original.proofs.OriginalExtent.Laws as OriginalExtent

@@ -1,11 +1,11 @@
 -- Reading an encoded option list and writing it are inverse: number by number and body by body, each is read back as it was written (`-back`), and
 -- what was read is the encoding at the front of the list (`-read`). Assumes nothing.
 use mathlib.Core.Path.{_≡_, refl, sym, ap, ap₂, _∙_}
-use mathlib.Core.Bool.{Bool, true, false, cond}
+use mathlib.Core.Bool.{true}
 use mathlib.Core.List.{List, [], _∷_, _++_, append-assoc, append-nil}
-use Prim.Native.Nat.{ℕ, zero, suc, _+_, _^_, _≤_, _<_}
+use Prim.Native.Nat.{ℕ, zero, suc, _+_, _^_, _<_}
 use native.Mathlib.Omega.{arith}
-use borrow.Author.Tests.{le-leb, leb-true}
+use borrow.Author.Tests.{le-leb}
 use lib.Dec.{leb}
 use lib.ListN.{length, take, drop, take-append-drop, length-append, length-drop}
 use lib.Seq.{take-append-seam, drop-append-seam, take-at, drop-at, length-take-le}
@@ -14,37 +14,9 @@ use Rattle.number_octets.proofs.Laws.{number-lt, number-octets, octets-number, 
 use Rattle.number_varint.specs.SevenBit.{encoded}
 use Rattle.wire_options.specs.Walk.{Item, optionLimit}
 use Rattle.list_encoding.specs.Shape.{Shape, fields, raw, barred, shapeOf}
-use Rattle.list_encoding.specs.Encoding.{
-  given,
-  unreadable,
-  longestBody,
-  encodedFields,
-  encodedBody,
-  encodedOption,
-  encodedOptions,
-  encodedList,
-  Read,
-  got,
-  failed,
-  andThen,
-  readAs,
-  readNumber,
-  readFields,
-  readBytes,
-  readBody,
-  itemOf,
-  readKind,
-  readOption,
-  readOptions,
-  toTheEnd,
-  decodedList,
-  total,
-  Shaped,
-  ValidOption,
-  Each,
-  Valid,
-}
+use Rattle.list_encoding.specs.Encoding.{given, longestBody, encodedFields, encodedBody, encodedOption, encodedOptions, encodedList, Read, got, andThen, readAs, readNumber, readFields, readBytes, readBody, itemOf, readKind, readOption, readOptions, toTheEnd, decodedList, total, Shaped, ValidOption, Each, Valid}
 use Rattle.list_encoding.proofs.Shapes.{Narrow, NarrowShape, ByteKind, shape-narrow, shape-byte}
+use Rattle.list_encoding.proofs.Parts.{then-got, as-got, bytes-got, end-got}
 use Rattle.list_encoding.proofs.Numbers.{bytes-drop, number-back, NumberRead, number-read, number-bytes, number-whole}
 
 -- ---- lists of bytes
@@ -127,26 +99,11 @@ fields-read [] l body rest h e =
       record { whole = sym all; bytes = rw (← none) (λ i. omega arith); behind = rw (← all) h },
       sym (ap length none),
     )
-fields-read (width ∷ widths) l body rest h e = first (λ r b t. fields-read widths r b t) (readNumber (256 ^ width) l) refl e
-  where
-    Goal : Type 0
-    Goal = BodyRead (encodedFields (width ∷ widths) body) l body rest × (length body ≡ width + total widths)
-
-    Later : Type 0
-    Later = (r b t : List ℕ) → Octets r → readFields widths r ≡ got b t → BodyRead (encodedFields widths b) r b t × (length b ≡ total widths)
-
-    second : Later → (v : ℕ) (r : List ℕ) (t : Read (List ℕ)) → readFields widths r ≡ t → NumberRead (256 ^ width) l v r
-        → readAs (λ b. octets width v ++ b) t ≡ got body rest → Goal
-    second later v r (failed n) p q f = absurd (let z : _≡_ {A = ℕ} 0 1 = cc in omega arith)
-    second later v r (got b t) p q f =
-        let whole : octets width v ++ b ≡ body = cc in
-        let left : t ≡ rest = cc in
-        rw (← whole, ← left) (field-joined width v widths l b r t h q (later r b t (number-bytes q h) p))
-
-    first : Later → (t : Read ℕ) → readNumber (256 ^ width) l ≡ t
-        → andThen t (λ v r. readAs (λ b. octets width v ++ b) (readFields widths r)) ≡ got body rest → Goal
-    first later (failed n) p f = absurd (let z : _≡_ {A = ℕ} 0 1 = cc in omega arith)
-    first later (got v r) p f = second later v r (readFields widths r) refl (number-read (256 ^ width) l v r p) f
+fields-read (width ∷ widths) l body rest h e =
+    let n = then-got (readNumber (256 ^ width) l) (λ v r. readAs (λ b. octets width v ++ b) (readFields widths r)) e in
+    let b = as-got (λ (b : List ℕ). octets width (n .0) ++ b) (readFields widths (n .1)) (n .3) in
+    let q = number-read (256 ^ width) l (n .0) (n .1) (n .2) in
+    rw (← (b .2)) (field-joined width (n .0) widths l (b .0) (n .1) rest h q (fields-read widths (n .1) (b .0) rest (number-bytes q h) (b .1)))
 
 -- ---- the body of an option
 
@@ -167,32 +124,20 @@ body-read : (shape : Shape) (l body rest : List ℕ) → Octets l → readBody s
 unfolding readBody encodedBody
 body-read (fields widths) l body rest h e = fields-read widths l body rest h e
 body-read barred l body rest h e = absurd (let z : _≡_ {A = ℕ} 0 1 = cc in omega arith)
-body-read raw l body rest h e = first (readNumber (longestBody + 1) l) refl e
-  where
-    Goal : Type 0
-    Goal = BodyRead (encoded (length body) ++ body) l body rest × (length body ≤ longestBody)
-
-    second : (n : ℕ) (r : List ℕ) (t : Bool) → leb n (length r) ≡ t → NumberRead (longestBody + 1) l n r
-        → cond t (got (take n r) (drop n r)) (failed unreadable) ≡ got body rest → Goal
-    second n r false p q f = absurd (let z : _≡_ {A = ℕ} 0 1 = cc in omega arith)
-    second n r true p q f =
-        let front : take n r ≡ body = cc in
-        let behind : drop n r ≡ rest = cc in
-        let size : length body ≡ n = sym (ap length front) ∙ length-take-le n r (leb-true n (length r) p) in
-        let octets-r : Octets r = number-bytes q h in
-        let all : body ++ rest ≡ r = ap₂ _++_ (sym front) (sym behind) ∙ take-append-drop n r in (
-          record {
-            whole =
-                append-assoc (encoded (length body)) body rest ∙ ap₂ (λ (k : ℕ) (c : List ℕ). encoded k ++ c) size all ∙ number-whole q h;
-            bytes = rw (← front) (bytes-take n r octets-r);
-            behind = rw (← behind) (bytes-drop n r octets-r);
-          },
-          omega (arith, q .small),
-        )
-
-    first : (t : Read ℕ) → readNumber (longestBody + 1) l ≡ t → andThen t readBytes ≡ got body rest → Goal
-    first (failed n) p f = absurd (let z : _≡_ {A = ℕ} 0 1 = cc in omega arith)
-    first (got n r) p f = second n r (leb n (length r)) refl (number-read (longestBody + 1) l n r p) f
+body-read raw l body rest h e =
+    let n = then-got (readNumber (longestBody + 1) l) readBytes e in
+    let b = bytes-got (n .0) (n .1) (n .3) in
+    let q = number-read (longestBody + 1) l (n .0) (n .1) (n .2) in
+    let size : length body ≡ n .0 = sym (ap length (b .1)) ∙ length-take-le (n .0) (n .1) (b .0) in
+    let all : body ++ rest ≡ n .1 = ap₂ _++_ (sym (b .1)) (sym (b .2)) ∙ take-append-drop (n .0) (n .1) in (
+      record {
+        whole =
+            append-assoc (encoded (length body)) body rest ∙ ap₂ (λ (k : ℕ) (c : List ℕ). encoded k ++ c) size all ∙ number-whole q h;
+        bytes = rw (← (b .1)) (bytes-take (n .0) (n .1) (number-bytes q h));
+        behind = rw (← (b .2)) (bytes-drop (n .0) (n .1) (number-bytes q h));
+      },
+      omega (arith, q .small),
+    )
 
 -- ---- one option
 
@@ -221,27 +166,19 @@ pub record OptionRead (l : List ℕ) (item : Item) (rest : List ℕ) : Type 0 wh
 -- What was read is the encoding of a valid option.
 pub option-read : (l : List ℕ) (item : Item) (rest : List ℕ) → Octets l → readOption l ≡ got item rest → OptionRead l item rest
 unfolding readOption readKind encodedOption
-option-read l item rest h e = first (readNumber 256 l) refl e
-  where
-    second : (kind : ℕ) (r : List ℕ) (t : Read (List ℕ)) → readBody (shapeOf kind) r ≡ t → NumberRead 256 l kind r
-        → readAs (itemOf kind) t ≡ got item rest → OptionRead l item rest
-    second kind r (failed n) p q f = absurd (let z : _≡_ {A = ℕ} 0 1 = cc in omega arith)
-    second kind r (got body t) p q f =
-        let same : itemOf kind body ≡ item = cc in
-        let left : t ≡ rest = cc in
-        let m = body-read (shapeOf kind) r body t (number-bytes q h) p in
-        rw (← same, ← left)
-        record {
-          whole =
-              append-assoc (encoded kind) (encodedBody (shapeOf kind) body) t
-              ∙ ap (λ (c : List ℕ). encoded kind ++ c) (m .0 .whole) ∙ number-whole q h;
-          valid = record { shaped = m .1; bytes = m .0 .bytes };
-          behind = m .0 .behind;
-        }
-
-    first : (t : Read ℕ) → readNumber 256 l ≡ t → andThen t readKind ≡ got item rest → OptionRead l item rest
-    first (failed n) p f = absurd (let z : _≡_ {A = ℕ} 0 1 = cc in omega arith)
-    first (got kind r) p f = second kind r (readBody (shapeOf kind) r) refl (number-read 256 l kind r p) f
+option-read l item rest h e =
+    let n = then-got (readNumber 256 l) readKind e in
+    let b = as-got (itemOf (n .0)) (readBody (shapeOf (n .0)) (n .1)) (n .3) in
+    let q = number-read 256 l (n .0) (n .1) (n .2) in
+    let m = body-read (shapeOf (n .0)) (n .1) (b .0) rest (number-bytes q h) (b .1) in
+    rw (← (b .2))
+    record {
+      whole =
+          append-assoc (encoded (n .0)) (encodedBody (shapeOf (n .0)) (b .0)) rest
+          ∙ ap (λ (c : List ℕ). encoded (n .0) ++ c) (m .0 .whole) ∙ number-whole q h;
+      valid = record { shaped = m .1; bytes = m .0 .bytes };
+      behind = m .0 .behind;
+    }
 
 -- ---- options one after the other
 
@@ -266,31 +203,19 @@ options-read zero l items rest h e =
     let none : [] ≡ items = cc in
     let all : l ≡ rest = cc in
     rw (← none, ← all) record { whole = refl; counted = refl; each = tt }
-options-read (suc count) l items rest h e = first (λ r is t. options-read count r is t) (readOption l) refl e
-  where
-    Later : Type 0
-    Later = (r : List ℕ) (is : List Item) (t : List ℕ) → Octets r → readOptions count r ≡ got is t → OptionsRead count r is t
-
-    second : Later → (item : Item) (r : List ℕ) (t : Read (List Item)) → readOptions count r ≡ t → OptionRead l item r
-        → readAs (λ is. item ∷ is) t ≡ got items rest → OptionsRead (suc count) l items rest
-    second later item r (failed n) p q f = absurd (let z : _≡_ {A = ℕ} 0 1 = cc in omega arith)
-    second later item r (got is t) p q f =
-        let same : item ∷ is ≡ items = cc in
-        let left : t ≡ rest = cc in
-        let m = later r is t (q .behind) p in
-        rw (← same, ← left)
-        record {
-          whole =
-              append-assoc (encodedOption item) (encodedOptions is) t
-              ∙ ap (λ (c : List ℕ). encodedOption item ++ c) (m .whole) ∙ q .whole;
-          counted = ap suc (m .counted);
-          each = (q .valid, m .each);
-        }
-
-    first : Later → (t : Read Item) → readOption l ≡ t → andThen t (λ i r. readAs (λ is. i ∷ is) (readOptions count r)) ≡ got items rest
-        → OptionsRead (suc count) l items rest
-    first later (failed n) p f = absurd (let z : _≡_ {A = ℕ} 0 1 = cc in omega arith)
-    first later (got item r) p f = second later item r (readOptions count r) refl (option-read l item r h p) f
+options-read (suc count) l items rest h e =
+    let n = then-got (readOption l) (λ i r. readAs (λ is. i ∷ is) (readOptions count r)) e in
+    let b = as-got (λ (is : List Item). n .0 ∷ is) (readOptions count (n .1)) (n .3) in
+    let q = option-read l (n .0) (n .1) h (n .2) in
+    let m = options-read count (n .1) (b .0) rest (q .behind) (b .1) in
+    rw (← (b .2))
+    record {
+      whole =
+          append-assoc (encodedOption (n .0)) (encodedOptions (b .0)) rest
+          ∙ ap (λ (c : List ℕ). encodedOption (n .0) ++ c) (m .whole) ∙ q .whole;
+      counted = ap suc (m .counted);
+      each = (q .valid, m .each);
+    }
 
 -- ---- whole lists: one option list, one encoding
 
@@ -305,21 +230,10 @@ decode-encode items v =
 
 pub encode-decode : (l : List ℕ) (items : List Item) → Octets l → decodedList l ≡ given items → (encodedList items ≡ l) × Valid items
 unfolding decodedList encodedList
-encode-decode l items h e = first (readNumber (optionLimit + 1) l) refl e
-  where
-    second : (count : ℕ) (r : List ℕ) (t : Read (List Item)) → readOptions count r ≡ t → NumberRead (optionLimit + 1) l count r
-        → toTheEnd t ≡ given items → (encodedList items ≡ l) × Valid items
-    second count r (failed n) p q f = absurd (let z : _≡_ {A = ℕ} 0 1 = cc in omega arith)
-    second count r (got is (b ∷ t)) p q f = absurd (let z : _≡_ {A = ℕ} 0 1 = cc in omega arith)
-    second count r (got is []) p q f =
-        let same : is ≡ items = cc in
-        let m = options-read count r is [] (number-bytes q h) p in
-        rw (← same) (
-          ap₂ (λ (n : ℕ) (c : List ℕ). encoded n ++ c) (m .counted) (sym (append-nil (encodedOptions is)) ∙ m .whole) ∙ number-whole q h,
-          record { few = omega (arith, q .small, m .counted); each = m .each },
-        )
-
-    first : (t : Read ℕ) → readNumber (optionLimit + 1) l ≡ t → toTheEnd (andThen t readOptions) ≡ given items
-        → (encodedList items ≡ l) × Valid items
-    first (failed n) p f = absurd (let z : _≡_ {A = ℕ} 0 1 = cc in omega arith)
-    first (got count r) p f = second count r (readOptions count r) refl (number-read (optionLimit + 1) l count r p) f
+encode-decode l items h e =
+    let n = then-got (readNumber (optionLimit + 1) l) readOptions (end-got (andThen (readNumber (optionLimit + 1) l) readOptions) e) in
+    let q = number-read (optionLimit + 1) l (n .0) (n .1) (n .2) in
+    let m = options-read (n .0) (n .1) items [] (number-bytes q h) (n .3) in (
+      ap₂ (λ (k : ℕ) (c : List ℕ). encoded k ++ c) (m .counted) (sym (append-nil (encodedOptions items)) ∙ m .whole) ∙ number-whole q h,
+      record { few = omega (arith, q .small, m .counted); each = m .each },
+    )

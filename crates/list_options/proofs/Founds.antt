@@ -1,7 +1,7 @@
 -- An option that the walk finds has the body that its kind has in an encoded option list: the table of lengths on the wire and the table of shapes
 -- agree row by row. Assumes nothing.
 use mathlib.Core.Path.{_≡_, refl, sym, ap, ap₂, _∙_}
-use mathlib.Core.Bool.{Bool, true, false, cond}
+use mathlib.Core.Bool.{true, false}
 use mathlib.Core.List.{List, [], _∷_}
 use mathlib.Core.Logic.{⊎-elim}
 use Prim.Native.Nat.{ℕ, suc, _-_, _^_, _≤_, _<_, zero-le}
@@ -12,13 +12,12 @@ use lib.ListN.{length, getD}
 use Rattle.number_octets.specs.Octets.{Octets, number, part}
 use Rattle.number_octets.proofs.Laws.{number-lt, length-part, part-bytes}
 use Rattle.wire_options.specs.Kinds.{classOf, frag}
-use Rattle.wire_options.specs.Step.{within, extended, headerOf, varyingStep, stepIn, stepOf}
+use Rattle.wire_options.specs.Step.{headerOf, stepIn, stepOf}
 use Rattle.wire_options.specs.declared.step.Class.{Class}
 use Rattle.wire_options.specs.declared.step.Class.the-variants.{EndOfList, NoOperation, Fixed, Varying, Unsafe}
-use Rattle.wire_options.specs.declared.step.Header.{Header}
-use Rattle.wire_options.specs.declared.step.Header.the-variants.{Sound, Broken}
+use Rattle.wire_options.specs.declared.step.Header.the-variants.{Sound}
 use Rattle.wire_options.specs.declared.step.Step.the-variants.{Found}
-use Rattle.wire_options.proofs.Steps.{step-found}
+use Rattle.wire_options.proofs.Steps.{header-sound, step-found}
 use Rattle.list_encoding.specs.Shape.{Shape, fields, raw, barred, shapeOf}
 use Rattle.list_encoding.specs.Encoding.{longestBody, total}
 use Rattle.list_encoding.specs.Wire.{fieldsOnWire}
@@ -52,44 +51,16 @@ class-cases kind P eol nop apc frag′ mds mrds req res time body out =
 
 -- ---- the longest body: a length byte below 255, or two bytes behind a header of four
 
-within-sound : (end size whole h s : ℕ) → within end size whole ≡ Sound h s → (size ≡ h) × (whole ≡ s)
-within-sound end size whole h s = go (leb whole end)
-  where
-    go : (t : Bool) → cond t (Sound size whole) Broken ≡ Sound h s → (size ≡ h) × (whole ≡ s)
-    go false q = absurd (let z : _≡_ {A = ℕ} 0 1 = cc in omega arith)
-    go true q = (cc, cc)
-
-extended-most : (l : List ℕ) (h s : ℕ) → Octets l → extended l ≡ Sound h s → s - h ≤ longestBody
-extended-most l h s b = go (leb 4 (length l)) (leb 255 (number (part 2 2 l))) refl
-  where
-    go : (t u : Bool) → leb 4 (length l) ≡ t → cond t (cond u (within (length l) 4 (number (part 2 2 l))) Broken) Broken ≡ Sound h s → s - h ≤ longestBody
-    go false u e q = absurd (let z : _≡_ {A = ℕ} 0 1 = cc in omega arith)
-    go true false e q = absurd (let z : _≡_ {A = ℕ} 0 1 = cc in omega arith)
-    go true true e q =
-        let w = within-sound (length l) 4 (number (part 2 2 l)) h s q in
-        let two : length (part 2 2 l) ≡ 2 = length-part 2 2 l (leb-true 4 (length l) e) in
-        let small : number (part 2 2 l) < 256 ^ 2 = rw two at (number-lt (part 2 2 l) (part-bytes 2 2 l b)) in
-        omega (arith, w .0, w .1)
-
 header-most : (l : List ℕ) (h s : ℕ) → Octets l → headerOf l ≡ Sound h s → s - h ≤ longestBody
-unfolding headerOf
-header-most l h s b = go (leb 2 (length l)) (eqb (getD l 1 0) 255) (leb 2 (getD l 1 0))
-  where
-    go : (t u v : Bool) → cond t (cond u (extended l) (cond v (within (length l) 2 (getD l 1 0)) Broken)) Broken ≡ Sound h s → s - h ≤ longestBody
-    go false u v q = absurd (let z : _≡_ {A = ℕ} 0 1 = cc in omega arith)
-    go true true v q = extended-most l h s b q
-    go true false false q = absurd (let z : _≡_ {A = ℕ} 0 1 = cc in omega arith)
-    go true false true q = let w = within-sound (length l) 2 (getD l 1 0) h s q in omega (arith, w .0, w .1, b 1)
-
-varying-most : (l : List ℕ) (kind h s : ℕ) → Octets l → varyingStep (getD l 0 0) (headerOf l) ≡ Found kind h s → s - h ≤ longestBody
-varying-most l kind h s b = go (headerOf l) refl
-  where
-    go : (t : Header) → headerOf l ≡ t → varyingStep (getD l 0 0) t ≡ Found kind h s → s - h ≤ longestBody
-    go Broken e q = absurd (let z : _≡_ {A = ℕ} 0 1 = cc in omega arith)
-    go (Sound x y) e q =
-        let hx : x ≡ h = cc in
-        let sy : y ≡ s = cc in
-        header-most l h s b (e ∙ ap₂ Sound hx sy)
+header-most l h s b e =
+    let z = header-sound l h s e in
+    ⊎-elim
+    (λ short. omega (arith, b 1))
+    (λ long.
+    let two : length (part 2 2 l) ≡ 2 = length-part 2 2 l (omega (arith, long .1, z .fits)) in
+    let small : number (part 2 2 l) < 256 ^ 2 = rw two at (number-lt (part 2 2 l) (part-bytes 2 2 l b)) in
+    omega (arith, long .0, long .2))
+    (z .read)
 
 -- ---- an option that was found
 
@@ -133,7 +104,7 @@ module _ (l : List ℕ) (kind h s : ℕ) (e : stepOf l ≡ Found kind h s) where
           (λ k q. row 6 6 (4 ∷ []) k refl (omega arith) refl refl)
           (λ k q. row 7 6 (4 ∷ []) k refl (omega arith) refl refl)
           (λ k q. row 8 10 (4 ∷ 4 ∷ []) k refl (omega arith) refl refl)
-          (λ g m q. let same : shapeOf kind ≡ raw = shape-raw kind g m in rw same (varying-most l kind h s b q))
+          (λ g m q. let same : shapeOf kind ≡ raw = shape-raw kind g m in rw same (header-most l h s b (step-found l kind h s e .headed)))
           (λ q. absurd (let z : _≡_ {A = ℕ} 0 1 = cc in omega arith))
 
       go : (m : List ℕ) → l ≡ m → stepOf m ≡ Found kind h s → Fitting kind (shapeOf kind) (s - h)

@@ -3,9 +3,9 @@
 use mathlib.Core.Path.{_≡_, refl, ap, _∙_}
 use mathlib.Core.Bool.{Bool, true, false, cond}
 use mathlib.Core.List.{List, [], _∷_, _++_}
-use Prim.Native.Nat.{ℕ, zero, suc, _-_, _*_, _≤_, _<_}
+use Prim.Native.Nat.{ℕ, suc, _-_, _*_, _≤_, _<_}
 use native.Mathlib.Omega.{arith}
-use borrow.Author.Tests.{eq-eqb, ne-eqb, eqb-true, eqb-false}
+use borrow.Author.Tests.{eq-eqb, ne-eqb, eqb-true}
 use lib.Dec.{eqb}
 use lib.ListN.{length, take, drop, length-append}
 use Rattle.number_octets.specs.Octets.{Octets, number, part}
@@ -14,11 +14,10 @@ use Rattle.number_varint.specs.SevenBit.{encoded}
 use Rattle.number_varint.proofs.Laws.{encoded-short}
 use Rattle.wire_options.specs.Kinds.{apc, frag}
 use Rattle.wire_options.specs.Step.{stepOf}
-use Rattle.wire_options.specs.Walk.{Item, Walked, listed, faulty, before, itemOf, sound, walkAt, walkFrom, optionLimit, itemsOf}
-use Rattle.wire_options.specs.declared.step.Step.{Step}
-use Rattle.wire_options.specs.declared.step.Step.the-variants.{End, Eol, Nop, Found, Malformed, Outlawed}
-use Rattle.wire_options.specs.declared.walk.Fault.the-variants.{Malformed as Unsound}
+use Rattle.wire_options.specs.Walk.{Item, Walked, listed, faulty, itemOf, walkFrom, optionLimit, itemsOf}
+use Rattle.wire_options.specs.declared.step.Step.the-variants.{Found}
 use Rattle.wire_options.proofs.Steps.{step-found}
+use Rattle.wire_options.proofs.Rests.{walk-all}
 use Rattle.list_encoding.specs.Shape.{Shape, fields, raw, barred, shapeOf}
 use Rattle.list_encoding.specs.Encoding.{encodedFields, encodedBody, encodedOption, encodedOptions, total, Shaped, ValidOption, Each, Valid, itemOf as optionOf}
 use Rattle.list_encoding.specs.Wire.{crcWidth, widthsOf, fieldsOnWire}
@@ -70,47 +69,18 @@ record Fine (room : ℕ) (items : List Item) : Type 0 where
   few : length items ≤ room
   each : Each (unworkedAll items)
 
-no-items : (room : ℕ) (items : List Item) (fill n : ℕ) → listed [] n ≡ listed items fill → Fine room items
-unfolding unworkedAll
-no-items room items fill n e = let none : [] ≡ items = cc in rw (← none) record { few = omega arith; each = tt }
-
 walk-fine : (l : List ℕ) (room skip : ℕ) (items : List Item) (fill : ℕ) → Octets l → walkFrom room skip l ≡ listed items fill → Fine room items
-unfolding walkFrom unworkedAll
-walk-fine [] room skip items fill b e = no-items room items fill 0 e
-walk-fine (x ∷ xs) room (suc skip) items fill b e = walk-fine xs room skip items fill (λ i. b (suc i)) e
-walk-fine (x ∷ xs) room zero items fill b e =
-    go (λ left skip is n. walk-fine xs left skip is n (λ i. b (suc i))) (stepOf (x ∷ xs)) refl e
-  where
-    Later : Type 0
-    Later = (left skip : ℕ) (is : List Item) (n : ℕ) → walkFrom left skip xs ≡ listed is n → Fine left is
-
-    took : Later → (left : ℕ) (kind h s : ℕ) → stepOf (x ∷ xs) ≡ Found kind h s → (kind ≡ frag → ⊥) → (w : Walked) → walkFrom left (s - 1) xs ≡ w
-        → before (itemOf kind h s (x ∷ xs)) w ≡ listed items fill → Fine (suc left) items
-    took later left kind h s p d (faulty f) q r = absurd (let z : _≡_ {A = ℕ} 0 1 = cc in omega arith)
-    took later left kind h s p d (listed is n) q r =
-        let same : itemOf kind h s (x ∷ xs) ∷ is ≡ items = cc in
-        let m = later left (s - 1) is n q in
-        rw (← same)
-        record { few = omega (arith, m .few); each = (found-valid (x ∷ xs) kind h s p d b, m .each) }
-
-    room-for : Later → (space : ℕ) (kind h s : ℕ) → stepOf (x ∷ xs) ≡ Found kind h s → (kind ≡ frag → ⊥)
-        → sound space (itemOf kind h s (x ∷ xs)) (λ left. walkFrom left (s - 1) xs) ≡ listed items fill → Fine space items
-    room-for later zero kind h s p d r = absurd (let z : _≡_ {A = ℕ} 0 1 = cc in omega arith)
-    room-for later (suc space) kind h s p d r = took later space kind h s p d (walkFrom space (s - 1) xs) refl r
-
-    found : Later → (kind h s : ℕ) (t : Bool) → eqb kind frag ≡ t → stepOf (x ∷ xs) ≡ Found kind h s
-        → cond t (faulty Unsound) (sound room (itemOf kind h s (x ∷ xs)) (λ left. walkFrom left (s - 1) xs)) ≡ listed items fill → Fine room items
-    found later kind h s true p q r = absurd (let z : _≡_ {A = ℕ} 0 1 = cc in omega arith)
-    found later kind h s false p q r = room-for later room kind h s q (eqb-false kind frag p) r
-
-    go : Later → (step : Step) → stepOf (x ∷ xs) ≡ step → walkAt room (x ∷ xs) step (λ left skip. walkFrom left skip xs) ≡ listed items fill
-        → Fine room items
-    go later End p q = no-items room items fill 0 q
-    go later Eol p q = no-items room items fill (length (x ∷ xs)) q
-    go later Nop p q = later room 0 items fill q
-    go later Malformed p q = absurd (let z : _≡_ {A = ℕ} 0 1 = cc in omega arith)
-    go later Outlawed p q = absurd (let z : _≡_ {A = ℕ} 0 1 = cc in omega arith)
-    go later (Found kind h s) p q = found later kind h s (eqb kind frag) refl p q
+unfolding unworkedAll
+walk-fine l room skip items fill b q =
+    walk-all (λ room skip l items fill. Octets l → Fine room items)
+    (λ room skip b. record { few = omega arith; each = tt })
+    (λ room fill l f b. record { few = omega arith; each = tt })
+    (λ room skip x xs items fill ih b. ih (λ i. b (suc i)))
+    (λ room l items fill some ih b. ih b)
+    (λ room l items fill kind h s e d ih b.
+    let m = ih b in
+    record { few = omega (arith, m .few); each = (found-valid l kind h s e d b, m .each) })
+    l room skip items fill q b
 
 pub length-unworked : (items : List Item) → length (unworkedAll items) ≡ length items
 unfolding unworkedAll

@@ -11,7 +11,7 @@ use lib.ListN.{length, take, drop, length-append, take-append-drop}
 use Rattle.number_octets.specs.Octets.{overlay}
 use Rattle.number_octets.proofs.Laws.{length-overlay, overlay-append}
 use Rattle.number_varint.specs.SevenBit.{encoded}
-use Rattle.number_varint.specs.Answer.{Answer, given, refused, tooSmall, encodedAnswer, endOf, fits, placed, EncodedAt}
+use Rattle.number_varint.specs.Answer.{given, refused, tooSmall, encodedAnswer, endOf, fits, placed, EncodedAt}
 use Rattle.number_varint.specs.declared.Encoded.{Encoded}
 use Rattle.list_options.specs.Listing.{WrittenAt}
 

@@ -1,27 +1,25 @@
 -- The area that the writer makes passes every test of the reader: zero pad, an option checksum that is there and right, and a list that the
 -- walk reads as the options and the fill.
 -- Assumes nothing.
-use mathlib.Core.Path.{_≡_, refl, sym, ap, ap₂, subst, _∙_}
+use mathlib.Core.Path.{_≡_, refl, sym, ap, _∙_}
 use mathlib.Core.Bool.{Bool, true, false, cond}
 use mathlib.Core.List.{List, [], _∷_, _++_, append-assoc}
 use mathlib.Core.Logic.{⊎-elim}
-use Prim.Native.Nat.{ℕ, zero, suc, _+_, _-_, _≤_, _<_}
+use Prim.Native.Nat.{ℕ, zero, suc, _+_, _≤_, _<_}
 use native.Mathlib.Omega.{arith}
-use borrow.Author.Tests.{ne-eqb, eq-eqb, eqb-true}
-use lib.Dec.{eqb, leb}
-use lib.ListN.{length, take, drop, getD, replicate, length-append}
+use borrow.Author.Tests.{ne-eqb}
+use lib.Dec.{leb}
+use lib.ListN.{length, take, drop, replicate, length-append}
 use lib.Seq.{take-at, drop-at}
-use Rattle.number_octets.specs.Octets.{number, octets, part}
+use Rattle.number_octets.specs.Octets.{number, octets}
 use Rattle.number_octets.proofs.Laws.{length-octets, number-octets}
 use Rattle.number_checksum.specs.Checksum.{wordSum, folded, sent, allOnes, parityAfter}
 use Rattle.number_checksum.proofs.Laws.{sent-pos, sent-le, folded-le, field-law}
-use Rattle.wire_options.specs.Kinds.{classOf, nop, frag, eol}
-use Rattle.wire_options.specs.Step.{stepOf}
+use Rattle.wire_options.specs.Kinds.{classOf, nop, frag}
 use Rattle.wire_options.specs.Walk.{Item, listed, walkFrom, optionLimit}
-use Rattle.wire_area.specs.Area.{nopsOf, AreaWalk, plain, plainly, ledBy, areaOf as areaWalk}
-use Rattle.wire_options.specs.declared.step.Class.{Class}
+use Rattle.wire_area.specs.Area.{nopsOf, plain, plainly, areaOf as areaWalk}
 use Rattle.wire_options.specs.declared.step.Class.the-variants.{NoOperation, Fixed, Varying}
-use Rattle.wire_surplus.specs.Surplus.{padOf, ocsOf, summedOf, startOf}
+use Rattle.wire_surplus.specs.Surplus.{padOf, ocsOf, startOf}
 use Rattle.wire_surplus.specs.declared.Start.the-variants.{List as ListAt}
 use Rattle.wire_surplus.proofs.Starts.{start-odd, start-even, summed-right}
 use Rattle.list_encoding.specs.Wire.{longestShort}

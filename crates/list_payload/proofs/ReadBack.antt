@@ -1,54 +1,30 @@
 -- What the writer makes is read back: header fields stand where the reader looks, both checksums make their sums FFFF, and the walk of the
 -- list gives the options and the fill.
 -- Assumes nothing.
-use mathlib.Core.Path.{_≡_, refl, sym, ap, ap₂, subst, _∙_}
-use mathlib.Core.Bool.{Bool, true, false, cond, _&&_}
+use mathlib.Core.Path.{_≡_, refl, sym, ap, ap₂, _∙_}
+use mathlib.Core.Bool.{false}
 use mathlib.Core.List.{List, [], _∷_, _++_, append-assoc}
-use mathlib.Core.Logic.{_⊎_, inl, inr, ⊎-elim}
-use Prim.Native.Nat.{ℕ, zero, suc, _+_, _-_, _%_, _≤_, _<_}
-use native.Mathlib.Nat.{zero-add, add-zero, add-assoc}
+use mathlib.Core.Logic.{inr}
+use Prim.Native.Nat.{ℕ, suc, _+_, _-_, _%_, _≤_, _<_}
+use native.Mathlib.Nat.{zero-add}
 use native.Mathlib.Omega.{arith}
-use borrow.Author.Tests.{eq-eqb}
 use lib.Dec.{eqb}
-use lib.ListN.{length, take, drop, length-append, length-drop}
-use lib.Seq.{take-at, drop-at, drop-drop, drop-append-add, take-length, take-all}
+use lib.ListN.{length, take, drop, length-append}
+use lib.Seq.{take-at, drop-at, drop-drop, drop-append-add}
 use Rattle.number_octets.specs.Octets.{number, octets, part}
 use Rattle.number_octets.proofs.Laws.{length-octets, number-octets}
 use Rattle.number_offsets.specs.Offsets.{udpHeader}
 use Rattle.number_checksum.specs.Checksum.{wordSum, folded, sent, allOnes, parityAfter}
-use Rattle.number_checksum.proofs.Laws.{sent-pos, sent-le, folded-le, field-law, parity-even}
-use Rattle.number_crc32c.specs.Crc.{crcOf}
-use Rattle.number_crc32c.proofs.Laws.{crcOf-lt}
-use Rattle.wire_options.specs.Kinds.{apc}
+use Rattle.number_checksum.proofs.Laws.{sent-le, field-law, parity-even}
 use Rattle.wire_options.specs.Walk.{Item, listed, walkFrom, optionLimit}
 use Rattle.wire_area.specs.Area.{plain, areaOf as areaWalk}
 use Rattle.wire_surplus.specs.Surplus.{padOf, startOf}
-use Rattle.wire_datagram.specs.Reading.{
-  payloadLimit,
-  udpLength,
-  udpChecksum,
-  pseudoHeader,
-  isOdd,
-  extent,
-  apcValues,
-  allAre,
-  apcOf,
-  walked,
-  started,
-  accepted,
-  reads,
-  reading,
-}
-use Rattle.wire_datagram.specs.declared.reading.Apc.{Apc}
-use Rattle.wire_datagram.specs.declared.reading.Apc.the-variants.{Absent, Right, Wrong}
-use Rattle.wire_datagram.specs.declared.reading.Verdict.the-variants.{Read}
+use Rattle.wire_datagram.specs.Reading.{payloadLimit, udpLength, udpChecksum, pseudoHeader, isOdd, walked, started, accepted, reads, reading}
 use Rattle.wire_datagram.specs.declared.reading.Reading.{Reading}
-use Rattle.wire_surplus.specs.declared.Start.{Start}
-use Rattle.wire_surplus.specs.declared.Start.the-variants.{List as ListAt}
 use Rattle.wire_datagram.proofs.Refusals.{Sized, sumOf, reading-accepted}
-use Rattle.list_payload.specs.Payload.{worked, workedAll, listOf, areaOf, Datagram, sizeOf, frontOf, datagramWith, udpChecksumOf, payloadOf}
+use Rattle.list_payload.specs.Payload.{workedAll, listOf, areaOf, Datagram, sizeOf, frontOf, datagramWith, udpChecksumOf, payloadOf}
 use Rattle.list_payload.proofs.Wires.{Each, walk-wires}
-use Rattle.list_payload.proofs.Areas.{plain-area, area-starts, area-length, area-list}
+use Rattle.list_payload.proofs.Areas.{plain-area, area-starts, area-list}
 
 -- what the writer takes
 pub record Takes (d : Datagram) : Type 0 where

@@ -1,26 +1,25 @@
 -- What the writer puts on the wire is what the walk meets: each option's step finds it, and the fill starts with EOL.
 -- Assumes nothing.
 use mathlib.Core.Path.{_≡_, refl, sym, ap, ap₂, _∙_}
-use mathlib.Core.Bool.{Bool, true, false, cond, _||_}
+use mathlib.Core.Bool.{Bool, true, false}
 use mathlib.Core.List.{List, [], _∷_, _++_, append-assoc}
-use mathlib.Core.Logic.{_⊎_, inl, inr, ⊎-elim}
-use Prim.Native.Nat.{ℕ, zero, suc, _+_, _-_, _^_, _≤_, _<_}
+use mathlib.Core.Logic.{_⊎_, ⊎-elim}
+use Prim.Native.Nat.{ℕ, zero, suc, _+_, _-_, _≤_, _<_}
 use native.Mathlib.Omega.{arith}
-use borrow.Author.Tests.{le-leb, lt-leb, eq-eqb, ne-eqb, leb-true, leb-false, eqb-true, eqb-false}
-use lib.Dec.{eqb, leb}
-use lib.ListN.{length, take, drop, getD, replicate, length-append, length-replicate}
-use lib.Seq.{take-append-seam, drop-append-seam, take-at, drop-at, drop-drop}
+use borrow.Author.Tests.{le-leb, eq-eqb, ne-eqb, leb-true, leb-false}
+use lib.Dec.{leb}
+use lib.ListN.{length, take, drop, replicate, length-append, length-replicate}
+use lib.Seq.{drop-append-seam, take-at, drop-at, drop-drop}
 use Rattle.number_octets.specs.Octets.{number, octets, part}
 use Rattle.number_octets.proofs.Laws.{length-octets, number-octets}
-use Rattle.wire_options.specs.Kinds.{classOf, apc, frag}
-use Rattle.wire_options.specs.Step.{within, extended, headerOf, stepOf, stepIn, fixedStep, varyingStep}
-use Rattle.wire_options.specs.Walk.{Item, Walked, listed, faulty, before, itemOf, sound, walkAt, walkFrom}
+use Rattle.wire_options.specs.Kinds.{classOf, frag}
+use Rattle.wire_options.specs.Step.{headerOf, stepOf, stepIn, fixedStep, varyingStep}
+use Rattle.wire_options.specs.Walk.{Item, listed, before, itemOf, walkAt, walkFrom}
 use Rattle.wire_options.specs.declared.step.Class.{Class}
-use Rattle.wire_options.specs.declared.step.Class.the-variants.{EndOfList, NoOperation, Fixed, Varying, Unsafe}
-use Rattle.wire_options.specs.declared.step.Header.{Header}
-use Rattle.wire_options.specs.declared.step.Header.the-variants.{Sound, Broken}
+use Rattle.wire_options.specs.declared.step.Class.the-variants.{Fixed, Varying}
+use Rattle.wire_options.specs.declared.step.Header.the-variants.{Sound}
 use Rattle.wire_options.specs.declared.step.Step.{Step}
-use Rattle.wire_options.specs.declared.step.Step.the-variants.{End, Eol, Nop, Found, Malformed, Outlawed}
+use Rattle.wire_options.specs.declared.step.Step.the-variants.{Found}
 use Rattle.wire_options.proofs.Walks.{walk-skip}
 use Rattle.list_encoding.specs.Wire.{longestShort}
 use Rattle.list_payload.specs.Payload.{wireOf, wires}

@@ -19,7 +19,7 @@ use Rattle.wire_original.specs.declared.Rereading.{Rereading}
 use Rattle.wire_datagram.proofs.Lists.{Lists, lists-part, read-verdict, reading-lists}
 use Rattle.wire_original.proofs.Lists.{rereading-lists}
 use Rattle.list_encoding.specs.Encoding.{given, refused}
-use Rattle.list_options.specs.Listing.{tooSmall, fillOf, listing, roomFor, listedAnswer, ListedInto}
+use Rattle.list_options.specs.Listing.{tooSmall, fillOf, listing, roomFor, ListedInto}
 use Rattle.list_options.specs.declared.Listed.{Listed}
 use Rattle.list_writer.specs.Answer.{written, datagramFor}
 use Rattle.list_payload.specs.Payload.{Datagram, payloadOf}

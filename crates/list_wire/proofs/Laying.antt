@@ -40,9 +40,6 @@ pub laid-two : (t : List ℕ) (at x y : ℕ) → at + 2 ≤ length t → Laid t 
 laid-two t at x y fits =
     record { over = ap (λ (k : ℕ). set (set t at x) k y) (add-one at) ∙ overlay-sets t at (x ∷ y ∷ []) fits; ends = refl }
 
-pub laid-one : (t : List ℕ) (at x : ℕ) → at + 1 ≤ length t → Laid t at (x ∷ []) (set t at x) (at + 1)
-laid-one t at x fits = record { over = overlay-sets t at (x ∷ []) fits; ends = refl }
-
 -- a number's bytes, or any bytes of known count, laid by an equation
 pub laid-by : {t : List ℕ} {at : ℕ} {a u : List ℕ} (n : ℕ) → u ≡ overlay t at a → length a ≡ n → Laid t at a u (at + n)
 laid-by {t} {at} n e k = record { over = e; ends = ap (λ (m : ℕ). at + m) (sym k) }

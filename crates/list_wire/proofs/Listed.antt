@@ -15,9 +15,10 @@ use Rattle.number_crc32c.specs.Crc.{crcOf}
 use Rattle.wire_options.specs.Kinds.{apc}
 use Rattle.wire_options.specs.Walk.{Item, optionLimit}
 use Rattle.list_encoding.specs.Shape.{fields, raw, shapeOf}
-use Rattle.list_encoding.specs.Encoding.{given, Read, got, failed, andThen, readAs, readNumber, readOption, readOptions, toTheEnd, decodedList, itemOf, total}
+use Rattle.list_encoding.specs.Encoding.{given, Read, got, failed, andThen, readAs, readNumber, readOption, readOptions, decodedList, itemOf, total}
 use Rattle.list_encoding.specs.Answer.{values}
 use Rattle.list_encoding.specs.Wire.{wholeLength, crcWidth, bodyOnWire, optionSize, wireSize, widthsOf, fieldsOnWire}
+use Rattle.list_encoding.proofs.Parts.{then-got, as-got, end-got}
 use Rattle.list_encoding.proofs.Shapes.{shape-cases}
 use Rattle.list_encoding.proofs.Numbers.{bytes-drop}
 use Rattle.list_encoding.proofs.Laws.{option-read}
@@ -126,38 +127,18 @@ options-wires : (user : List ℕ) (count : ℕ) (l : List ℕ) (items : List Ite
     → wiresRead (crcOf user) count l ≡ wires (workedAll user items)
 unfolding readOptions wiresRead wires workedAll
 options-wires user zero l items rest e = let none : [] ≡ items = cc in ap (λ (is : List Item). wires (workedAll user is)) none
-options-wires user (suc count) l items rest e = first (λ r is t. options-wires user count r is t) (readOption l) e
-  where
-    Later : Type 0
-    Later = (r : List ℕ) (is : List Item) (t : List ℕ) → readOptions count r ≡ got is t → wiresRead (crcOf user) count r ≡ wires (workedAll user is)
-
-    second : Later → (item : Item) (r : List ℕ) (t : Read (List Item)) → readOptions count r ≡ t → readAs (λ is. item ∷ is) t ≡ got items rest
-        → wireOf (workedBy (crcOf user) item) ++ wiresRead (crcOf user) count r ≡ wires (workedAll user items)
-    second later item r (failed n) p f = absurd (let z : _≡_ {A = ℕ} 0 1 = cc in omega arith)
-    second later item r (got is t) p f =
-        let same : item ∷ is ≡ items = cc in
-        ap₂ (λ (i : Item) (m : List ℕ). wireOf i ++ m) (worked-by user item) (later r is t p) ∙ ap (λ (x : List Item). wires (workedAll user x)) same
-
-    first : Later → (t : Read Item) → andThen t (λ i r. readAs (λ is. i ∷ is) (readOptions count r)) ≡ got items rest
-        → wireRead (crcOf user) t ++ wiresRead (crcOf user) count (leftBehind l t) ≡ wires (workedAll user items)
-    first later (failed n) f = absurd (let z : _≡_ {A = ℕ} 0 1 = cc in omega arith)
-    first later (got item r) f = second later item r (readOptions count r) refl f
+options-wires user (suc count) l items rest e =
+    let n = then-got (readOption l) (λ i r. readAs (λ is. i ∷ is) (readOptions count r)) e in
+    let b = as-got (λ (is : List Item). n .0 ∷ is) (readOptions count (n .1)) (n .3) in
+    ap (λ (t : Read Item). wireRead (crcOf user) t ++ wiresRead (crcOf user) count (leftBehind l t)) (n .2)
+    ∙ ap₂ (λ (i : Item) (m : List ℕ). wireOf i ++ m) (worked-by user (n .0)) (options-wires user count (n .1) (b .0) rest (b .1))
+    ∙ ap (λ (x : List Item). wires (workedAll user x)) (b .2)
 
 pub wires-listed : (user l : List ℕ) (items : List Item) → decodedList l ≡ given items → wiresListed (crcOf user) l ≡ wires (workedAll user items)
 unfolding decodedList wiresListed optionLimit
-wires-listed user l items e = first (readNumber 33 l) e
-  where
-    second : (count : ℕ) (r : List ℕ) (t : Read (List Item)) → readOptions count r ≡ t → toTheEnd t ≡ given items
-        → wiresRead (crcOf user) count r ≡ wires (workedAll user items)
-    second count r (failed n) p f = absurd (let z : _≡_ {A = ℕ} 0 1 = cc in omega arith)
-    second count r (got is (b ∷ t)) p f = absurd (let z : _≡_ {A = ℕ} 0 1 = cc in omega arith)
-    second count r (got is []) p f =
-        let same : is ≡ items = cc in
-        options-wires user count r is [] p ∙ ap (λ (x : List Item). wires (workedAll user x)) same
-
-    first : (t : Read ℕ) → toTheEnd (andThen t readOptions) ≡ given items → wiresCounted (crcOf user) t ≡ wires (workedAll user items)
-    first (failed n) f = absurd (let z : _≡_ {A = ℕ} 0 1 = cc in omega arith)
-    first (got count r) f = second count r (readOptions count r) refl f
+wires-listed user l items e =
+    let n = then-got (readNumber 33 l) readOptions (end-got (andThen (readNumber 33 l) readOptions) e) in
+    ap (wiresCounted (crcOf user)) (n .2) ∙ options-wires user (n .0) (n .1) items [] (n .3)
 
 -- ---- sizes
 

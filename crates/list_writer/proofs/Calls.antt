@@ -19,7 +19,7 @@ use Rattle.list_payload.specs.Payload.{Datagram, payloadOf}
 use Rattle.list_writer.specs.declared.Written.the-variants.{Payload}
 use Rattle.list_payload.proofs.ReadBack.{backOf, user-there}
 use Rattle.list_payload.proofs.Claims.{ReadBack}
-use Rattle.list_writer.proofs.Claims.{WroteBack, write-reads-back}
+use Rattle.list_writer.proofs.Claims.{write-reads-back}
 
 -- ---- the payload
 

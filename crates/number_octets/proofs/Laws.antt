@@ -3,51 +3,14 @@
 use mathlib.Core.Path.{_≡_, refl, sym, ap, ap₂, _∙_, subst}
 use mathlib.Core.List.{List, [], _∷_, _++_, append-assoc}
 use Prim.Native.Nat.{ℕ, zero, suc, _+_, _-_, _*_, _/_, _%_, _^_, _<_, _≤_}
-use native.Mathlib.Nat.{
-  add-zero,
-  zero-add,
-  add-suc,
-  suc-add,
-  add-assoc,
-  mul-comm,
-  mul-assoc,
-  add-mul,
-  pow-suc,
-  mod-lt,
-  mod-one,
-  mod-mod,
-  mod-eq-of-lt,
-  div-div-eq-div-mul,
-  div-eq-of-lt,
-  mul-add-mod-self-right,
-  le-of-suc-le-suc,
-}
+use native.Mathlib.Nat.{zero-add, suc-add, mul-comm, mul-assoc, add-mul, pow-suc, mod-lt, mod-one, mod-mod, mod-eq-of-lt, div-div-eq-div-mul, mul-add-mod-self-right}
 use native.Mathlib.Numerals.{add-one}
 use native.Mathlib.Omega.{arith}
 use lib.Arith.{digits-lt, digits-div, digits-mod, mod-mul}
 use lib.Dec.{lit<}
-use lib.ListN.{length, take, drop, getD, set, length-append, length-take, length-drop, take-append-drop, List·getD-append}
+use lib.ListN.{length, take, drop, getD, set, length-append, length-take, length-drop, take-append-drop}
 use lib.Pow.{pow-add}
-use lib.Seq.{
-  drop-cons,
-  take-add,
-  take-all,
-  drop-drop,
-  take-append-seam,
-  drop-append-seam,
-  drop-append-add,
-  take-append-le,
-  drop-append-le,
-  take-take,
-  getD-append-add,
-  getD-take,
-  getD-drop,
-  take-at,
-  drop-at,
-  length-take-le,
-  sets,
-  sets-eq,
-}
+use lib.Seq.{drop-cons, take-add, take-all, drop-drop, take-append-seam, drop-append-seam, take-append-le, drop-append-le, getD-drop, take-at, drop-at, length-take-le, sets, sets-eq}
 use Rattle.number_octets.specs.Octets.{Octets, number, octets, part, overlay}
 
 -- 256 ^ k is positive
@@ -167,6 +130,10 @@ number-four at l h =
 
 pub length-part : (at n : ℕ) (l : List ℕ) → at + n ≤ length l → length (part at n l) ≡ n
 length-part at n l h = simp (length-take, length-drop) (omega arith)
+
+-- the part from a position to the end
+pub part-rest : (at : ℕ) (l : List ℕ) → part at (length l - at) l ≡ drop at l
+part-rest at l = take-all (length l - at) (drop at l) (simp length-drop (omega arith))
 
 -- a part of the front is that part of the whole
 pub part-take : (at n m : ℕ) (l : List ℕ) → at + n ≤ m → m ≤ length l → part at n (take m l) ≡ part at n l

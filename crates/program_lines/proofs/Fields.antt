@@ -12,14 +12,14 @@ use lib.ListN.{length, take, drop, getD, length-drop}
 use lib.Seq.{take-take, drop-drop}
 use Rattle.number_octets.specs.Octets.{number, part}
 use Rattle.number_octets.proofs.Laws.{part-take, part-one}
-use Rattle.wire_options.specs.Kinds.{classOf}
+use Rattle.wire_options.specs.Kinds.{classOf, widthsOf}
 use Rattle.wire_options.specs.Step.{stepOf}
 use Rattle.wire_options.specs.declared.step.Class.the-variants.{Fixed}
 use Rattle.wire_options.specs.declared.step.Step.the-variants.{Found}
 use Rattle.wire_options.proofs.Steps.{step-found}
 use Rattle.program_text.specs.Digits.{decimalOf, hexOf}
 use Rattle.program_text.specs.Characters.{blank}
-use Rattle.program_lines.specs.Lines.{widthsOf, numbersOf, bodyOf, fieldsBy, fieldsOf}
+use Rattle.program_lines.specs.Lines.{numbersOf, bodyOf, fieldsBy, fieldsOf}
 
 -- ---- where an option stands
 
@@ -46,7 +46,7 @@ four-of k low high a b = go (ltb k 5) (ltb k 6) (ltb k 7) refl refl refl
     go false false false p q r = inr (omega (arith, ltb-false k 7 r))
 
 pub four-wide : (k : ℕ) → (k ≡ 2) ⊎ ((k ≡ 6) ⊎ (k ≡ 7)) → (classOf k ≡ Fixed 6 6) × (widthsOf k ≡ 4 ∷ [])
-unfolding classOf widthsOf
+unfolding classOf
 four-wide k (inl e) = (ap classOf e, ap widthsOf e)
 four-wide k (inr (inl e)) = (ap classOf e, ap widthsOf e)
 four-wide k (inr (inr e)) = (ap classOf e, ap widthsOf e)
@@ -85,7 +85,6 @@ number-one at l h = ap number (part-one at l h) ∙ omega arith
 
 pub no-numbers : (kind : ℕ) (body : List ℕ) → (kind ≡ 2 → ⊥) → (kind ≡ 4 → ⊥) → (kind ≡ 5 → ⊥) → (kind ≡ 6 → ⊥) → (kind ≡ 7 → ⊥) → (kind ≡ 8 → ⊥)
     → bodyOf body ≡ fieldsOf kind body
-unfolding widthsOf
 no-numbers kind body a b c d e f =
     sym (simp (ne-eqb kind 2 a, ne-eqb kind 4 b, ne-eqb kind 5 c, ne-eqb kind 6 d, ne-eqb kind 7 e, ne-eqb kind 8 f))
 

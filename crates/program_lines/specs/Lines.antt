@@ -4,17 +4,13 @@ use mathlib.Core.List.{List, [], _∷_, _++_}
 use Prim.Native.Nat.{ℕ}
 use lib.ListN.{take, drop}
 use Rattle.number_octets.specs.Octets.{number}
-use Rattle.wire_options.specs.Kinds as Kinds
+use Rattle.wire_options.specs.Kinds.{widthsOf}
 use Rattle.wire_options.specs.Walk.{Item, Walked, listed, faulty}
 pub use Rattle.wire_options.specs.Walk.{itemsOf}
 use Rattle.program_text.specs.Digits.{decimalOf, hexOf}
 use Rattle.program_text.specs.Characters.{blank, newline}
 
 -- ---- an option
-
--- the widths in bytes of the numbers that are shown of an option; a kind from 9 on has a body instead
-unfoldable pub widthsOf : ℕ → List ℕ
-widthsOf kind = Kinds.widthsOf kind
 
 -- each number of a body in decimal, behind a blank
 unfoldable pub numbersOf : List ℕ → List ℕ → List ℕ
@@ -30,7 +26,7 @@ abbrev pub fieldsBy : List ℕ → List ℕ → List ℕ
 fieldsBy [] body = bodyOf body
 fieldsBy (width ∷ widths) body = numbersOf (width ∷ widths) body
 
--- what is shown of an option's fields or body
+-- what is shown of an option's fields, each number as wide as its kind says, or of its body
 abbrev pub fieldsOf : ℕ → List ℕ → List ℕ
 fieldsOf kind body = fieldsBy (widthsOf kind) body
 

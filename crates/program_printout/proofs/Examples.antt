@@ -14,7 +14,7 @@ use Rattle.wire_area.specs.Area.{nopsOf, areaOf}
 use Rattle.wire_surplus.specs.Surplus.{startOf}
 use Rattle.wire_datagram.specs.Reading.{payloadLimit, pseudoHeader, accepted, reading}
 use Rattle.program_text.specs.Digits.{digitsIn, decimalOf}
-use Rattle.program_lines.specs.Lines.{widthsOf, numbersOf, itemLine, itemLines}
+use Rattle.program_lines.specs.Lines.{numbersOf, itemLine, itemLines}
 use Rattle.program_verdict.specs.Words.{verdictLine}
 use Rattle.program_report.specs.Report.{numberLine, listingOf, readingText, reportOf}
 use Rattle.program_printout.specs.Input.{textOf}
@@ -33,5 +33,5 @@ line-1 =
 program-line-1 : textOf line-1
     ≡ 117 ∷ 115 ∷ 101 ∷ 114 ∷ 32 ∷ 48 ∷ 10 ∷ 118 ∷ 101 ∷ 114 ∷ 100 ∷ 105 ∷ 99 ∷ 116 ∷ 32 ∷ 114 ∷ 101 ∷ 97 ∷ 100 ∷ 10 ∷ 107 ∷ 105 ∷ 110 ∷ 100 ∷ 32 ∷ 54 ∷ 32 ∷ 51 ∷ 48 ∷ 48 ∷ 10 ∷ 102 ∷ 105 ∷ 108 ∷ 108 ∷ 32 ∷ 48 ∷ 10 ∷ []
 unfolding line-1 number udpHeader wordSum folded classOf headerOf stepOf walkFrom nopsOf areaOf optionLimit startOf payloadLimit firstOf accepted reading
-    pseudoHeader octets textOf reportOf readingText listingOf itemLines itemLine numberLine verdictLine widthsOf numbersOf decimalOf digitsIn
+    pseudoHeader octets textOf reportOf readingText listingOf itemLines itemLine numberLine verdictLine numbersOf decimalOf digitsIn
 program-line-1 = refl

@@ -4,7 +4,7 @@
 use mathlib.Core.Path.{_≡_, refl, sym, ap, ap₂, _∙_}
 use mathlib.Core.Bool.{Bool, true, false, cond}
 use mathlib.Core.List.{List, [], _∷_, _++_}
-use Prim.Native.Nat.{ℕ, _+_, _-_, _≤_, _<_}
+use Prim.Native.Nat.{ℕ, _-_, _≤_, _<_}
 use native.Mathlib.Nat.{zero-add}
 use native.Mathlib.Omega.{arith}
 use borrow.Author.Tests.{lt-ltb, le-ltb, ltb-true, ltb-false}
@@ -12,6 +12,7 @@ use lib.Dec.{ltb}
 use lib.ListN.{length, take, drop, getD, length-append, length-drop}
 use lib.Seq.{take-all, length-take-le}
 use Rattle.number_octets.specs.Octets.{part}
+use Rattle.number_octets.proofs.Laws.{part-rest}
 use Rattle.number_offsets.specs.Offsets.{udpHeader}
 use Rattle.wire_datagram.specs.Reading.{payloadLimit}
 use Rattle.wire_datagram.proofs.Refusals.{refused-long}
@@ -76,11 +77,9 @@ pub input-long : (l : List ℕ) → addresses ≤ length l
     ≡ textOf l
 unfolding textOf
 input-long l h =
-    let all : part addresses (length l - addresses) l ≡ drop addresses l =
-    take-all (length l - addresses) (drop addresses l) (simp length-drop (omega arith)) in
     let whole : List ℕ = reportOf (drop addresses l) (take addressSize l) (part addressSize addressSize l) in
     ap (λ (p : List ℕ).
-    reportOf p (getD l 0 0 ∷ getD l 1 0 ∷ getD l 2 0 ∷ getD l 3 0 ∷ []) (getD l 4 0 ∷ getD l 5 0 ∷ getD l 6 0 ∷ getD l 7 0 ∷ [])) all
+    reportOf p (getD l 0 0 ∷ getD l 1 0 ∷ getD l 2 0 ∷ getD l 3 0 ∷ []) (getD l 4 0 ∷ getD l 5 0 ∷ getD l 6 0 ∷ getD l 7 0 ∷ [])) (part-rest addresses l)
     ∙ ap₂ (λ (s d : List ℕ). reportOf (drop addresses l) s d) (source-bytes l h) (destination-bytes l h)
     ∙ sym (ap (λ (t : Bool). cond t (numberLine refusedWord 1) whole) (le-ltb (length l) addresses h))
 

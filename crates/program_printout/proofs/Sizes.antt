@@ -1,12 +1,12 @@
 -- Every report fits the program's text: a payload has at most 32 options, whose bodies together are no longer than it, each line has at most three
 -- numbers of 20 digits, and each byte of a body takes two digits.
 -- Assumes nothing.
-use mathlib.Core.Path.{_≡_, refl, sym, ap, _∙_}
+use mathlib.Core.Path.{_≡_, refl}
 use mathlib.Core.Bool.{Bool, true, false, cond}
 use mathlib.Core.List.{List, [], _∷_, _++_}
-use Prim.Native.Nat.{ℕ, zero, suc, _+_, _-_, _*_, _/_, _%_, _≤_, _<_}
+use Prim.Native.Nat.{ℕ, zero, suc, _+_, _*_, _/_, _%_, _≤_}
 use native.Mathlib.Omega.{arith}
-use borrow.Author.Tests.{ltb-true, ltb-false}
+use borrow.Author.Tests.{ltb-false}
 use lib.Dec.{eqb, ltb}
 use lib.ListN.{length, take, drop, length-append, length-take, length-drop}
 use Rattle.number_tests.proofs.Tests.{first-none}
@@ -14,16 +14,17 @@ use Rattle.number_octets.specs.Octets.{number, part}
 use Rattle.wire_options.specs.Walk.{Item, Walked, listed, faulty, walkFrom, optionLimit}
 use Rattle.wire_options.proofs.Sizes.{bodySizes, walk-bounded}
 use Rattle.wire_datagram.specs.Extents.{bytesIn, sizeOf}
-use Rattle.wire_datagram.specs.Reading.{Answer, refused, reads, payloadLimit, reading, isRead, refusalTests}
+use Rattle.wire_datagram.specs.Reading.{Answer, refused, reads, payloadLimit, reading, isRead}
 use Rattle.wire_datagram.specs.declared.reading.Extent.{Extent}
 use Rattle.wire_datagram.specs.declared.reading.Reading.{Reading}
 use Rattle.wire_datagram.specs.declared.reading.Verdict.{Verdict}
 use Rattle.wire_datagram.specs.declared.reading.Verdict.the-variants.{Bare, Short, Pad, Unsummed, BadSum, Malformed, Unsafe, FragData, Crowded, Read, Piece}
 use Rattle.wire_datagram.proofs.Claims.{met-none}
-use Rattle.program_text.specs.Digits.{digit, digitsIn, longest, decimalOf, hexDigit, hexOf}
+use Rattle.wire_options.specs.Kinds.{widthsOf}
+use Rattle.program_text.specs.Digits.{digit, digitsIn, longest, decimalOf, hexOf}
 use Rattle.program_text.specs.Characters.{blank, newline}
-use Rattle.program_lines.specs.Lines.{kindWord, widthsOf, numbersOf, bodyOf, fieldsBy, fieldsOf, itemLine, itemLines, itemsOf}
-use Rattle.program_verdict.specs.Words.{verdictWord, wordOf, verdictLine}
+use Rattle.program_lines.specs.Lines.{numbersOf, bodyOf, fieldsBy, fieldsOf, itemLine, itemLines, itemsOf}
+use Rattle.program_verdict.specs.Words.{wordOf, verdictLine}
 use Rattle.program_report.specs.Words.{userWord, fillWord, refusedWord}
 use Rattle.program_report.specs.Report.{numberLine, listingOf, readingText, answerText, reportOf}
 use Rattle.program_printout.specs.Input.{addressSize, addresses, textOf, textLimit}
@@ -65,7 +66,6 @@ body-size (b ∷ bytes) = omega (arith, hex-size (b ∷ bytes))
 
 -- no kind has more than two numbers
 widths-few : (kind : ℕ) → length (widthsOf kind) ≤ 2
-unfolding widthsOf
 widths-few kind = go (eqb kind 2) (eqb kind 4) (eqb kind 5) (eqb kind 6) (eqb kind 7) (eqb kind 8)
   where
     go : (a b c d e f : Bool)

@@ -1,6 +1,7 @@
 // What the program prints of its input (document 01, "The program").
 ghost use mathlib.Core.Path.{_≡_};
-ghost use Rattle.program_printout.specs.Input.{textOf, Holds};
+ghost use lib.ListN.{length};
+ghost use Rattle.program_printout.specs.Input.{inputLimit, textOf, Holds};
 
 // Both addresses.
 const ADDRESSES: usize = 8;
@@ -9,10 +10,17 @@ const ADDRESSES: usize = 8;
 const TOO_SHORT: usize = 1;
 
 // The addresses, and one byte more than a payload may have.
-pub const INPUT_LIMIT: usize = 65524;
+const INPUT_LIMIT: usize = 65524;
 
 // No report is longer.
 pub const TEXT_LIMIT: usize = 140000;
+
+// Room for the most bytes that the program reads.
+pub fn input_room() -> [u8; INPUT_LIMIT]
+    ensures { λ r. ⌜ length r ≡ inputLimit ⌝ }
+{
+    [0; INPUT_LIMIT]
+}
 
 // The program's text for its whole input: source, destination and payload. Missing bytes are refusal 1.
 pub fn print(input: &[u8], text: &mut [u8; TEXT_LIMIT]) -> usize

@@ -3,10 +3,10 @@
 use mathlib.Core.Path.{_≡_, refl, sym, ap, ap₂, _∙_, subst}
 use mathlib.Core.List.{List, [], _∷_, _++_}
 use Prim.Native.Nat.{ℕ, zero, suc, _+_, _-_, _≤_}
-use native.Mathlib.Nat.{add-zero, zero-add}
+use native.Mathlib.Nat.{add-zero}
 use native.Mathlib.Omega.{arith}
 use lib.ListN.{length, take, drop, length-append, length-take, take-append-drop}
-use lib.Seq.{take-all, take-nil, length-take-le, take-append-seam}
+use lib.Seq.{take-all, take-nil, length-take-le}
 use Rattle.number_octets.specs.Octets.{overlay}
 use Rattle.number_octets.proofs.Laws.{length-overlay, overlay-append}
 use Rattle.program_text.specs.Put.{fitting, Put}
@@ -74,11 +74,3 @@ module _ {t s : List ℕ} {at m : ℕ} {t₁ : List ℕ} (h : at ≤ length t) (
             q .leaves ∙ ap₂ (λ (l : List ℕ) (n : ℕ). overlay l n (take (length t₁ - m) u)) (p .leaves) (p .ends)
             ∙ overlay-append t at a (take (length t₁ - m) u) whole ∙ ap (overlay t at) both;
       }
-
--- put at the front: the buffer starts with the text, or with as much of it as the buffer holds
-pub put-front : {t s : List ℕ} {r : ℕ} {left : List ℕ} → Put t 0 s r left → take r left ≡ take (length t) s
-put-front {t} {s} {r} {left} p =
-    let cut : List ℕ = fitting t 0 s in
-    let all : length t - 0 ≡ length t = omega arith in
-    let size : r ≡ length cut = p .ends ∙ zero-add (length cut) in
-    ap₂ take size (p .leaves) ∙ take-append-seam cut (drop (0 + length cut) t) ∙ ap (λ (n : ℕ). take n s) all

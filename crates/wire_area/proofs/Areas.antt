@@ -1,7 +1,7 @@
 -- Laws of the walk of an area: leading NOPs, what a fragment that was found keeps to, that options come from the walk of a plain list, and where
 -- a fragment's bytes end.
 -- Assumes nothing.
-use mathlib.Core.Path.{_≡_, refl, sym, ap, subst, _∙_}
+use mathlib.Core.Path.{_≡_, refl, sym, ap, _∙_}
 use mathlib.Core.Bool.{Bool, true, false, cond, _&&_}
 use mathlib.Core.List.{List}
 use mathlib.Core.Logic.{⊎-elim}
@@ -15,7 +15,6 @@ use lib.Seq.{drop-cons}
 use Rattle.number_offsets.specs.Offsets.{placeOf}
 use Rattle.number_offsets.specs.declared.Origin.{Origin}
 use Rattle.number_offsets.specs.declared.Origin.the-variants.{At, BeforeData}
-use Rattle.number_octets.specs.Octets.{part}
 use Rattle.wire_options.specs.Kinds.{classOf, eol, nop, frag}
 use Rattle.wire_options.specs.Step.{stepOf}
 use Rattle.wire_options.specs.Walk.{Item, Walked, listed, faulty, walkFrom, optionLimit}
@@ -58,22 +57,26 @@ abbrev startOf : Placed → ℕ
 startOf (Sound f) = f .start .0
 startOf Refused = 0
 
+abbrev endOf : Placed → ℕ
+endOf (Sound f) = f .end .0
+endOf Refused = 0
+
 -- a fragment's bytes start behind FRAG and end with the list
 pub fragment-within : (fields : Fields) (base behind size : ℕ) (f : Fragment) → fragmentOf fields base behind size ≡ Sound f
-    → (base + behind ≤ f .start .0) × (f .start .0 ≤ base + size)
+    → (base + behind ≤ f .start .0) × (f .start .0 ≤ base + size) × (f .end .0 ≡ base + size)
 unfolding fragmentOf
 fragment-within fields base behind size f =
     go (leb (base + behind) (fields .start .0)) (leb (fields .start .0) (base + size)) (placeOf (fields .offset)) (placeOf (fields .«option_start»)) refl refl
   where
     go : (s t : Bool) (o r : Origin) → leb (base + behind) (fields .start .0) ≡ s → leb (fields .start .0) (base + size) ≡ t
-        → cond (s && t) (placedAt fields (base + size) o r) Refused ≡ Sound f → (base + behind ≤ f .start .0) × (f .start .0 ≤ base + size)
+        → cond (s && t) (placedAt fields (base + size) o r) Refused ≡ Sound f → (base + behind ≤ f .start .0) × (f .start .0 ≤ base + size) × (f .end .0 ≡ base + size)
     go false t o r p q e = absurd (let z : _≡_ {A = ℕ} 0 1 = cc in omega arith)
     go true false o r p q e = absurd (let z : _≡_ {A = ℕ} 0 1 = cc in omega arith)
     go true true BeforeData r p q e = absurd (let z : _≡_ {A = ℕ} 0 1 = cc in omega arith)
     go true true (At o) BeforeData p q e = absurd (let z : _≡_ {A = ℕ} 0 1 = cc in omega arith)
     go true true (At o) (At r) p q e =
         let same : fields .start .0 ≡ f .start .0 = ap startOf e in
-        (omega (arith, leb-true (base + behind) (fields .start .0) p), omega (arith, leb-true (fields .start .0) (base + size) q))
+        (omega (arith, leb-true (base + behind) (fields .start .0) p), omega (arith, leb-true (fields .start .0) (base + size) q), sym (ap endOf e))
 
 -- ---- a list whose walk gives options
 
@@ -117,75 +120,78 @@ pub plain-not : (w : Walked) (f : Fragment) → plainly w ≡ piece f → ⊥
 plain-not (listed others n) f e = let z : _≡_ {A = ℕ} 0 1 = cc in omega arith
 plain-not (faulty x) f e = let z : _≡_ {A = ℕ} 0 1 = cc in omega arith
 
-behind-data : (l : List ℕ) (base n : ℕ) (p : Placed) (f : Fragment) → behindFrag false l base n p ≡ piece f → ⊥
-behind-data l base n Refused f e = let z : _≡_ {A = ℕ} 0 1 = cc in omega arith
-behind-data l base n (Sound g) f e = let z : _≡_ {A = ℕ} 0 1 = cc in omega arith
+-- FRAG is the first option that is no NOP, and passes its tests: the fragment that it says
+pub record Leads (base : ℕ) (l : List ℕ) (f : Fragment) : Type 0 where
+  pub kind : ℕ
+  pub header : ℕ
+  pub size : ℕ
+  pub first : eqb (getD l (nopsOf l) eol) frag ≡ true
+  pub found : stepOf (drop (nopsOf l) l) ≡ Found kind header size
+  pub sound : fragmentOf (fieldsOf size (drop (nopsOf l) l)) base (nopsOf l + size) (length l) ≡ Sound f
 
-led-data : (l : List ℕ) (base nops : ℕ) (step : Step) (f : Fragment) → ledBy false l base nops step ≡ piece f → ⊥
-led-data l base nops (Found kind header size) f e =
-    behind-data l base (nops + size) (fragmentOf (fieldsOf size (drop nops l)) base (nops + size) (length l)) f e
-led-data l base nops End f e = let z : _≡_ {A = ℕ} 0 1 = cc in omega arith
-led-data l base nops Eol f e = let z : _≡_ {A = ℕ} 0 1 = cc in omega arith
-led-data l base nops Nop f e = let z : _≡_ {A = ℕ} 0 1 = cc in omega arith
-led-data l base nops Unsound f e = let z : _≡_ {A = ℕ} 0 1 = cc in omega arith
-led-data l base nops Outlawed f e = let z : _≡_ {A = ℕ} 0 1 = cc in omega arith
+-- what the walk comes to behind such a FRAG
+pub led-area : (empty : Bool) (base : ℕ) (l : List ℕ) (f : Fragment) (led : Leads base l f)
+    → areaOf empty base l ≡ behindFrag empty l base (nopsOf l + led .size) (Sound f)
+unfolding areaOf
+led-area empty base l f led =
+    ap (λ (t : Bool). cond t (ledBy empty l base (nopsOf l) (stepOf (drop (nopsOf l) l))) (plainly (walkFrom optionLimit 0 l))) (led .first)
+    ∙ ap (ledBy empty l base (nopsOf l)) (led .found) ∙ ap (behindFrag empty l base (nopsOf l + led .size)) (led .sound)
+
+with-same : (f g : Fragment) (w : Walked) → pieceWith g w ≡ piece f → g ≡ f
+with-same f g (listed items fill) q = cc
+with-same f g (faulty x) q = absurd (let z : _≡_ {A = ℕ} 0 1 = cc in omega arith)
+
+behind-same : (empty : Bool) (l : List ℕ) (base behind : ℕ) (f g : Fragment) → behindFrag empty l base behind (Sound g) ≡ piece f → g ≡ f
+behind-same true l base behind f g q = with-same f g (walkFrom (optionLimit - 1) 0 (upToStart g base behind l)) q
+behind-same false l base behind f g q = absurd (let z : _≡_ {A = ℕ} 0 1 = cc in omega arith)
+
+-- a piece is the fragment of the FRAG that leads its list
+pub piece-leads : (empty : Bool) (base : ℕ) (l : List ℕ) (f : Fragment) → areaOf empty base l ≡ piece f → Leads base l f
+unfolding areaOf
+piece-leads empty base l f = go (eqb (getD l nops eol) frag) refl
+  where
+    nops : ℕ
+    nops = nopsOf l
+
+    placed : (kind header size : ℕ) → eqb (getD l nops eol) frag ≡ true → stepOf (drop nops l) ≡ Found kind header size → (p : Placed)
+        → fragmentOf (fieldsOf size (drop nops l)) base (nops + size) (length l) ≡ p → behindFrag empty l base (nops + size) p ≡ piece f → Leads base l f
+    placed kind header size c e Refused s q = absurd (let z : _≡_ {A = ℕ} 0 1 = cc in omega arith)
+    placed kind header size c e (Sound g) s q = record {
+      kind = kind;
+      header = header;
+      size = size;
+      first = c;
+      found = e;
+      sound = s ∙ ap Sound (behind-same empty l base (nops + size) f g q);
+    }
+
+    led : (step : Step) → eqb (getD l nops eol) frag ≡ true → stepOf (drop nops l) ≡ step → ledBy empty l base nops step ≡ piece f → Leads base l f
+    led End c e q = absurd (let z : _≡_ {A = ℕ} 0 1 = cc in omega arith)
+    led Eol c e q = absurd (let z : _≡_ {A = ℕ} 0 1 = cc in omega arith)
+    led Nop c e q = absurd (let z : _≡_ {A = ℕ} 0 1 = cc in omega arith)
+    led Unsound c e q = absurd (let z : _≡_ {A = ℕ} 0 1 = cc in omega arith)
+    led Outlawed c e q = absurd (let z : _≡_ {A = ℕ} 0 1 = cc in omega arith)
+    led (Found kind header size) c e q =
+        placed kind header size c e (fragmentOf (fieldsOf size (drop nops l)) base (nops + size) (length l)) refl q
+
+    go : (t : Bool) → eqb (getD l nops eol) frag ≡ t
+        → cond t (ledBy empty l base nops (stepOf (drop nops l))) (plainly (walkFrom optionLimit 0 l)) ≡ piece f → Leads base l f
+    go true c q = led (stepOf (drop nops l)) c refl q
+    go false c q = absurd (plain-not (walkFrom optionLimit 0 l) f q)
 
 -- a datagram with user data is no piece
 pub data-not-piece : (base : ℕ) (l : List ℕ) (f : Fragment) → areaOf false base l ≡ piece f → ⊥
-unfolding areaOf
-data-not-piece base l f = go (eqb (getD l (nopsOf l) eol) frag)
-  where
-    go : (t : Bool) → cond t (ledBy false l base (nopsOf l) (stepOf (drop (nopsOf l) l))) (plainly (walkFrom optionLimit 0 l)) ≡ piece f → ⊥
-    go true e = led-data l base (nopsOf l) (stepOf (drop (nopsOf l) l)) f e
-    go false e = plain-not (walkFrom optionLimit 0 l) f e
-
-abbrev endOf : Placed → ℕ
-endOf (Sound f) = f .end .0
-endOf Refused = 0
-
-fragment-ends : (fields : Fields) (base behind size : ℕ) (f : Fragment) → fragmentOf fields base behind size ≡ Sound f → f .end .0 ≡ base + size
-unfolding fragmentOf
-fragment-ends fields base behind size f =
-    go (leb (base + behind) (fields .start .0) && leb (fields .start .0) (base + size)) (placeOf (fields .offset)) (placeOf (fields .«option_start»))
-  where
-    go : (t : Bool) (o r : Origin) → cond t (placedAt fields (base + size) o r) Refused ≡ Sound f → f .end .0 ≡ base + size
-    go false o r e = absurd (let z : _≡_ {A = ℕ} 0 1 = cc in omega arith)
-    go true BeforeData r e = absurd (let z : _≡_ {A = ℕ} 0 1 = cc in omega arith)
-    go true (At o) BeforeData e = absurd (let z : _≡_ {A = ℕ} 0 1 = cc in omega arith)
-    go true (At o) (At r) e = sym (ap endOf e)
+data-not-piece base l f e =
+    let q = sym (led-area false base l f (piece-leads false base l f e)) ∙ e in
+    let z : _≡_ {A = ℕ} 0 1 = cc in omega arith
 
 -- its bytes start within the list, or right behind it, and end with it
 pub record Ends (base : ℕ) (l : List ℕ) (f : Fragment) : Type 0 where
   pub starts : f .start .0 ≤ base + length l
   pub ends : f .end .0 ≡ base + length l
 
-same-piece : (g : Fragment) (w : Walked) (f : Fragment) → pieceWith g w ≡ piece f → g ≡ f
-same-piece g (listed others n) f e = cc
-same-piece g (faulty x) f e = absurd (let z : _≡_ {A = ℕ} 0 1 = cc in omega arith)
-
-behind-ends : (empty : Bool) (l : List ℕ) (base n : ℕ) (fields : Fields) (p : Placed) (f : Fragment) → fragmentOf fields base n (length l) ≡ p
-    → behindFrag empty l base n p ≡ piece f → Ends base l f
-behind-ends empty l base n fields Refused f q e = absurd (let z : _≡_ {A = ℕ} 0 1 = cc in omega arith)
-behind-ends false l base n fields (Sound g) f q e = absurd (let z : _≡_ {A = ℕ} 0 1 = cc in omega arith)
-behind-ends true l base n fields (Sound g) f q e =
-    subst (Ends base l) (same-piece g (walkFrom (optionLimit - 1) 0 (upToStart g base n l)) f e)
-    (record { starts = fragment-within fields base n (length l) g q .1; ends = fragment-ends fields base n (length l) g q })
-
-led-ends : (empty : Bool) (l : List ℕ) (base nops : ℕ) (step : Step) (f : Fragment) → ledBy empty l base nops step ≡ piece f → Ends base l f
-led-ends empty l base nops (Found kind header size) f e =
-    behind-ends empty l base (nops + size) (fieldsOf size (drop nops l))
-    (fragmentOf (fieldsOf size (drop nops l)) base (nops + size) (length l)) f refl e
-led-ends empty l base nops End f e = absurd (let z : _≡_ {A = ℕ} 0 1 = cc in omega arith)
-led-ends empty l base nops Eol f e = absurd (let z : _≡_ {A = ℕ} 0 1 = cc in omega arith)
-led-ends empty l base nops Nop f e = absurd (let z : _≡_ {A = ℕ} 0 1 = cc in omega arith)
-led-ends empty l base nops Unsound f e = absurd (let z : _≡_ {A = ℕ} 0 1 = cc in omega arith)
-led-ends empty l base nops Outlawed f e = absurd (let z : _≡_ {A = ℕ} 0 1 = cc in omega arith)
-
 pub area-piece : (empty : Bool) (base : ℕ) (l : List ℕ) (f : Fragment) → areaOf empty base l ≡ piece f → Ends base l f
-unfolding areaOf
-area-piece empty base l f = go (eqb (getD l (nopsOf l) eol) frag)
-  where
-    go : (t : Bool) → cond t (ledBy empty l base (nopsOf l) (stepOf (drop (nopsOf l) l))) (plainly (walkFrom optionLimit 0 l)) ≡ piece f
-        → Ends base l f
-    go true e = led-ends empty l base (nopsOf l) (stepOf (drop (nopsOf l) l)) f e
-    go false e = absurd (plain-not (walkFrom optionLimit 0 l) f e)
+area-piece empty base l f e =
+    let led = piece-leads empty base l f e in
+    let w = fragment-within (fieldsOf (led .size) (drop (nopsOf l) l)) base (nopsOf l + led .size) (length l) f (led .sound) in
+    record { starts = w .1; ends = w .2 }

@@ -8,7 +8,7 @@ use mathlib.Core.Logic.{⊎-elim}
 use Prim.Native.Nat.{ℕ, zero, suc, _+_, _-_, _≤_, _<_}
 use native.Mathlib.Nat.{add-zero}
 use native.Mathlib.Omega.{arith}
-use borrow.Author.Tests.{leb-true, eqb-true}
+use borrow.Author.Tests.{ne-eqb, leb-true, leb-false, eqb-true}
 use lib.Dec.{eqb, leb}
 use lib.ListN.{length, take, drop, getD, length-append, length-drop}
 use lib.Seq.{take-take, take-at, getD-take, getD-drop}
@@ -16,8 +16,8 @@ use Rattle.number_octets.specs.Octets.{number, part}
 use Rattle.number_offsets.specs.Offsets.{udpHeader}
 use Rattle.wire_options.specs.Kinds.{classOf, eol, nop, frag, lastFragSize}
 use Rattle.wire_options.specs.Step.{within, headerOf, fixedStep, varyingStep, stepIn, stepOf}
-use Rattle.wire_options.specs.Walk.{Item, Walked, listed, faulty, before, itemOf, sound, walkAt, walkFrom, optionLimit}
-use Rattle.wire_area.specs.Area.{nopsOf, fieldsOf, fragmentOf, piece, plainly, pieceWith, upToStart, behindFrag, ledBy, areaOf}
+use Rattle.wire_options.specs.Walk.{Item, listed, faulty, before, itemOf, sound, walkAt, walkFrom, optionLimit}
+use Rattle.wire_area.specs.Area.{nopsOf, fieldsOf, fragmentOf, piece, pieceWith, behindFrag, areaOf}
 use Rattle.wire_options.specs.declared.step.Class.{Class}
 use Rattle.wire_options.specs.declared.step.Class.the-variants.{EndOfList, NoOperation, Fixed, Varying, Unsafe}
 use Rattle.wire_options.specs.declared.step.Header.{Header}
@@ -27,10 +27,10 @@ use Rattle.wire_options.specs.declared.step.Step.the-variants.{End, Eol, Nop, F
 use Rattle.wire_options.specs.declared.walk.Fault.the-variants.{Malformed}
 use Rattle.wire_area.specs.declared.Fields.{Fields}
 use Rattle.wire_area.specs.declared.Fragment.{Fragment}
-use Rattle.wire_area.specs.declared.Placed.{Placed}
-use Rattle.wire_area.specs.declared.Placed.the-variants.{Sound as SoundPiece, Refused}
-use Rattle.wire_area.proofs.Areas.{fragment-within, plain-not}
-use Rattle.wire_options.proofs.Steps.{header-sound, step-found}
+use Rattle.wire_area.specs.declared.Placed.the-variants.{Sound as SoundPiece}
+use Rattle.wire_area.proofs.Areas.{fragment-within, Leads, led-area, piece-leads}
+use Rattle.wire_options.proofs.Steps.{Sized, header-sound, step-found}
+use Rattle.wire_options.proofs.Rests.{ListsBy, lists-by, walk-all}
 
 -- ---- lists with one front
 
@@ -49,60 +49,28 @@ part-same at k n l m e h = sym (part-front at k n l h) ∙ ap (part at k) e ∙ 
 -- ---- one step
 
 -- a header by the numbers that it is read from: the list's length, the length byte, and the length behind that
-abbrev longBy : ℕ → ℕ → Header
-longBy end long = cond (leb 4 end) (cond (leb 255 long) (within end 4 long) Broken) Broken
-
 abbrev headerBy : ℕ → ℕ → ℕ → Header
-headerBy end short long = cond (leb 2 end) (cond (eqb short 255) (longBy end long) (cond (leb 2 short) (within end 2 short) Broken)) Broken
-
-long-sound : (end long h s : ℕ) → longBy end long ≡ Sound h s → 255 ≤ s
-long-sound end long h s = go (leb 4 end) (leb 255 long) (leb long end) refl
-  where
-    go : (t u v : Bool) → leb 255 long ≡ u → cond t (cond u (cond v (Sound 4 long) Broken) Broken) Broken ≡ Sound h s → 255 ≤ s
-    go false u v e q = absurd (let z : _≡_ {A = ℕ} 0 1 = cc in omega arith)
-    go true false v e q = absurd (let z : _≡_ {A = ℕ} 0 1 = cc in omega arith)
-    go true true false e q = absurd (let z : _≡_ {A = ℕ} 0 1 = cc in omega arith)
-    go true true true e q = let same : long ≡ s = cc in omega (arith, leb-true 255 long e)
+headerBy end short long =
+    cond (leb 2 end)
+    (cond (eqb short 255) (cond (leb 4 end) (cond (leb 255 long) (within end 4 long) Broken) Broken) (cond (leb 2 short) (within end 2 short) Broken))
+    Broken
 
 -- the length behind the length byte is read only where the option is that long
-long-local : (end short x y h s : ℕ) → (255 ≤ s → x ≡ y) → headerBy end short x ≡ Sound h s → headerBy end short y ≡ Sound h s
-long-local end short x y h s same = go (leb 2 end) (eqb short 255)
-  where
-    other : Header
-    other = cond (leb 2 short) (within end 2 short) Broken
-
-    go : (t u : Bool) → cond t (cond u (longBy end x) other) Broken ≡ Sound h s → cond t (cond u (longBy end y) other) Broken ≡ Sound h s
-    go false u q = q
-    go true false q = q
-    go true true q = ap (longBy end) (sym (same (long-sound end x h s q))) ∙ q
-
 pub header-local : (n : ℕ) (l m : List ℕ) (h s : ℕ) → length l ≡ length m → take n l ≡ take n m → s ≤ n → headerOf l ≡ Sound h s
     → headerOf m ≡ Sound h s
 unfolding headerOf
 header-local n l m h s len same fits e =
-    let z = header-sound l h s e in
     let short : getD l 1 0 ≡ getD m 1 0 = byte-same n 1 l m same (omega (arith, z .least)) in
-    ap₂ (λ (i j : ℕ). headerBy i j (number (part 2 2 m))) (sym len) (sym short)
-    ∙ long-local (length l) (getD l 1 0) (number (part 2 2 l)) (number (part 2 2 m)) h s (λ big. ap number (part-same 2 2 n l m same (omega arith))) e
-
-class-header : (l : List ℕ) (class : Class) (kind h s : ℕ) → stepIn class l ≡ Found kind h s → headerOf l ≡ Sound h s
-class-header l EndOfList kind h s q = absurd (let z : _≡_ {A = ℕ} 0 1 = cc in omega arith)
-class-header l NoOperation kind h s q = absurd (let z : _≡_ {A = ℕ} 0 1 = cc in omega arith)
-class-header l Unsafe kind h s q = absurd (let z : _≡_ {A = ℕ} 0 1 = cc in omega arith)
-class-header l Varying kind h s q = go (headerOf l) q
+    ap₂ (λ (i j : ℕ). headerBy i j (number (part 2 2 m))) (sym len) (sym short) ∙ long (leb 255 s) refl ∙ e
   where
-    go : (header : Header) → varyingStep (getD l 0 0) header ≡ Found kind h s → header ≡ Sound h s
-    go Broken q = absurd (let z : _≡_ {A = ℕ} 0 1 = cc in omega arith)
-    go (Sound x y) q = cc
-class-header l (Fixed a b) kind h s q = go (headerOf l) q
-  where
-    pick : (t : Bool) (x y : ℕ) → cond t (Found (getD l 0 0) x y) Unsound ≡ Found kind h s → Sound x y ≡ Sound h s
-    pick false x y q = absurd (let z : _≡_ {A = ℕ} 0 1 = cc in omega arith)
-    pick true x y q = cc
+    z : Sized l h s
+    z = header-sound l h s e
 
-    go : (header : Header) → fixedStep (getD l 0 0) a b header ≡ Found kind h s → header ≡ Sound h s
-    go Broken q = absurd (let z : _≡_ {A = ℕ} 0 1 = cc in omega arith)
-    go (Sound x y) q = pick (eqb y a || eqb y b) x y q
+    long : (t : Bool) → leb 255 s ≡ t → headerBy (length l) (getD l 1 0) (number (part 2 2 m)) ≡ headerBy (length l) (getD l 1 0) (number (part 2 2 l))
+    long true p = ap (λ (b : List ℕ). headerBy (length l) (getD l 1 0) (number b)) (sym (part-same 2 2 n l m same (omega (arith, leb-true 255 s p))))
+    long false p =
+        let few : s < 255 = leb-false 255 s p in
+        simp (ne-eqb (getD l 1 0) 255 (λ b. ⊎-elim (λ r. omega arith) (λ r. omega arith) (z .read)))
 
 class-local : (class : Class) (l m : List ℕ) → getD l 0 0 ≡ getD m 0 0 → headerOf l ≡ headerOf m → stepIn class l ≡ stepIn class m
 class-local EndOfList l m front head = refl
@@ -120,8 +88,7 @@ step-local n (b ∷ bs) [] kind h s len same fits e = absurd (omega arith)
 step-local n (b ∷ bs) (c ∷ cs) kind h s len same fits e =
     let f = step-found (b ∷ bs) kind h s e in
     let front : b ≡ c = byte-same n 0 (b ∷ bs) (c ∷ cs) same (omega (arith, f .sized .least)) in
-    let head : headerOf (b ∷ bs) ≡ Sound h s = class-header (b ∷ bs) (classOf b) kind h s e in
-    let heads : headerOf (b ∷ bs) ≡ headerOf (c ∷ cs) = head ∙ sym (header-local n (b ∷ bs) (c ∷ cs) h s len same fits head) in
+    let heads : headerOf (b ∷ bs) ≡ headerOf (c ∷ cs) = f .headed ∙ sym (header-local n (b ∷ bs) (c ∷ cs) h s len same fits (f .headed)) in
     sym (class-local (classOf b) (b ∷ bs) (c ∷ cs) front heads ∙ ap (λ (k : ℕ). stepIn (classOf k) (c ∷ cs)) front) ∙ e
 
 -- a NOP is known by its one byte
@@ -153,38 +120,14 @@ nop-local b bs cs = go (classOf b)
 -- the fill is no more than what is left to walk
 pub fill-within : (room skip : ℕ) (l : List ℕ) (items : List Item) (fill : ℕ) → skip ≤ length l → walkFrom room skip l ≡ listed items fill
     → fill + skip ≤ length l
-unfolding walkFrom
-fill-within room skip [] items fill h q = let f : 0 ≡ fill = cc in omega arith
-fill-within room (suc skip) (b ∷ bs) items fill h q = omega (arith, fill-within room skip bs items fill (omega arith) q)
-fill-within room zero (b ∷ bs) items fill h q =
-    let d = go (stepOf (b ∷ bs)) refl q (λ left skip rest. fill-within left skip bs rest fill) in omega (arith, d)
-  where
-    rest : ℕ → ℕ → Walked
-    rest left skip = walkFrom left skip bs
-
-    Within : Type 0
-    Within = (left skip : ℕ) (rest : List Item) → skip ≤ length bs → walkFrom left skip bs ≡ listed rest fill → fill + skip ≤ length bs
-
-    front : (item : Item) (w : Walked) → before item w ≡ listed items fill → (rest : List Item) × (w ≡ listed rest fill)
-    front item (listed more end) q = let f : end ≡ fill = cc in (more, ap (listed more) f)
-    front item (faulty x) q = absurd (let z : _≡_ {A = ℕ} 0 1 = cc in omega arith)
-
-    option : (room : ℕ) (t : Bool) (item : Item) (size : ℕ) → size ≤ length (b ∷ bs)
-        → cond t (faulty Malformed) (sound room item (λ left. rest left (size - 1))) ≡ listed items fill → Within → fill ≤ length (b ∷ bs)
-    option room true item size fits q ih = absurd (let z : _≡_ {A = ℕ} 0 1 = cc in omega arith)
-    option zero false item size fits q ih = absurd (let z : _≡_ {A = ℕ} 0 1 = cc in omega arith)
-    option (suc room) false item size fits q ih =
-        let w = front item (rest room (size - 1)) q in
-        omega (arith, ih room (size - 1) (w .0) (omega arith) (w .1))
-
-    go : (step : Step) → stepOf (b ∷ bs) ≡ step → walkAt room (b ∷ bs) step rest ≡ listed items fill → Within → fill ≤ length (b ∷ bs)
-    go End e q ih = let f : 0 ≡ fill = cc in omega arith
-    go Eol e q ih = let f : length (b ∷ bs) ≡ fill = cc in omega arith
-    go Nop e q ih = omega (arith, ih room 0 items (omega arith) q)
-    go Unsound e q ih = absurd (let z : _≡_ {A = ℕ} 0 1 = cc in omega arith)
-    go Outlawed e q ih = absurd (let z : _≡_ {A = ℕ} 0 1 = cc in omega arith)
-    go (Found kind header size) e q ih =
-        option room (eqb kind frag) (itemOf kind header size (b ∷ bs)) size (step-found (b ∷ bs) kind header size e .sized .fits) q ih
+fill-within room skip l items fill h q =
+    walk-all (λ room skip l items fill. skip ≤ length l → fill + skip ≤ length l)
+    (λ room skip h. omega arith)
+    (λ room fill l f h. omega arith)
+    (λ room skip b bs items fill ih h. omega (arith, ih (omega arith)))
+    (λ room l items fill some ih h. omega (arith, ih (omega arith)))
+    (λ room l items fill kind header size e d ih h. omega (arith, ih (step-found l kind header size e .sized .fits)))
+    l room skip items fill q h
 
 module _ (x : ℕ) (a t u : List ℕ) (same : length t ≡ length u) where
   abbrev l : List ℕ
@@ -204,53 +147,33 @@ module _ (x : ℕ) (a t u : List ℕ) (same : length t ≡ length u) where
   fronts : take (suc (length a)) l ≡ take (suc (length a)) m
   fronts = take-at (x ∷ a) (eol ∷ t) (suc (length a)) refl ∙ sym (take-at (x ∷ a) (eol ∷ u) (suc (length a)) refl)
 
-  -- an option: the fill says that it ends before the EOL
-  option : (room kind header size : ℕ) (items : List Item) → stepOf l ≡ Found kind header size → eqb kind frag ≡ false
-      → sound room (itemOf kind header size l) (λ left. walkFrom left (size - 1) (a ++ (eol ∷ t))) ≡ listed items (suc (length t))
+  -- by the step at the front; of an option the fill says that it ends before the EOL
+  front : (room : ℕ) (items : List Item) (step : Step) → stepOf l ≡ step → ListsBy room l items (suc (length t)) step
       → Rest → walkFrom room 0 m ≡ listed items (suc (length u))
   unfolding walkFrom
-  option zero kind header size items e k q ih = absurd (let z : _≡_ {A = ℕ} 0 1 = cc in omega arith)
-  option (suc room) kind header size items e k q ih = go (walkFrom room (size - 1) (a ++ (eol ∷ t))) refl q
-    where
-      go : (w : Walked) → walkFrom room (size - 1) (a ++ (eol ∷ t)) ≡ w → before (itemOf kind header size l) w ≡ listed items (suc (length t))
-          → walkFrom (suc room) 0 m ≡ listed items (suc (length u))
-      go (faulty f) p q = absurd (let z : _≡_ {A = ℕ} 0 1 = cc in omega arith)
-      go (listed rest fill) p q =
-          let f = step-found l kind header size e .sized in
-          let all : itemOf kind header size l ∷ rest ≡ items = cc in
-          let end : fill ≡ suc (length t) = cc in
-          let left : length (a ++ (eol ∷ t)) ≡ length a + suc (length t) = length-append a (eol ∷ t) in
-          let d : fill + (size - 1) ≤ length (a ++ (eol ∷ t)) = fill-within room (size - 1) (a ++ (eol ∷ t)) rest fill (omega (arith, f .fits)) p in
-          let fits : size ≤ suc (length a) = omega (arith, f .least) in
-          let step : stepOf m ≡ Found kind header size = step-local (suc (length a)) l m kind header size lengths fronts fits e in
-          let next : walkFrom room (size - 1) (a ++ (eol ∷ u)) ≡ listed rest (suc (length u)) =
-          ih room (size - 1) rest (omega arith) (p ∙ ap (listed rest) end) in
-          let item : itemOf kind header size l ≡ itemOf kind header size m =
-          ap (λ (body : List ℕ). record { kind = kind; body = body })
-          (part-same header (size - header) (suc (length a)) l m fronts (omega (arith, f .head))) in
-          ap (λ (s : Step). walkAt (suc room) m s (λ left skip. walkFrom left skip (a ++ (eol ∷ u)))) step
-          ∙ ap (λ (c : Bool). cond c (faulty Malformed) (before (itemOf kind header size m) (walkFrom room (size - 1) (a ++ (eol ∷ u))))) k
-          ∙ ap₂ before (sym item) next ∙ ap (λ (i : List Item). listed i (suc (length u))) all
-
-  front : (room : ℕ) (items : List Item) (step : Step) → stepOf l ≡ step
-      → walkAt room l step (λ left skip. walkFrom left skip (a ++ (eol ∷ t))) ≡ listed items (suc (length t))
-      → Rest → walkFrom room 0 m ≡ listed items (suc (length u))
-  unfolding walkFrom
-  front room items End e q ih = absurd (let z : _≡_ {A = ℕ} 0 (suc (length t)) = cc in omega arith)
-  front room items Eol e q ih = absurd (let z : length l ≡ suc (length t) = cc in omega (arith, length-append a (eol ∷ t)))
-  front room items Unsound e q ih = absurd (let z : _≡_ {A = ℕ} 0 1 = cc in omega arith)
-  front room items Outlawed e q ih = absurd (let z : _≡_ {A = ℕ} 0 1 = cc in omega arith)
+  front room items End e q ih = absurd (omega (arith, q .1))
+  front room items Eol e q ih = absurd (omega (arith, q .1, length-append a (eol ∷ t)))
+  front room items Unsound e q ih = absurd q
+  front room items Outlawed e q ih = absurd q
   front room items Nop e q ih =
       ap (λ (s : Step). walkAt room m s (λ left skip. walkFrom left skip (a ++ (eol ∷ u)))) (nop-local x (a ++ (eol ∷ t)) (a ++ (eol ∷ u)) e)
       ∙ ih room 0 items (omega arith) q
-  front room items (Found kind header size) e q ih = go (eqb kind frag) refl q
-    where
-      go : (c : Bool) → eqb kind frag ≡ c
-          → cond c (faulty Malformed) (sound room (itemOf kind header size l) (λ left. walkFrom left (size - 1) (a ++ (eol ∷ t))))
-          ≡ listed items (suc (length t))
-          → walkFrom room 0 m ≡ listed items (suc (length u))
-      go true k q = absurd (let z : _≡_ {A = ℕ} 0 1 = cc in omega arith)
-      go false k q = option room kind header size items e k q ih
+  front room items (Found kind header size) e q ih =
+      let f = step-found l kind header size e .sized in
+      let left : length (a ++ (eol ∷ t)) ≡ length a + suc (length t) = length-append a (eol ∷ t) in
+      let d : suc (length t) + (size - 1) ≤ length (a ++ (eol ∷ t)) =
+      fill-within (q .left) (size - 1) (a ++ (eol ∷ t)) (q .later) (suc (length t)) (omega (arith, f .fits)) (q .walks) in
+      let fits : size ≤ suc (length a) = omega (arith, f .least) in
+      let step : stepOf m ≡ Found kind header size = step-local (suc (length a)) l m kind header size lengths fronts fits e in
+      let next : walkFrom (q .left) (size - 1) (a ++ (eol ∷ u)) ≡ listed (q .later) (suc (length u)) =
+      ih (q .left) (size - 1) (q .later) (omega arith) (q .walks) in
+      let item : itemOf kind header size l ≡ itemOf kind header size m =
+      ap (λ (body : List ℕ). record { kind = kind; body = body })
+      (part-same header (size - header) (suc (length a)) l m fronts (omega (arith, f .head))) in
+      ap (λ (r : ℕ). walkFrom r 0 m) (q .one)
+      ∙ ap (λ (s : Step). walkAt (suc (q .left)) m s (λ left skip. walkFrom left skip (a ++ (eol ∷ u)))) step
+      ∙ ap (λ (c : Bool). cond c (faulty Malformed) (before (itemOf kind header size m) (walkFrom (q .left) (size - 1) (a ++ (eol ∷ u))))) (q .other)
+      ∙ ap₂ before (sym item) next ∙ ap (λ (i : List Item). listed i (suc (length u))) (sym (q .splits))
 
 behind-from : (room skip : ℕ) (a t u : List ℕ) (items : List Item) → skip ≤ length a → length t ≡ length u
     → walkFrom room skip (a ++ (eol ∷ t)) ≡ listed items (suc (length t)) → walkFrom room skip (a ++ (eol ∷ u)) ≡ listed items (suc (length u))
@@ -259,7 +182,8 @@ behind-from room (suc skip) [] t u items h same q = absurd (omega arith)
 behind-from room zero [] t u items h same q = let none : [] ≡ items = cc in ap (λ (i : List Item). listed i (suc (length u))) none
 behind-from room (suc skip) (x ∷ a) t u items h same q = behind-from room skip a t u items (omega arith) same q
 behind-from room zero (x ∷ a) t u items h same q =
-    front x a t u same room items (stepOf (x ∷ (a ++ (eol ∷ t)))) refl q (λ left skip more within e. behind-from left skip a t u more within same e)
+    let l : List ℕ = x ∷ (a ++ (eol ∷ t)) in
+    front x a t u same room items (stepOf l) refl (lists-by room l items (suc (length t)) (stepOf l) (omega arith) refl q) (λ left skip more within e. behind-from left skip a t u more within same e)
 
 -- The walk looks at no byte behind EOL. The fill counts from the EOL to the end, so it says that the walk ended at this one.
 pub behind-eol : (room : ℕ) (a t u : List ℕ) (items : List Item) → length t ≡ length u
@@ -312,23 +236,6 @@ behind-local false l m base behind f h same = refl
 behind-local true l m base behind f h same =
     ap (λ (t : List ℕ). pieceWith f (walkFrom (optionLimit - 1) 0 t))
     (part-same behind (f .start .0 - (base + behind)) (f .start .0 - base) l m same (omega arith))
-
--- FRAG is the first option that is no NOP, and passes its tests: the fragment that it says
-pub record Leads (base : ℕ) (l : List ℕ) (f : Fragment) : Type 0 where
-  pub kind : ℕ
-  pub header : ℕ
-  pub size : ℕ
-  pub first : eqb (getD l (nopsOf l) eol) frag ≡ true
-  pub found : stepOf (drop (nopsOf l) l) ≡ Found kind header size
-  pub sound : fragmentOf (fieldsOf size (drop (nopsOf l) l)) base (nopsOf l + size) (length l) ≡ SoundPiece f
-
--- what the walk comes to behind such a FRAG
-pub led-area : (empty : Bool) (base : ℕ) (l : List ℕ) (f : Fragment) (led : Leads base l f)
-    → areaOf empty base l ≡ behindFrag empty l base (nopsOf l + led .size) (SoundPiece f)
-unfolding areaOf
-led-area empty base l f led =
-    ap (λ (t : Bool). cond t (ledBy empty l base (nopsOf l) (stepOf (drop (nopsOf l) l))) (plainly (walkFrom optionLimit 0 l))) (led .first)
-    ∙ ap (ledBy empty l base (nopsOf l)) (led .found) ∙ ap (behindFrag empty l base (nopsOf l + led .size)) (led .sound)
 
 module _
     (base : ℕ)
@@ -392,51 +299,7 @@ pub behind-frag-start : (empty : Bool) (base : ℕ) (l m : List ℕ) (f : Fragme
     → take (f .start .0 - base) l ≡ take (f .start .0 - base) m → areaOf empty base m ≡ areaOf empty base l
 behind-frag-start empty base l m f led len same = area-local base l m f len same empty led
 
--- ---- a piece is such a list
-
-with-same : (f g : Fragment) (w : Walked) → pieceWith g w ≡ piece f → g ≡ f
-with-same f g (listed items fill) q = cc
-with-same f g (faulty x) q = absurd (let z : _≡_ {A = ℕ} 0 1 = cc in omega arith)
-
-behind-same : (empty : Bool) (l : List ℕ) (base behind : ℕ) (f g : Fragment) → behindFrag empty l base behind (SoundPiece g) ≡ piece f → g ≡ f
-behind-same true l base behind f g q = with-same f g (walkFrom (optionLimit - 1) 0 (upToStart g base behind l)) q
-behind-same false l base behind f g q = absurd (let z : _≡_ {A = ℕ} 0 1 = cc in omega arith)
-
--- a piece is the fragment of the FRAG that leads its list
-pub piece-leads : (empty : Bool) (base : ℕ) (l : List ℕ) (f : Fragment) → areaOf empty base l ≡ piece f → Leads base l f
-unfolding areaOf
-piece-leads empty base l f = go (eqb (getD l nops eol) frag) refl
-  where
-    nops : ℕ
-    nops = nopsOf l
-
-    placed : (kind header size : ℕ) → eqb (getD l nops eol) frag ≡ true → stepOf (drop nops l) ≡ Found kind header size → (p : Placed)
-        → fragmentOf (fieldsOf size (drop nops l)) base (nops + size) (length l) ≡ p → behindFrag empty l base (nops + size) p ≡ piece f → Leads base l f
-    placed kind header size c e Refused s q = absurd (let z : _≡_ {A = ℕ} 0 1 = cc in omega arith)
-    placed kind header size c e (SoundPiece g) s q = record {
-      kind = kind;
-      header = header;
-      size = size;
-      first = c;
-      found = e;
-      sound = s ∙ ap SoundPiece (behind-same empty l base (nops + size) f g q);
-    }
-
-    led : (step : Step) → eqb (getD l nops eol) frag ≡ true → stepOf (drop nops l) ≡ step → ledBy empty l base nops step ≡ piece f → Leads base l f
-    led End c e q = absurd (let z : _≡_ {A = ℕ} 0 1 = cc in omega arith)
-    led Eol c e q = absurd (let z : _≡_ {A = ℕ} 0 1 = cc in omega arith)
-    led Nop c e q = absurd (let z : _≡_ {A = ℕ} 0 1 = cc in omega arith)
-    led Unsound c e q = absurd (let z : _≡_ {A = ℕ} 0 1 = cc in omega arith)
-    led Outlawed c e q = absurd (let z : _≡_ {A = ℕ} 0 1 = cc in omega arith)
-    led (Found kind header size) c e q =
-        placed kind header size c e (fragmentOf (fieldsOf size (drop nops l)) base (nops + size) (length l)) refl q
-
-    go : (t : Bool) → eqb (getD l nops eol) frag ≡ t
-        → cond t (ledBy empty l base nops (stepOf (drop nops l))) (plainly (walkFrom optionLimit 0 l)) ≡ piece f → Leads base l f
-    go true c q = led (stepOf (drop nops l)) c refl q
-    go false c q = absurd (plain-not (walkFrom optionLimit 0 l) f q)
-
--- so the walk of a piece looks at no byte of the piece itself
+-- a piece is such a list, so its walk looks at no byte of the piece itself
 pub behind-piece : (empty : Bool) (base : ℕ) (l m : List ℕ) (f : Fragment) → areaOf empty base l ≡ piece f → length l ≡ length m
     → take (f .start .0 - base) l ≡ take (f .start .0 - base) m → areaOf empty base m ≡ piece f
 behind-piece empty base l m f q len same = behind-frag-start empty base l m f (piece-leads empty base l f q) len same ∙ q

@@ -4,8 +4,7 @@ use mathlib.Core.Path.{_≡_, refl, sym, ap, _∙_}
 use mathlib.Core.Bool.{Bool, true, false, cond, _&&_, and-true, and-false}
 use mathlib.Core.List.{List, [], _∷_}
 use Prim.Native.Nat.{ℕ}
-use native.Mathlib.Omega.{arith}
-use borrow.Author.Tests.{eq-eqb, ne-eqb, eqb-true, eqb-false}
+use borrow.Author.Tests.{eq-eqb, eqb-true, eqb-false}
 use lib.Dec.{eqb}
 use Rattle.number_octets.specs.Octets.{number}
 use Rattle.number_crc32c.specs.Crc.{crcOf}
@@ -15,8 +14,7 @@ use Rattle.wire_options.specs.declared.walk.Apcs.{Apcs}
 use Rattle.wire_options.specs.declared.walk.Apcs.the-variants.{Absent as absent, Same, Different}
 use Rattle.wire_datagram.specs.Reading.{apcValues, allAre, apcOf}
 use Rattle.wire_datagram.specs.ByWalk.{apcBy}
-use Rattle.wire_datagram.specs.declared.reading.Apc.{Apc}
-use Rattle.wire_datagram.specs.declared.reading.Apc.the-variants.{Absent, Right, Wrong}
+use Rattle.wire_datagram.specs.declared.reading.Apc.the-variants.{Right, Wrong}
 
 -- values joined, as the walk joins them
 joinedValues : List ℕ → Apcs

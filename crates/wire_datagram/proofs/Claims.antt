@@ -1,8 +1,8 @@
 -- Demand 2's claims about a reading: user data survives whatever the area holds, and options are reported only with "read".
 -- Both go by what the area's start and walk come to: every case has the user data's extent, and only "read" has more.
 -- Assumes nothing.
-use mathlib.Core.Path.{_≡_, refl, sym, ap, ap₂, subst, _∙_}
-use mathlib.Core.List.{List, _++_}
+use mathlib.Core.Path.{_≡_, refl, sym, ap, subst, _∙_}
+use mathlib.Core.List.{List}
 use mathlib.Core.Logic.{_⊎_, inl, inr}
 use mathlib.Core.Option.{Option, none, some}
 use Prim.Native.Nat.{ℕ, _+_, _-_, _≤_}
@@ -17,7 +17,7 @@ use Rattle.number_octets.proofs.Laws.{part-take}
 use Rattle.number_offsets.specs.Offsets.{udpHeader}
 use Rattle.wire_area.specs.Area.{AreaWalk, plain, piece, fault, areaOf}
 use Rattle.wire_surplus.specs.Surplus.{startOf}
-use Rattle.wire_datagram.specs.Reading.{noData, udpLength, udpChecksum, refusalTests, extent, walked, started, isOdd, accepted, Answer, refused, reads, answered, reading}
+use Rattle.wire_datagram.specs.Reading.{noData, udpLength, udpChecksum, refusalTests, extent, walked, started, isOdd, accepted, reads, answered, reading}
 use Rattle.wire_surplus.specs.declared.Start.{Start}
 use Rattle.wire_surplus.specs.declared.Start.the-variants.{Empty, Short, Pad, Unsummed, BadSum, List as ListAt}
 use Rattle.wire_datagram.specs.declared.reading.Apc.the-variants.{Absent}

@@ -8,8 +8,8 @@ use Prim.Native.Nat.{ℕ, _+_, _-_, _≤_}
 use native.Mathlib.Omega.{arith}
 use lib.Dec.{eqb}
 use lib.ListN.{length, drop, length-drop}
-use lib.Seq.{take-all}
 use Rattle.number_octets.specs.Octets.{part}
+use Rattle.number_octets.proofs.Laws.{part-rest}
 use Rattle.wire_options.specs.Walk.{Item, listed, walkFrom, optionLimit}
 use Rattle.wire_area.specs.Area.{AreaWalk, plain, piece, fault, areaOf}
 use Rattle.wire_options.specs.declared.walk.Fault.{Fault}
@@ -35,10 +35,7 @@ pub record Lists (bytes : List ℕ) (from to count fill : ℕ) : Type 0 where
 
 -- they are all the bytes from `from` on
 pub lists-part : (bytes : List ℕ) (from to count fill : ℕ) → Lists bytes from to count fill → part from (to - from) bytes ≡ drop from bytes
-lists-part bytes from to count fill l =
-    let h : from ≤ to = l .ordered in
-    let n : to ≡ length bytes = l .ends in
-    take-all (to - from) (drop from bytes) (simp length-drop (omega arith))
+lists-part bytes from to count fill l = ap (λ (n : ℕ). part from (n - from) bytes) (l .ends) ∙ part-rest from bytes
 
 abbrev pub ListsIn : List ℕ → Reading → Type 0
 ListsIn payload r = Lists payload (r .options .from .0) (r .options .to .0) (r .count) (r .fill)

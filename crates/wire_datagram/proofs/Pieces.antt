@@ -1,6 +1,6 @@
 -- A fragment that a reading names lies in its payload: its bytes run to the payload's end.
 -- Assumes nothing.
-use mathlib.Core.Path.{_≡_, refl, sym, ap, subst, _∙_}
+use mathlib.Core.Path.{_≡_, refl, ap, subst, _∙_}
 use mathlib.Core.Bool.{Bool}
 use mathlib.Core.List.{List}
 use Prim.Native.Nat.{ℕ, _+_, _≤_}
@@ -11,38 +11,13 @@ use Rattle.number_offsets.specs.Offsets.{udpHeader}
 use Rattle.wire_area.specs.Area.{AreaWalk, plain, piece, fault, areaOf}
 use Rattle.wire_area.specs.declared.Fragment.{Fragment}
 use Rattle.wire_options.specs.declared.walk.Fault.{Fault}
-use Rattle.wire_options.specs.declared.walk.Fault.the-variants.{
-  Malformed as malformedList,
-  Unsafe as unsafeList,
-  FragData as fragData,
-  Crowded as crowdedList,
-}
+use Rattle.wire_options.specs.declared.walk.Fault.the-variants.{Malformed as malformedList, Unsafe as unsafeList, FragData as fragData, Crowded as crowdedList}
 use Rattle.wire_area.proofs.Areas.{area-piece}
 use Rattle.wire_surplus.specs.Surplus.{startOf}
 use Rattle.wire_datagram.specs.Reading.{noData, udpLength, udpChecksum, verdictOf, walked, started, isOdd, accepted, reads, reading}
 use Rattle.wire_surplus.specs.declared.Start.{Start}
-use Rattle.wire_surplus.specs.declared.Start.the-variants.{
-  Empty,
-  Short as shortArea,
-  Pad as badPad,
-  Unsummed as noSum,
-  BadSum as badSum,
-  List as ListAt,
-}
-use Rattle.wire_datagram.specs.declared.reading.Verdict.{Verdict}
-use Rattle.wire_datagram.specs.declared.reading.Verdict.the-variants.{
-  Bare,
-  Short,
-  Pad,
-  Unsummed,
-  BadSum,
-  Malformed,
-  Unsafe,
-  FragData,
-  Crowded,
-  Read,
-  Piece,
-}
+use Rattle.wire_surplus.specs.declared.Start.the-variants.{Empty, Short as shortArea, Pad as badPad, Unsummed as noSum, BadSum as badSum, List as ListAt}
+use Rattle.wire_datagram.specs.declared.reading.Verdict.the-variants.{Piece}
 use Rattle.wire_datagram.specs.declared.reading.Reading.{Reading}
 use Rattle.wire_datagram.proofs.Claims.{met-none, in-range}
 use Rattle.wire_surplus.proofs.Starts.{start-list}

@@ -1,7 +1,7 @@
 -- Demand 2's "user data survives", of every payload that 1 to 3 let pass and whose UDP checksum is zero or right: it is read, with the user data
 -- 8 to L, whatever the area holds and however long it is. Only a list whose datagram has no user data can be a piece's.
 -- Assumes nothing.
-use mathlib.Core.Path.{_≡_, refl, sym, ap, subst, _∙_}
+use mathlib.Core.Path.{_≡_, refl, ap, _∙_}
 use mathlib.Core.Bool.{Bool, true, false}
 use mathlib.Core.List.{List}
 use mathlib.Core.Logic.{_⊎_}

@@ -2,13 +2,12 @@
 -- Assumes nothing.
 use mathlib.Core.Path.{_≡_, refl, ap}
 use mathlib.Core.Bool.{Bool, true, false, cond}
-use Prim.Native.Nat.{ℕ, zero, suc, _≤_, _<_}
+use Prim.Native.Nat.{ℕ, _≤_}
 use native.Mathlib.Omega.{arith}
 use borrow.Author.Tests.{ne-eqb, le-leb, lt-leb, eqb-true, eqb-false}
 use lib.Dec.{eqb, leb}
-use Rattle.wire_options.specs.Kinds.{classOf, eol, nop, apc, frag}
-use Rattle.wire_options.specs.declared.step.Class.{Class}
-use Rattle.wire_options.specs.declared.step.Class.the-variants.{EndOfList, NoOperation, Fixed, Varying, Unsafe}
+use Rattle.wire_options.specs.Kinds.{classOf}
+use Rattle.wire_options.specs.declared.step.Class.the-variants.{Fixed, Varying, Unsafe}
 
 -- kinds from 9 on have no case of their own
 above : (k : ℕ) → 9 ≤ k → classOf k ≡ cond (leb k 191) Varying Unsafe

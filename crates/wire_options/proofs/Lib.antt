@@ -1,4 +1,5 @@
 pub mod Classes
+pub mod Rests
 pub mod Sizes
 pub mod Steps
 pub mod Walks

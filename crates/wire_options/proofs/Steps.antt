@@ -16,8 +16,7 @@ use Rattle.wire_options.specs.declared.step.Class.{Class}
 use Rattle.wire_options.specs.declared.step.Class.the-variants.{EndOfList, NoOperation, Fixed, Varying, Unsafe}
 use Rattle.wire_options.specs.declared.step.Header.{Header}
 use Rattle.wire_options.specs.declared.step.Header.the-variants.{Sound, Broken}
-use Rattle.wire_options.specs.declared.step.Step.{Step}
-use Rattle.wire_options.specs.declared.step.Step.the-variants.{End, Eol, Nop, Found, Malformed, Outlawed}
+use Rattle.wire_options.specs.declared.step.Step.the-variants.{Found, Malformed}
 
 -- ---- headers
 
@@ -27,20 +26,20 @@ pub record Sized (l : List ℕ) (h s : ℕ) : Type 0 where
   pub head : h ≤ s
   pub fits : s ≤ length l
   pub short : s < 255 → h ≡ 2
+  pub read : (s ≡ getD l 1 0) ⊎ ((h ≡ 4) × (255 ≤ s) × (s ≡ number (part 2 2 l)))
 
 not-sound : (h s : ℕ) → Broken ≡ Sound h s → ⊥
 not-sound h s e = let z : _≡_ {A = ℕ} 0 1 = cc in omega arith
 
-within-sound : (l : List ℕ) (x y h s : ℕ) → 2 ≤ y → x ≤ y → (y < 255 → x ≡ 2) → within (length l) x y ≡ Sound h s → Sized l h s
-within-sound l x y h s least head short = go (leb y (length l)) refl
+within-sound : (l : List ℕ) (x y h s : ℕ) → (y ≤ length l → Sized l x y) → within (length l) x y ≡ Sound h s → Sized l h s
+within-sound l x y h s sized = go (leb y (length l)) refl
   where
     go : (t : Bool) → leb y (length l) ≡ t → cond t (Sound x y) Broken ≡ Sound h s → Sized l h s
     go false e q = absurd (not-sound h s q)
     go true e q =
         let hx : x ≡ h = cc in
         let sy : y ≡ s = cc in
-        let f : y ≤ length l = leb-true y (length l) e in
-        record { least = omega arith; head = omega arith; fits = omega arith; short = λ (u : s < 255). sym hx ∙ short (omega arith) }
+        rw (← hx, ← sy) (sized (leb-true y (length l) e))
 
 extended-sound : (l : List ℕ) (h s : ℕ) → extended l ≡ Sound h s → Sized l h s
 extended-sound l h s = go (leb 4 (length l)) (leb 255 (number (part 2 2 l))) refl
@@ -51,7 +50,8 @@ extended-sound l h s = go (leb 4 (length l)) (leb 255 (number (part 2 2 l))) ref
     go true false e q = absurd (not-sound h s q)
     go true true e q =
         let big : 255 ≤ number (part 2 2 l) = leb-true 255 (number (part 2 2 l)) e in
-        within-sound l 4 (number (part 2 2 l)) h s (omega arith) (omega arith) (λ u. absurd (omega arith)) q
+        within-sound l 4 (number (part 2 2 l)) h s
+        (λ f. record { least = omega arith; head = omega arith; fits = f; short = λ u. absurd (omega arith); read = inr (refl, big, refl) }) q
 
 pub header-sound : (l : List ℕ) (h s : ℕ) → headerOf l ≡ Sound h s → Sized l h s
 unfolding headerOf
@@ -64,12 +64,13 @@ header-sound l h s = go (leb 2 (length l)) (eqb (getD l 1 0) 255) (leb 2 (getD l
     go true false false e q = absurd (not-sound h s q)
     go true false true e q =
         let two : 2 ≤ getD l 1 0 = leb-true 2 (getD l 1 0) e in
-        within-sound l 2 (getD l 1 0) h s two two (λ u. refl) q
+        within-sound l 2 (getD l 1 0) h s (λ f. record { least = two; head = two; fits = f; short = λ u. refl; read = inl refl }) q
 
 -- ---- options
 
 pub record FoundIn (l : List ℕ) (kind header size : ℕ) : Type 0 where
   pub front : kind ≡ getD l 0 0
+  pub headed : headerOf l ≡ Sound header size
   pub sized : Sized l header size
   pub fixed : (a b : ℕ) → classOf kind ≡ Fixed a b → (size ≡ a) ⊎ (size ≡ b)
 
@@ -103,6 +104,7 @@ class-found l (Fixed a b) kind h s c q =
     let f = fixed-found l (getD l 0 0) a b (headerOf l) kind h s refl q in
     record {
       front = sym (f .0);
+      headed = f .1;
       sized = header-sound l h s (f .1);
       fixed = λ x y e.
           let at : Fixed a b ≡ Fixed x y = sym c ∙ ap classOf (f .0) ∙ e in
@@ -114,6 +116,7 @@ class-found l Varying kind h s c q =
     let f = varying-found l (getD l 0 0) (headerOf l) kind h s refl q in
     record {
       front = sym (f .0);
+      headed = f .1;
       sized = header-sound l h s (f .1);
       fixed = λ x y e.
           let at : Varying ≡ Fixed x y = sym c ∙ ap classOf (f .0) ∙ e in

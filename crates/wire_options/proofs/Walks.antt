@@ -1,10 +1,10 @@
 -- Laws of the walk: how one step carries what the walk tells of a list to what it tells of the rest.
 -- Assumes nothing.
-use mathlib.Core.Path.{_≡_, refl, sym, ap, ap₂, _∙_}
+use mathlib.Core.Path.{_≡_, refl, sym, ap, ap₂, subst, _∙_}
 use mathlib.Core.Bool.{Bool, true, false, cond}
 use mathlib.Core.List.{List, [], _∷_}
 use Prim.Native.Nat.{ℕ, zero, suc, _+_, _-_, _≤_, _<_}
-use native.Mathlib.Nat.{add-zero, zero-add, add-assoc}
+use native.Mathlib.Nat.{zero-add, add-assoc}
 use native.Mathlib.Omega.{arith}
 use borrow.Author.Tests.{eq-eqb, ne-eqb, eqb-true, eqb-false}
 use lib.Dec.{eqb}
@@ -16,8 +16,7 @@ use Rattle.wire_options.specs.Progress.{roomProgress, progressIn, progre
 use Rattle.wire_options.specs.Walk.{Item, Walked, listed, faulty, before, itemOf, sound, walkAt, walkFrom, joined, apcOf, apcsOf, walkAnswer}
 use Rattle.wire_options.specs.declared.step.Step.{Step}
 use Rattle.wire_options.specs.declared.step.Step.the-variants.{End, Eol, Nop, Found, Malformed as Unsound, Outlawed}
-use Rattle.wire_options.specs.declared.walk.Fault.{Fault}
-use Rattle.wire_options.specs.declared.walk.Fault.the-variants.{Malformed, Unsafe, Crowded}
+use Rattle.wire_options.specs.declared.walk.Fault.the-variants.{Malformed}
 use Rattle.wire_options.specs.declared.walk.Apcs.{Apcs}
 use Rattle.wire_options.specs.declared.walk.Apcs.the-variants.{Absent, Same, Different}
 use Rattle.wire_options.specs.declared.walk.Progress.{Progress}
@@ -97,6 +96,12 @@ pub record Goes (room : ℕ) (l : List ℕ) (left size : ℕ) (apcs : Apcs) : Ty
   pub fits : size ≤ length l
   pub carries : walkAnswer (walkFrom room 0 l) ≡ behind (room - left) apcs (walkAnswer (walkFrom left 0 (drop size l)))
 
+-- what the walk tells of a list, by how its first step goes on
+abbrev pub Tells : ℕ → List ℕ → Progress → Type 0
+Tells room l (On left size apcs) = Goes room l left size apcs
+Tells room l (Ended fill) = walkAnswer (walkFrom room 0 l) ≡ Listed 0 fill Absent
+Tells room l (Failed fault) = walkAnswer (walkFrom room 0 l) ≡ Faulty fault
+
 module _ (b : ℕ) (bs : List ℕ) where
   abbrev l : List ℕ
   l = b ∷ bs
@@ -104,106 +109,53 @@ module _ (b : ℕ) (bs : List ℕ) where
   abbrev rest : ℕ → ℕ → Walked
   rest left skip = walkFrom left skip bs
 
-  -- an option that was taken: one less may come, and the rest starts behind it
-  took : (room kind header size left′ size′ : ℕ) (apcs : Apcs) → stepOf l ≡ Found kind header size
-      → roomProgress room size (apcOf (itemOf kind header size l)) ≡ On left′ size′ apcs
-      → walkAnswer (walkFrom room 0 l) ≡ walkAnswer (sound room (itemOf kind header size l) (λ left. rest left (size - 1)))
-      → Goes room l left′ size′ apcs
-  took zero kind header size left′ size′ apcs e q w = absurd (let z : _≡_ {A = ℕ} 0 1 = cc in omega arith)
-  took (suc room) kind header size left′ size′ apcs e q w =
-      let f = step-found l kind header size e in
-      let same-left : room ≡ left′ = cc in
-      let same-size : size ≡ size′ = cc in
-      let same-apcs : apcOf (itemOf kind header size l) ≡ apcs = cc in
-      let one : suc room - left′ ≡ 1 = omega arith in
-      let less : size - 1 ≡ size′ - 1 = omega arith in
-      let down : size′ ≡ suc (size′ - 1) = omega (arith, f .sized .least) in
-      let there : walkFrom room (size - 1) bs ≡ walkFrom left′ 0 (drop size′ l) =
-      walk-skip room (size - 1) bs ∙ ap₂ (λ (r k : ℕ). walkFrom r 0 (drop k bs)) same-left less
-      ∙ ap (λ (k : ℕ). walkFrom left′ 0 (drop k l)) (sym down) in
-      record {
-        less = omega arith;
-        some = omega (arith, f .sized .least);
-        fits = omega (arith, f .sized .fits);
-        carries =
-            w ∙ told-before (itemOf kind header size l) (rest room (size - 1))
-            ∙ ap₂ (λ (a : Apcs) (v : Walked). behind 1 a (walkAnswer v)) same-apcs there
-            ∙ ap (λ (n : ℕ). behind n apcs (walkAnswer (walkFrom left′ 0 (drop size′ l)))) (sym one);
-      }
-
-  goes-step : (room left size : ℕ) (apcs : Apcs) (step : Step) → stepOf l ≡ step → progressIn room l step ≡ On left size apcs
-      → walkAnswer (walkFrom room 0 l) ≡ walkAnswer (walkAt room l step rest) → Goes room l left size apcs
-  goes-step room left size apcs End e q w = absurd (let z : _≡_ {A = ℕ} 0 1 = cc in omega arith)
-  goes-step room left size apcs Eol e q w = absurd (let z : _≡_ {A = ℕ} 0 1 = cc in omega arith)
-  goes-step room left size apcs Unsound e q w = absurd (let z : _≡_ {A = ℕ} 0 1 = cc in omega arith)
-  goes-step room left size apcs Outlawed e q w = absurd (let z : _≡_ {A = ℕ} 0 1 = cc in omega arith)
-  goes-step room left size apcs Nop e q w =
-      let same-left : room ≡ left = cc in
-      let same-size : 1 ≡ size = cc in
-      let same-apcs : Absent ≡ apcs = cc in
-      let none : room - left ≡ 0 = omega arith in
+  tells-step : (room : ℕ) (step : Step) → stepOf l ≡ step → walkFrom room 0 l ≡ walkAt room l step rest → Tells room l (progressIn room l step)
+  unfolding apcsOf
+  tells-step room End e w = ap walkAnswer w
+  tells-step room Eol e w = ap walkAnswer w
+  tells-step room Unsound e w = ap walkAnswer w
+  tells-step room Outlawed e w = ap walkAnswer w
+  tells-step room Nop e w =
+      let none : 0 ≡ room - room = omega arith in
       record {
         less = omega arith;
         some = omega arith;
         fits = omega arith;
         carries =
-            w ∙ sym (behind-none (walkAnswer (walkFrom room 0 bs)))
-            ∙ ap₂ (λ (r k : ℕ). behind 0 Absent (walkAnswer (walkFrom r 0 (drop k l)))) same-left same-size
-            ∙ ap₂ (λ (n : ℕ) (a : Apcs). behind n a (walkAnswer (walkFrom left 0 (drop size l)))) (sym none) same-apcs;
+            ap walkAnswer w ∙ sym (behind-none (walkAnswer (walkFrom room 0 bs)))
+            ∙ ap (λ (n : ℕ). behind n Absent (walkAnswer (walkFrom room 0 bs))) none;
       }
-  goes-step room left size apcs (Found kind header whole) e q w = go (eqb kind frag) refl q w
+  tells-step room (Found kind header size) e w = go (eqb kind frag) room w
     where
-      go : (t : Bool) → eqb kind frag ≡ t
-          → cond t (Failed Malformed) (roomProgress room whole (apcOf (itemOf kind header whole l))) ≡ On left size apcs
-          → walkAnswer (walkFrom room 0 l)
-          ≡ walkAnswer (cond t (faulty Malformed) (sound room (itemOf kind header whole l) (λ k. rest k (whole - 1))))
-          → Goes room l left size apcs
-      go true p r v = absurd (let z : _≡_ {A = ℕ} 0 1 = cc in omega arith)
-      go false p r v = took room kind header whole left size apcs e r v
+      item : Item
+      item = itemOf kind header size l
 
-  ended-step : (room fill : ℕ) (step : Step) → progressIn room l step ≡ Ended fill → walkAnswer (walkAt room l step rest) ≡ Listed 0 fill Absent
-  unfolding apcsOf
-  ended-step room fill End q = let f : 0 ≡ fill = cc in ap (λ (n : ℕ). Listed 0 n Absent) f
-  ended-step room fill Eol q = let f : length (b ∷ bs) ≡ fill = cc in ap (λ (n : ℕ). Listed 0 n Absent) f
-  ended-step room fill Nop q = absurd (let z : _≡_ {A = ℕ} 0 1 = cc in omega arith)
-  ended-step room fill Unsound q = absurd (let z : _≡_ {A = ℕ} 0 1 = cc in omega arith)
-  ended-step room fill Outlawed q = absurd (let z : _≡_ {A = ℕ} 0 1 = cc in omega arith)
-  ended-step room fill (Found kind header whole) q = go (eqb kind frag) room q
-    where
-      go : (t : Bool) (r : ℕ) → cond t (Failed Malformed) (roomProgress r whole (apcOf (itemOf kind header whole l))) ≡ Ended fill
-          → walkAnswer (cond t (faulty Malformed) (sound r (itemOf kind header whole l) (λ k. rest k (whole - 1)))) ≡ Listed 0 fill Absent
-      go true r p = absurd (let z : _≡_ {A = ℕ} 0 1 = cc in omega arith)
-      go false zero p = absurd (let z : _≡_ {A = ℕ} 0 1 = cc in omega arith)
-      go false (suc r) p = absurd (let z : _≡_ {A = ℕ} 0 1 = cc in omega arith)
+      -- an option that is taken: one less may come, and the rest starts behind it
+      go : (t : Bool) (r : ℕ) → walkFrom r 0 l ≡ cond t (faulty Malformed) (sound r item (λ left. rest left (size - 1)))
+          → Tells r l (cond t (Failed Malformed) (roomProgress r size (apcOf item)))
+      go true r w = ap walkAnswer w
+      go false zero w = ap walkAnswer w
+      go false (suc r) w =
+          let f = step-found l kind header size e .sized in
+          let one : 1 ≡ suc r - r = omega arith in
+          let down : suc (size - 1) ≡ size = omega (arith, f .least) in
+          record {
+            less = omega arith;
+            some = omega (arith, f .least);
+            fits = f .fits;
+            carries =
+                ap walkAnswer w ∙ told-before item (rest r (size - 1))
+                ∙ ap₂ (λ (n : ℕ) (v : Walked). behind n (apcOf item) (walkAnswer v)) one
+                (walk-skip r (size - 1) bs ∙ ap (λ (k : ℕ). walkFrom r 0 (drop k l)) down);
+          }
 
-  failed-step : (room : ℕ) (fault : Fault) (step : Step) → progressIn room l step ≡ Failed fault → walkAnswer (walkAt room l step rest) ≡ Faulty fault
-  failed-step room fault End q = absurd (let z : _≡_ {A = ℕ} 0 1 = cc in omega arith)
-  failed-step room fault Eol q = absurd (let z : _≡_ {A = ℕ} 0 1 = cc in omega arith)
-  failed-step room fault Nop q = absurd (let z : _≡_ {A = ℕ} 0 1 = cc in omega arith)
-  failed-step room fault Unsound q = let f : Malformed ≡ fault = cc in ap Faulty f
-  failed-step room fault Outlawed q = let f : Unsafe ≡ fault = cc in ap Faulty f
-  failed-step room fault (Found kind header whole) q = go (eqb kind frag) room q
-    where
-      go : (t : Bool) (r : ℕ) → cond t (Failed Malformed) (roomProgress r whole (apcOf (itemOf kind header whole l))) ≡ Failed fault
-          → walkAnswer (cond t (faulty Malformed) (sound r (itemOf kind header whole l) (λ k. rest k (whole - 1)))) ≡ Faulty fault
-      go true r p = let f : Malformed ≡ fault = cc in ap Faulty f
-      go false zero p = let f : Crowded ≡ fault = cc in ap Faulty f
-      go false (suc r) p = absurd (let z : _≡_ {A = ℕ} 0 1 = cc in omega arith)
+pub tells : (room : ℕ) (l : List ℕ) (progress : Progress) → 0 < length l → progressOf room l ≡ progress → Tells room l progress
+unfolding walkFrom progressOf
+tells room [] progress h q = absurd (omega arith)
+tells room (b ∷ bs) progress h q = subst (Tells room (b ∷ bs)) q (tells-step b bs room (stepOf (b ∷ bs)) refl refl)
 
 pub progress-goes : (room : ℕ) (l : List ℕ) (left size : ℕ) (apcs : Apcs) → 0 < length l → progressOf room l ≡ On left size apcs → Goes room l left size apcs
-unfolding walkFrom progressOf
-progress-goes room [] left size apcs h q = absurd (omega arith)
-progress-goes room (b ∷ bs) left size apcs h q = goes-step b bs room left size apcs (stepOf (b ∷ bs)) refl q refl
-
-pub turn-ended : (room : ℕ) (l : List ℕ) (fill : ℕ) → 0 < length l → progressOf room l ≡ Ended fill → walkAnswer (walkFrom room 0 l) ≡ Listed 0 fill Absent
-unfolding walkFrom progressOf
-turn-ended room [] fill h q = absurd (omega arith)
-turn-ended room (b ∷ bs) fill h q = ended-step b bs room fill (stepOf (b ∷ bs)) q
-
-pub turn-failed : (room : ℕ) (l : List ℕ) (fault : Fault) → 0 < length l → progressOf room l ≡ Failed fault → walkAnswer (walkFrom room 0 l) ≡ Faulty fault
-unfolding walkFrom progressOf
-turn-failed room [] fault h q = absurd (omega arith)
-turn-failed room (b ∷ bs) fault h q = failed-step b bs room fault (stepOf (b ∷ bs)) q
+progress-goes room l left size apcs h q = tells room l (On left size apcs) h q
 
 pub told-none : (room skip : ℕ) → walkAnswer (walkFrom room skip []) ≡ Listed 0 0 Absent
 unfolding walkFrom apcsOf

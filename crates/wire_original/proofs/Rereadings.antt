@@ -2,7 +2,7 @@
 -- Assumes nothing.
 use mathlib.Core.Path.{_≡_, refl}
 use mathlib.Core.List.{List}
-use Prim.Native.Nat.{ℕ, _-_}
+use Prim.Native.Nat.{ℕ}
 use lib.ListN.{length, take}
 use Rattle.wire_options.specs.Walk.{Walked, listed, faulty, walkAnswer}
 use Rattle.wire_original.specs.Rereading.{places, rereads, rewalked}

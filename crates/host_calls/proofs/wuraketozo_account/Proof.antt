@@ -4,8 +4,6 @@ use borrow.Author.Needs.{needs}
 use Rattle.host_calls.proofs.Facts.{leaves}
 use Rattle.host_calls.proofs.wuraketozo_account.Statement.{statement}
 use Rattle.host_calls.proofs.wuraketozo_account.Proof.Tie as tie
-use Rattle.host_calls.proofs.wuraketozo_account.Proof.Lts as lts
-use Rattle.host_calls.proofs.Lent.wuraketozo_account.Reads as reads
 mod Lts
 mod Tie
 

@@ -4,8 +4,6 @@ use mathlib.Core.Path.{refl}
 use Rattle.client_record.specs.Limits.{clientLimit}
 use Rattle.host_calls.proofs.wuraketozo_client_limit.Statement.{statement}
 use Rattle.host_calls.proofs.wuraketozo_client_limit.Tie as tie
-use Rattle.host_calls.proofs.wuraketozo_client_limit.Reads as reads
-use Rattle.host_calls.proofs.wuraketozo_client_limit.Lts as lts
 
 returns : tie.Need-returns
 unfolding clientLimit

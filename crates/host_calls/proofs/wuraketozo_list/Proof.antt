@@ -4,8 +4,6 @@ use Rattle.host_calls.proofs.Facts.{lists}
 use borrow.Author.Needs.{needs}
 use Rattle.host_calls.proofs.wuraketozo_list.Statement.{statement}
 use Rattle.host_calls.proofs.wuraketozo_list.Tie as tie
-use Rattle.host_calls.proofs.wuraketozo_list.Reads as reads
-use Rattle.host_calls.proofs.wuraketozo_list.Lts as lts
 
 reading-for-requires : tie.Need-reading-for-requires
 reading-for-requires c κs = search needs

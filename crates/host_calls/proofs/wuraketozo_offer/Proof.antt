@@ -5,8 +5,6 @@ use Rattle.table_calls.specs.Table.{tableOf}
 use Rattle.host_calls.proofs.Facts.{offers}
 use Rattle.host_calls.proofs.wuraketozo_offer.Statement.{statement}
 use Rattle.host_calls.proofs.wuraketozo_offer.Proof.Tie as tie
-use Rattle.host_calls.proofs.wuraketozo_offer.Proof.Lts as lts
-use Rattle.host_calls.proofs.Lent.wuraketozo_offer.Reads as reads
 mod Lts
 mod Tie
 

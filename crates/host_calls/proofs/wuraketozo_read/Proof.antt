@@ -5,8 +5,6 @@ use Rattle.host_readings.specs.Reading.{hostReading}
 use borrow.Author.Needs.{needs}
 use Rattle.host_calls.proofs.wuraketozo_read.Statement.{statement}
 use Rattle.host_calls.proofs.wuraketozo_read.Tie as tie
-use Rattle.host_calls.proofs.wuraketozo_read.Reads as reads
-use Rattle.host_calls.proofs.wuraketozo_read.Lts as lts
 
 read-requires : tie.Need-read-requires
 read-requires c κs = search needs

@@ -4,8 +4,6 @@ use borrow.Author.Needs.{needs}
 use Rattle.host_calls.proofs.Facts.{receives}
 use Rattle.host_calls.proofs.wuraketozo_receive.Statement.{statement}
 use Rattle.host_calls.proofs.wuraketozo_receive.Proof.Tie as tie
-use Rattle.host_calls.proofs.wuraketozo_receive.Proof.Lts as lts
-use Rattle.host_calls.proofs.Lent.wuraketozo_receive.Reads as reads
 mod Lts
 mod Tie
 

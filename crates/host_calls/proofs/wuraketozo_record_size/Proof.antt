@@ -4,8 +4,6 @@ use mathlib.Core.Path.{refl}
 use Rattle.host_calls.specs.Left.{recordSize}
 use Rattle.host_calls.proofs.wuraketozo_record_size.Statement.{statement}
 use Rattle.host_calls.proofs.wuraketozo_record_size.Tie as tie
-use Rattle.host_calls.proofs.wuraketozo_record_size.Reads as reads
-use Rattle.host_calls.proofs.wuraketozo_record_size.Lts as lts
 
 returns : tie.Need-returns
 unfolding recordSize

@@ -4,8 +4,6 @@ use Rattle.host_calls.proofs.Facts.{relists}
 use borrow.Author.Needs.{needs}
 use Rattle.host_calls.proofs.wuraketozo_relist.Statement.{statement}
 use Rattle.host_calls.proofs.wuraketozo_relist.Tie as tie
-use Rattle.host_calls.proofs.wuraketozo_relist.Reads as reads
-use Rattle.host_calls.proofs.wuraketozo_relist.Lts as lts
 
 rereading-for-requires : tie.Need-rereading-for-requires
 rereading-for-requires c κs = search needs

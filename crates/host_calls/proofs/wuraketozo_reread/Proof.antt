@@ -5,8 +5,6 @@ use Rattle.host_readings.specs.Reading.{hostRereading}
 use borrow.Author.Needs.{needs}
 use Rattle.host_calls.proofs.wuraketozo_reread.Statement.{statement}
 use Rattle.host_calls.proofs.wuraketozo_reread.Tie as tie
-use Rattle.host_calls.proofs.wuraketozo_reread.Reads as reads
-use Rattle.host_calls.proofs.wuraketozo_reread.Lts as lts
 
 reread-requires : tie.Need-reread-requires
 reread-requires c κs = search needs

@@ -4,8 +4,6 @@ use borrow.Author.Needs.{needs}
 use Rattle.host_calls.proofs.Facts.{leaves}
 use Rattle.host_calls.proofs.wuraketozo_reset.Statement.{statement}
 use Rattle.host_calls.proofs.wuraketozo_reset.Proof.Tie as tie
-use Rattle.host_calls.proofs.wuraketozo_reset.Proof.Lts as lts
-use Rattle.host_calls.proofs.Lent.wuraketozo_reset.Reads as reads
 mod Lts
 mod Tie
 

@@ -4,8 +4,6 @@ use mathlib.Core.Path.{refl}
 use Rattle.client_record.specs.Limits.{datagramLimit, assemblyLimit, shareSize}
 use Rattle.host_calls.proofs.wuraketozo_share_size.Statement.{statement}
 use Rattle.host_calls.proofs.wuraketozo_share_size.Tie as tie
-use Rattle.host_calls.proofs.wuraketozo_share_size.Reads as reads
-use Rattle.host_calls.proofs.wuraketozo_share_size.Lts as lts
 
 returns : tie.Need-returns
 unfolding shareSize assemblyLimit datagramLimit

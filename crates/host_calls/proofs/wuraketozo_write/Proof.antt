@@ -4,8 +4,6 @@ use Rattle.host_calls.proofs.Facts.{writes}
 use borrow.Author.Needs.{needs}
 use Rattle.host_calls.proofs.wuraketozo_write.Statement.{statement}
 use Rattle.host_calls.proofs.wuraketozo_write.Tie as tie
-use Rattle.host_calls.proofs.wuraketozo_write.Reads as reads
-use Rattle.host_calls.proofs.wuraketozo_write.Lts as lts
 
 write-requires : tie.Need-write-requires
 write-requires c κs = search needs

@@ -1,13 +1,10 @@
 -- `host_readings::fragment_in` meets its contract: with the last verdict alone there is a fragment.
 -- Assumes nothing.
 use mathlib.Core.Path.{sym, ap}
-use Rattle.wire_datagram.specs.declared.reading.Verdict.{Verdict}
 use Rattle.host_readings.specs.Reading.{fragmentIn}
 use borrow.Author.Needs.{needs}
 use Rattle.host_readings.proofs.fragment_in.Statement.{statement}
 use Rattle.host_readings.proofs.fragment_in.Tie as tie
-use Rattle.host_readings.proofs.fragment_in.Reads as reads
-use Rattle.host_readings.proofs.fragment_in.Lts as lts
 
 enum-told : tie.Need-enum-told
 enum-told c = search needs

@@ -3,8 +3,6 @@
 use borrow.Author.Needs.{needs}
 use Rattle.host_readings.proofs.reading_from.Statement.{statement}
 use Rattle.host_readings.proofs.reading_from.Tie as tie
-use Rattle.host_readings.proofs.reading_from.Reads as reads
-use Rattle.host_readings.proofs.reading_from.Lts as lts
 
 fragment-in-requires : tie.Need-fragment-in-requires
 fragment-in-requires c κs = search needs

@@ -1,15 +1,12 @@
 -- `host_readings::reading_of` meets its contract: a refusal is its number, and a reading its parts.
 -- Assumes nothing.
 use mathlib.Core.Path.{sym, ap, _∙_}
-use Prim.Native.Nat.{ℕ}
 use Rattle.wire_datagram.specs.Reading.{answerOf}
 use Rattle.wire_datagram.specs.declared.reading.Outcome.{Outcome}
 use Rattle.host_readings.specs.Reading.{unread, hostReading}
 use borrow.Author.Needs.{needs}
 use Rattle.host_readings.proofs.reading_of.Statement.{statement}
 use Rattle.host_readings.proofs.reading_of.Tie as tie
-use Rattle.host_readings.proofs.reading_of.Reads as reads
-use Rattle.host_readings.proofs.reading_of.Lts as lts
 
 enum-known-outcome : tie.Need-enum-known-outcome
 enum-known-outcome c = search needs

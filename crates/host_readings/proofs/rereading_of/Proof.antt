@@ -7,8 +7,6 @@ use Rattle.host_readings.specs.Reading.{unreread, hostRereading}
 use borrow.Author.Needs.{needs}
 use Rattle.host_readings.proofs.rereading_of.Statement.{statement}
 use Rattle.host_readings.proofs.rereading_of.Tie as tie
-use Rattle.host_readings.proofs.rereading_of.Reads as reads
-use Rattle.host_readings.proofs.rereading_of.Lts as lts
 
 enum-known-outcome : tie.Need-enum-known-outcome
 enum-known-outcome c = search needs

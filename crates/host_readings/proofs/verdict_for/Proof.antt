@@ -3,8 +3,6 @@
 use borrow.Author.Tests.{eq-eqb, ne-eqb}
 use Rattle.host_readings.proofs.verdict_for.Statement.{statement}
 use Rattle.host_readings.proofs.verdict_for.Tie as tie
-use Rattle.host_readings.proofs.verdict_for.Reads as reads
-use Rattle.host_readings.proofs.verdict_for.Lts as lts
 
 returns : tie.Need-returns
 returns c = simp (eq-eqb _ _ (c .if1 .taken))

@@ -3,8 +3,6 @@
 use borrow.Author.Needs.{needs}
 use Rattle.host_values.proofs.accounted.Statement.{statement}
 use Rattle.host_values.proofs.accounted.Tie as tie
-use Rattle.host_values.proofs.accounted.Reads as reads
-use Rattle.host_values.proofs.accounted.Lts as lts
 
 figures-of-requires : tie.Need-figures-of-requires
 figures-of-requires c κs = search needs

@@ -8,8 +8,6 @@ use Rattle.host_values.specs.Answer.{plain, hostAnswer}
 use borrow.Author.Needs.{needs}
 use Rattle.host_values.proofs.answer_of.Statement.{statement}
 use Rattle.host_values.proofs.answer_of.Tie as tie
-use Rattle.host_values.proofs.answer_of.Reads as reads
-use Rattle.host_values.proofs.answer_of.Lts as lts
 
 of : {a b : Answer} → a ≡ b → hostAnswer (replyOf b) ≡ hostAnswer (replyOf a)
 of is = sym (ap (λ (x : Answer). hostAnswer (replyOf x)) is)

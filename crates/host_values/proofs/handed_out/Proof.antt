@@ -3,8 +3,6 @@
 use borrow.Author.Needs.{needs}
 use Rattle.host_values.proofs.handed_out.Statement.{statement}
 use Rattle.host_values.proofs.handed_out.Tie as tie
-use Rattle.host_values.proofs.handed_out.Reads as reads
-use Rattle.host_values.proofs.handed_out.Lts as lts
 
 no-figures-requires : tie.Need-no-figures-requires
 no-figures-requires c κs = search needs

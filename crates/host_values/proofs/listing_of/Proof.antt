@@ -7,8 +7,6 @@ use Rattle.host_values.specs.Lists.{hostListing}
 use borrow.Author.Needs.{needs}
 use Rattle.host_values.proofs.listing_of.Statement.{statement}
 use Rattle.host_values.proofs.listing_of.Tie as tie
-use Rattle.host_values.proofs.listing_of.Reads as reads
-use Rattle.host_values.proofs.listing_of.Lts as lts
 
 enum-known-listed : tie.Need-enum-known-listed
 enum-known-listed c = search needs

@@ -3,8 +3,6 @@
 use borrow.Author.Needs.{needs}
 use Rattle.host_values.proofs.offered_alone.Statement.{statement}
 use Rattle.host_values.proofs.offered_alone.Tie as tie
-use Rattle.host_values.proofs.offered_alone.Reads as reads
-use Rattle.host_values.proofs.offered_alone.Lts as lts
 
 unread-requires : tie.Need-unread-requires
 unread-requires c κs = search needs

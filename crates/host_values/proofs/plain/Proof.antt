@@ -3,8 +3,6 @@
 use borrow.Author.Needs.{needs}
 use Rattle.host_values.proofs.plain.Statement.{statement}
 use Rattle.host_values.proofs.plain.Tie as tie
-use Rattle.host_values.proofs.plain.Reads as reads
-use Rattle.host_values.proofs.plain.Lts as lts
 
 no-figures-requires : tie.Need-no-figures-requires
 no-figures-requires c κs = search needs

@@ -3,8 +3,6 @@
 use borrow.Author.Needs.{needs}
 use Rattle.host_values.proofs.read_alone.Statement.{statement}
 use Rattle.host_values.proofs.read_alone.Tie as tie
-use Rattle.host_values.proofs.read_alone.Reads as reads
-use Rattle.host_values.proofs.read_alone.Lts as lts
 
 plain-requires : tie.Need-plain-requires
 plain-requires c κs = search needs

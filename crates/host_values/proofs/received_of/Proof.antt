@@ -1,7 +1,6 @@
 -- `host_values::received_of` meets its contract: each case of what was received is one of the value.
 -- Assumes nothing.
 use mathlib.Core.Path.{_≡_, sym, ap, _∙_}
-use Prim.Native.Nat.{ℕ}
 use Rattle.table_receiver.specs.Receive.{fateIn}
 use Rattle.table_receiver.specs.declared.Received.{Received}
 use Rattle.host_readings.specs.Reading.{unread}
@@ -9,8 +8,6 @@ use Rattle.host_values.specs.Answer.{readAlone, offeredAlone, hostFate}
 use borrow.Author.Needs.{needs}
 use Rattle.host_values.proofs.received_of.Statement.{statement}
 use Rattle.host_values.proofs.received_of.Tie as tie
-use Rattle.host_values.proofs.received_of.Reads as reads
-use Rattle.host_values.proofs.received_of.Lts as lts
 
 of : {a b : Received} → a ≡ b → hostFate (fateIn b) ≡ hostFate (fateIn a)
 of is = sym (ap (λ (x : Received). hostFate (fateIn x)) is)

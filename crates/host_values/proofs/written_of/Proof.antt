@@ -7,8 +7,6 @@ use Rattle.host_values.specs.Lists.{hostWritten}
 use borrow.Author.Needs.{needs}
 use Rattle.host_values.proofs.written_of.Statement.{statement}
 use Rattle.host_values.proofs.written_of.Tie as tie
-use Rattle.host_values.proofs.written_of.Reads as reads
-use Rattle.host_values.proofs.written_of.Lts as lts
 
 enum-known-written : tie.Need-enum-known-written
 enum-known-written c = search needs

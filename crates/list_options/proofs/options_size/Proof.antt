@@ -2,44 +2,29 @@
 -- (`Counted`). Assumes nothing.
 use mathlib.Core.Path.{_≡_, sym, ap, _∙_}
 use mathlib.Core.List.{List, []}
-use Prim.Native.Nat.{ℕ, _+_, _-_, _≤_, _<_}
+use Prim.Native.Nat.{ℕ, _+_, _-_, _≤_}
 use native.Mathlib.Omega.{arith}
 use borrow.Author.Needs.{needs}
-use lib.ListN.{length, drop, length-drop, length-append}
+use lib.ListN.{length, drop, length-append}
 use Rattle.number_octets.specs.Octets.{Octets}
+use Rattle.number_octets.proofs.Laws.{part-rest}
 use Rattle.wire_options.specs.Step.{stepOf}
-use Rattle.wire_options.specs.Walk.{itemOf, walkFrom, optionLimit, itemsOf}
+use Rattle.wire_options.specs.Walk.{Item, itemOf, walkFrom, optionLimit, itemsOf}
+use Rattle.wire_options.specs.declared.step.Step.{Step}
 use Rattle.wire_options.specs.declared.step.Step.the-variants.{Found}
-use Rattle.wire_options.proofs.Steps.{step-found}
-use Rattle.list_encoding.specs.Encoding.{encodedOption, encodedOptions}
-use Rattle.list_options.specs.Listing.{unworked, unworkedAll}
+use Rattle.wire_options.proofs.Rests.{Rest, RestBy, Taken, rest-over, rest-by}
+use Rattle.list_encoding.specs.Encoding.{encodedOption}
+use Rattle.list_options.specs.Listing.{unworked}
 use Rattle.list_options.proofs.Listings.{walk-short}
-use Rattle.list_options.proofs.Rests.{
-  Rest,
-  rest-sound,
-  rest-over-at,
-  rest-end,
-  rest-eol,
-  rest-malformed,
-  rest-outlawed,
-  rest-nop,
-  Taken,
-  rest-found,
-  rest-at,
-  part-rest,
-}
+use Rattle.list_options.proofs.Rests.{whole, code, code-none, code-first, rest-sound}
 use Rattle.list_options.proofs.options_size.Statement.{statement}
 use Rattle.list_options.proofs.options_size.Tie as tie
 
--- all that is to be counted
-abbrev whole : List ℕ → List ℕ
-whole l = encodedOptions (unworkedAll (itemsOf (walkFrom optionLimit 0 l)))
-
 -- what was counted, and what is still to come
 record Counted (l : List ℕ) (at total : ℕ) : Type 0 where
-  code : List ℕ
-  rest : Rest (drop at l) code
-  sum : total + length code ≡ length (whole l)
+  items : List Item
+  rest : Rest l at items
+  sum : total + length (code items) ≡ length (whole l)
 
 abbrev Inv-loop : tie.InvT-loop
 Inv-loop options at₀ total₀ at total = (at ≤ length options) × Counted options at total
@@ -61,15 +46,16 @@ module _ (c : tie.After-next Inv-loop μ-loop) where
   abbrev rest : List ℕ
   rest = drop (at-loop .loop .at) all
 
-  some-rest : 0 < length rest
-  some-rest = simp length-drop (omega (arith, c .before .before .loop-test .taken))
-
   stepped : stepOf rest ≡ c .next .result
-  stepped = sym (c .next .ensures ∙ ap stepOf (part-rest all (at-loop .loop .at)))
+  stepped = sym (c .next .ensures ∙ ap stepOf (part-rest (at-loop .loop .at) all))
+
+  -- what it leaves to come
+  to-come : {step : Step} → c .next .result ≡ step → RestBy all (at-loop .loop .at) (at-loop .loop .inv .1 .items) step
+  to-come e = rest-by (at-loop .loop .inv .1 .rest) (c .before .before .loop-test .taken) (stepped ∙ e)
 
   -- nothing more to count
-  ended : at-loop .loop .inv .1 .code ≡ [] → at-loop .loop .total ≡ length (whole all)
-  ended e = omega (arith, at-loop .loop .inv .1 .sum, ap length e)
+  ended : [] ≡ at-loop .loop .inv .1 .items → at-loop .loop .total ≡ length (whole all)
+  ended e = omega (arith, at-loop .loop .inv .1 .sum, ap length (code-none e))
 
 -- the option that was found
 module _ (c : tie.After-known-told Inv-loop μ-loop) where
@@ -88,31 +74,26 @@ module _ (c : tie.After-known-told Inv-loop μ-loop) where
   found : stepOf (rest here) ≡ Found kind header size
   found = stepped here ∙ c .before .met .given .1
 
-  taken : Taken (rest here) (at-loop here .loop .inv .1 .code) kind header size
-  taken = rest-found (rest here) _ kind header size (some-rest here) (at-loop here .loop .inv .1 .rest) found
-
-  bound : (0 < size) × (at-loop here .loop .at + size ≤ length (all here))
-  bound =
-      let f = step-found (rest here) kind header size found .sized in
-      let t = here .before .before .loop-test .taken in
-      omega (arith, f .least, f .fits, length-drop (at-loop here .loop .at) (all here), t)
+  taken : Taken (all here) (at-loop here .loop .at) (at-loop here .loop .inv .1 .items) kind header size
+  taken = to-come here (c .before .met .given .1)
 
 -- the sum so far and one option more
 counted : (c : tie.After-option-size Inv-loop μ-loop) → let k = c .before .before in
-    at-loop (here k) .loop .total + c .option-size .result + length (taken k .later) ≡ length (whole (all (here k)))
+    at-loop (here k) .loop .total + c .option-size .result + length (code (taken k .later)) ≡ length (whole (all (here k)))
 counted c =
     let k = c .before .before in
     let l = at-loop (here k) .loop in
     let one : List ℕ = encodedOption (unworked (itemOf (kind k) (header k) (size k) (rest (here k)))) in
     let this : c .option-size .result ≡ length one =
     c .option-size .ensures
-    ∙ ap (λ (r : List ℕ). length (encodedOption (unworked (itemOf (kind k) (header k) (size k) r)))) (part-rest (all (here k)) (l .at)) in
-    omega (arith, this, l .inv .1 .sum, ap length (taken k .splits), length-append one (taken k .later))
+    ∙ ap (λ (r : List ℕ). length (encodedOption (unworked (itemOf (kind k) (header k) (size k) r)))) (part-rest (l .at) (all (here k))) in
+    omega (arith, this, l .inv .1 .sum, ap length (code-first (taken k .splits)), length-append one (code (taken k .later)))
 
 loop-holds : tie.Need-loop-holds Inv-loop μ-loop
 loop-holds c =
     let a = c .before in
-    (omega arith, record { code = whole (a .args .options .now); rest = rest-sound (a .args .options .now) optionLimit (a .pre); sum = omega arith })
+    let items : List Item = itemsOf (walkFrom optionLimit 0 (a .args .options .now)) in
+    (omega arith, record { items = items; rest = rest-sound (a .args .options .now) (a .pre); sum = omega arith })
 
 sub-next : tie.Need-sub-next Inv-loop μ-loop
 sub-next c = omega arith
@@ -141,8 +122,8 @@ loop-again c =
     let l = at-loop n .loop in (
       omega (arith, n .before .before .loop-test .taken),
       record {
-        code = l .inv .1 .code;
-        rest = rest-at (all n) (l .at) 1 _ (rest-nop (rest n) _ (some-rest n) (l .inv .1 .rest) (stepped n ∙ c .enum-told .given .1));
+        items = l .inv .1 .items;
+        rest = to-come n (c .enum-told .given .1);
         sum = l .inv .1 .sum;
       },
     )
@@ -160,53 +141,47 @@ part-option-size-end : tie.Need-part-option-size-end Inv-loop μ-loop
 part-option-size-end c = omega arith
 
 option-size-requires : tie.Need-option-size-requires Inv-loop μ-loop
-option-size-requires c κs = let k = c .before in rw (part-rest (all (here k)) (at-loop (here k) .loop .at)) (found k, taken k .other)
+option-size-requires c κs = let k = c .before in rw (part-rest (at-loop (here k) .loop .at) (all (here k))) (found k, taken k .other)
 
 add-total : tie.Need-add-total Inv-loop μ-loop
 add-total c = omega (arith, counted c, walk-short (all (here (c .before .before))) (bytes (at-loop (here (c .before .before)) .before)))
 
 add-at-2 : tie.Need-add-at-2 Inv-loop μ-loop
-add-at-2 c = omega (arith, bound (c .before .before))
+add-at-2 c = let t = taken (c .before .before) in omega (arith, t .some, t .fits)
 
 loop-less-2 : tie.Need-loop-less-2 Inv-loop μ-loop
-loop-less-2 c = omega (arith, bound (c .before .before))
+loop-less-2 c = let t = taken (c .before .before) in omega (arith, t .some, t .fits)
 
 loop-again-2 : tie.Need-loop-again-2 Inv-loop μ-loop
 loop-again-2 c =
-    let k = c .before .before in
-    let l = at-loop (here k) .loop in (
-      bound k .1,
-      record { code = taken k .later; rest = rest-at (all (here k)) (l .at) (size k) _ (taken k .rest); sum = counted c },
-    )
+    let t = taken (c .before .before) in (t .fits, record { items = t .later; rest = t .rest; sum = counted c })
 
 enum-told-2 : tie.Need-enum-told-2 Inv-loop μ-loop
 enum-told-2 c = search needs
 
 returns : tie.Need-returns Inv-loop μ-loop
-returns c = let n = c .before .before in ended n (rest-end (rest n) _ (some-rest n) (at-loop n .loop .inv .1 .rest) (stepped n ∙ c .enum-told2 .given .1))
+returns c = let n = c .before .before in ended n (to-come n (c .enum-told2 .given .1))
 
 enum-told-3 : tie.Need-enum-told-3 Inv-loop μ-loop
 enum-told-3 c = search needs
 
 returns-2 : tie.Need-returns-2 Inv-loop μ-loop
-returns-2 c = let n = c .before .before in ended n (rest-eol (rest n) _ (some-rest n) (at-loop n .loop .inv .1 .rest) (stepped n ∙ c .enum-told3 .given .1))
+returns-2 c = let n = c .before .before in ended n (to-come n (c .enum-told3 .given .1))
 
 enum-told-4 : tie.Need-enum-told-4 Inv-loop μ-loop
 enum-told-4 c = search needs
 
 returns-3 : tie.Need-returns-3 Inv-loop μ-loop
-returns-3 c =
-    let n = c .before .before in
-    absurd (rest-malformed (rest n) _ (some-rest n) (at-loop n .loop .inv .1 .rest) (stepped n ∙ c .enum-told4 .given .1))
+returns-3 c = let n = c .before .before in ended n (to-come n (c .enum-told4 .given .1))
 
 enum-told-5 : tie.Need-enum-told-5 Inv-loop μ-loop
 enum-told-5 c = search needs
 
 returns-4 : tie.Need-returns-4 Inv-loop μ-loop
-returns-4 c = let n = c .before .before in absurd (rest-outlawed (rest n) _ (some-rest n) (at-loop n .loop .inv .1 .rest) (stepped n ∙ c .enum-told5 .given .1))
+returns-4 c = let n = c .before .before in ended n (to-come n (c .enum-told5 .given .1))
 
 returns-5 : tie.Need-returns-5 Inv-loop μ-loop
-returns-5 c = let l = c .before .loop in omega (arith, l .inv .1 .sum, ap length (rest-over-at _ _ _ (c .loop-test .left) (l .inv .1 .rest)))
+returns-5 c = let l = c .before .loop in omega (arith, l .inv .1 .sum, ap length (code-none (rest-over (l .inv .1 .rest) (c .loop-test .left))))
 
 pub options-size-spec : {M : Type 1} → statement M
 options-size-spec =

@@ -2,45 +2,30 @@
 -- (`PutSoFar`). Assumes nothing.
 use mathlib.Core.Path.{_≡_, refl, sym, ap, _∙_}
 use mathlib.Core.List.{List, [], _++_, append-assoc, append-nil}
-use Prim.Native.Nat.{ℕ, _+_, _-_, _≤_, _<_}
+use Prim.Native.Nat.{ℕ, _+_, _-_, _≤_}
 use native.Mathlib.Omega.{arith}
 use borrow.Author.Needs.{needs}
-use lib.ListN.{length, drop, length-drop, length-append}
+use lib.ListN.{length, drop, length-append}
 use Rattle.number_octets.specs.Octets.{overlay}
+use Rattle.number_octets.proofs.Laws.{part-rest}
 use Rattle.wire_options.specs.Step.{stepOf}
-use Rattle.wire_options.specs.Walk.{itemOf, walkFrom, optionLimit, itemsOf}
+use Rattle.wire_options.specs.Walk.{Item, itemOf, walkFrom, optionLimit, itemsOf}
+use Rattle.wire_options.specs.declared.step.Step.{Step}
 use Rattle.wire_options.specs.declared.step.Step.the-variants.{Found}
-use Rattle.wire_options.proofs.Steps.{step-found}
-use Rattle.list_encoding.specs.Encoding.{encodedOption, encodedOptions}
-use Rattle.list_options.specs.Listing.{unworked, unworkedAll, WrittenAt}
+use Rattle.wire_options.proofs.Rests.{Rest, RestBy, Taken, rest-over, rest-by}
+use Rattle.list_encoding.specs.Encoding.{encodedOption}
+use Rattle.list_options.specs.Listing.{unworked, WrittenAt}
 use Rattle.list_options.proofs.Writes.{written-none, written-length, written-both}
-use Rattle.list_options.proofs.Rests.{
-  Rest,
-  rest-sound,
-  rest-over-at,
-  rest-end,
-  rest-eol,
-  rest-malformed,
-  rest-outlawed,
-  rest-nop,
-  Taken,
-  rest-found,
-  rest-at,
-  part-rest,
-}
+use Rattle.list_options.proofs.Rests.{whole, code, code-none, code-first, rest-sound}
 use Rattle.list_options.proofs.put_options.Statement.{statement}
 use Rattle.list_options.proofs.put_options.Tie as tie
-
--- all that is to be written
-abbrev whole : List ℕ → List ℕ
-whole l = encodedOptions (unworkedAll (itemsOf (walkFrom optionLimit 0 l)))
 
 -- what was written, and what is still to come
 record PutSoFar (l buffer₀ : List ℕ) (start at out : ℕ) (buffer : List ℕ) : Type 0 where
   done : List ℕ
-  code : List ℕ
-  rest : Rest (drop at l) code
-  sum : done ++ code ≡ whole l
+  items : List Item
+  rest : Rest l at items
+  sum : done ++ code items ≡ whole l
   written : WrittenAt done buffer₀ start out buffer
 
 abbrev Inv-loop : tie.InvT-loop
@@ -56,19 +41,19 @@ module _ (c : tie.At-loop Inv-loop μ-loop) where
   abbrev all : List ℕ
   all = start .args .options .now
 
-  so-far : length (c .loop .inv .1 .done) + length (c .loop .inv .1 .code) ≡ length (whole all)
-  so-far = let i = c .loop .inv .1 in sym (length-append (i .done) (i .code)) ∙ ap length (i .sum)
+  so-far : length (c .loop .inv .1 .done) + length (code (c .loop .inv .1 .items)) ≡ length (whole all)
+  so-far = let i = c .loop .inv .1 in sym (length-append (i .done) (code (i .items))) ∙ ap length (i .sum)
 
   as-long : length (c .loop .buffer) ≡ length (start .args .buffer .now)
   as-long = written-length (c .loop .inv .1 .written) (omega (arith, so-far, start .pre .1))
 
   -- nothing more to write
-  ended : c .loop .inv .1 .code ≡ [] → c .loop .buffer ≡ overlay (start .args .buffer .now) (start .args .start) (whole all)
+  ended : [] ≡ c .loop .inv .1 .items → c .loop .buffer ≡ overlay (start .args .buffer .now) (start .args .start) (whole all)
   ended e =
       let i = c .loop .inv .1 in
       i .written .all
       ∙ ap (overlay (start .args .buffer .now) (start .args .start))
-      (sym (append-nil (i .done)) ∙ ap (λ (x : List ℕ). i .done ++ x) (sym e) ∙ i .sum)
+      (sym (append-nil (i .done)) ∙ ap (λ (x : List ℕ). i .done ++ x) (sym (code-none e)) ∙ i .sum)
 
 -- the step that was made, over the rest of the list
 module _ (c : tie.After-next Inv-loop μ-loop) where
@@ -78,11 +63,12 @@ module _ (c : tie.After-next Inv-loop μ-loop) where
   abbrev rest : List ℕ
   rest = drop (at-loop .loop .at) (all at-loop)
 
-  some-rest : 0 < length rest
-  some-rest = simp length-drop (omega (arith, c .before .before .loop-test .taken))
-
   stepped : stepOf rest ≡ c .next .result
-  stepped = sym (c .next .ensures ∙ ap stepOf (part-rest (all at-loop) (at-loop .loop .at)))
+  stepped = sym (c .next .ensures ∙ ap stepOf (part-rest (at-loop .loop .at) (all at-loop)))
+
+  -- what it leaves to come
+  to-come : {step : Step} → c .next .result ≡ step → RestBy (all at-loop) (at-loop .loop .at) (at-loop .loop .inv .1 .items) step
+  to-come e = rest-by (at-loop .loop .inv .1 .rest) (c .before .before .loop-test .taken) (stepped ∙ e)
 
 -- the option that was found
 module _ (c : tie.After-known-told Inv-loop μ-loop) where
@@ -104,21 +90,15 @@ module _ (c : tie.After-known-told Inv-loop μ-loop) where
   found : stepOf (rest here) ≡ Found kind header size
   found = stepped here ∙ c .before .met .given .1
 
-  taken : Taken (rest here) (place .loop .inv .1 .code) kind header size
-  taken = rest-found (rest here) _ kind header size (some-rest here) (place .loop .inv .1 .rest) found
-
-  bound : (0 < size) × (place .loop .at + size ≤ length (all place))
-  bound =
-      let f = step-found (rest here) kind header size found .sized in
-      let t = here .before .before .loop-test .taken in
-      omega (arith, f .least, f .fits, length-drop (place .loop .at) (all place), t)
+  taken : Taken (all place) (place .loop .at) (place .loop .inv .1 .items) kind header size
+  taken = to-come here (c .before .met .given .1)
 
   abbrev one : List ℕ
   one = encodedOption (unworked (itemOf kind header size (rest here)))
 
   -- there is room for it
   fits : length (place .loop .inv .1 .done) + length one ≤ length (whole (all place))
-  fits = omega (arith, so-far place, ap length (taken .splits), length-append one (taken .later))
+  fits = omega (arith, so-far place, ap length (code-first (taken .splits)), length-append one (code (taken .later)))
 
   room : place .loop .out + length one ≤ length (place .loop .buffer)
   room = omega (arith, fits, as-long place, start place .pre .1, place .loop .inv .1 .written .ends)
@@ -129,8 +109,8 @@ loop-holds c =
       omega arith,
       record {
         done = [];
-        code = whole (a .args .options .now);
-        rest = rest-sound (a .args .options .now) optionLimit (a .pre .0);
+        items = itemsOf (walkFrom optionLimit 0 (a .args .options .now));
+        rest = rest-sound (a .args .options .now) (a .pre .0);
         sum = refl;
         written = written-none _ _;
       },
@@ -164,8 +144,8 @@ loop-again c =
       omega (arith, n .before .before .loop-test .taken),
       record {
         done = l .inv .1 .done;
-        code = l .inv .1 .code;
-        rest = rest-at (all (at-loop n)) (l .at) 1 _ (rest-nop (rest n) _ (some-rest n) (l .inv .1 .rest) (stepped n ∙ c .enum-told .given .1));
+        items = l .inv .1 .items;
+        rest = to-come n (c .enum-told .given .1);
         sum = l .inv .1 .sum;
         written = l .inv .1 .written;
       },
@@ -184,13 +164,13 @@ part-put-option-end : tie.Need-part-put-option-end Inv-loop μ-loop
 part-put-option-end c = omega arith
 
 put-option-requires : tie.Need-put-option-requires Inv-loop μ-loop
-put-option-requires c κs = let k = c .before .before in rw (part-rest (all (place k)) (place k .loop .at)) (found k, taken k .other, room k)
+put-option-requires c κs = let k = c .before .before in rw (part-rest (place k .loop .at) (all (place k))) (found k, taken k .other, room k)
 
 add-at-2 : tie.Need-add-at-2 Inv-loop μ-loop
-add-at-2 c = omega (arith, bound (c .before .before .before .before .before))
+add-at-2 c = let t = taken (c .before .before .before .before .before) in omega (arith, t .some, t .fits)
 
 loop-less-2 : tie.Need-loop-less-2 Inv-loop μ-loop
-loop-less-2 c = omega (arith, bound (c .before .before .before .before .before))
+loop-less-2 c = let t = taken (c .before .before .before .before .before) in omega (arith, t .some, t .fits)
 
 loop-again-2 : tie.Need-loop-again-2 Inv-loop μ-loop
 loop-again-2 c =
@@ -199,13 +179,13 @@ loop-again-2 c =
     let p = start (place k) in
     let put : WrittenAt (one k) (place k .loop .buffer) (place k .loop .out) (c .before .before .put-option .result)
     (c .before .before .put-option .last .1 .1 .1 .1 .0) =
-    rw (part-rest (all (place k)) (place k .loop .at)) at (c .before .before .put-option .ensures) in (
-      bound k .1,
+    rw (part-rest (place k .loop .at) (all (place k))) at (c .before .before .put-option .ensures) in (
+      taken k .fits,
       record {
         done = i .done ++ one k;
-        code = taken k .later;
-        rest = rest-at (all (place k)) (place k .loop .at) (size k) _ (taken k .rest);
-        sum = append-assoc (i .done) (one k) (taken k .later) ∙ ap (λ (x : List ℕ). i .done ++ x) (sym (taken k .splits)) ∙ i .sum;
+        items = taken k .later;
+        rest = taken k .rest;
+        sum = append-assoc (i .done) (one k) (code (taken k .later)) ∙ ap (λ (x : List ℕ). i .done ++ x) (sym (code-first (taken k .splits))) ∙ i .sum;
         written = written-both (i .written) put (omega (arith, fits k, length-append (i .done) (one k), p .pre .1));
       },
     )
@@ -217,9 +197,7 @@ same-length : tie.Need-same-length Inv-loop μ-loop
 same-length c = as-long (at-loop (c .before .before))
 
 returns : tie.Need-returns Inv-loop μ-loop
-returns c =
-    let n = c .before .before in
-    ended (at-loop n) (rest-end (rest n) _ (some-rest n) (at-loop n .loop .inv .1 .rest) (stepped n ∙ c .enum-told2 .given .1))
+returns c = let n = c .before .before in ended (at-loop n) (to-come n (c .enum-told2 .given .1))
 
 enum-told-3 : tie.Need-enum-told-3 Inv-loop μ-loop
 enum-told-3 c = search needs
@@ -228,9 +206,7 @@ same-length-2 : tie.Need-same-length-2 Inv-loop μ-loop
 same-length-2 c = as-long (at-loop (c .before .before))
 
 returns-2 : tie.Need-returns-2 Inv-loop μ-loop
-returns-2 c =
-    let n = c .before .before in
-    ended (at-loop n) (rest-eol (rest n) _ (some-rest n) (at-loop n .loop .inv .1 .rest) (stepped n ∙ c .enum-told3 .given .1))
+returns-2 c = let n = c .before .before in ended (at-loop n) (to-come n (c .enum-told3 .given .1))
 
 enum-told-4 : tie.Need-enum-told-4 Inv-loop μ-loop
 enum-told-4 c = search needs
@@ -239,9 +215,7 @@ same-length-3 : tie.Need-same-length-3 Inv-loop μ-loop
 same-length-3 c = as-long (at-loop (c .before .before))
 
 returns-3 : tie.Need-returns-3 Inv-loop μ-loop
-returns-3 c =
-    let n = c .before .before in
-    absurd (rest-malformed (rest n) _ (some-rest n) (at-loop n .loop .inv .1 .rest) (stepped n ∙ c .enum-told4 .given .1))
+returns-3 c = let n = c .before .before in ended (at-loop n) (to-come n (c .enum-told4 .given .1))
 
 enum-told-5 : tie.Need-enum-told-5 Inv-loop μ-loop
 enum-told-5 c = search needs
@@ -250,13 +224,13 @@ same-length-4 : tie.Need-same-length-4 Inv-loop μ-loop
 same-length-4 c = as-long (at-loop (c .before .before))
 
 returns-4 : tie.Need-returns-4 Inv-loop μ-loop
-returns-4 c = let n = c .before .before in absurd (rest-outlawed (rest n) _ (some-rest n) (at-loop n .loop .inv .1 .rest) (stepped n ∙ c .enum-told5 .given .1))
+returns-4 c = let n = c .before .before in ended (at-loop n) (to-come n (c .enum-told5 .given .1))
 
 same-length-5 : tie.Need-same-length-5 Inv-loop μ-loop
 same-length-5 c = as-long (c .before)
 
 returns-5 : tie.Need-returns-5 Inv-loop μ-loop
-returns-5 c = ended (c .before) (rest-over-at _ _ _ (c .loop-test .left) (c .before .loop .inv .1 .rest))
+returns-5 c = ended (c .before) (rest-over (c .before .loop .inv .1 .rest) (c .loop-test .left))
 
 pub put-options-spec : {M : Type 1} → statement M
 put-options-spec =

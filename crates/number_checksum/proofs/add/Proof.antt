@@ -1,15 +1,16 @@
 -- `number_checksum::add` meets its contract. The loop's invariant: the folded sum with what is left is that of the whole; a block has an even
 -- length, so parity stays, and folding early changes nothing (`folded-add`).
 -- Assumes nothing.
-use mathlib.Core.Path.{_≡_, refl, sym, ap, ap₂, _∙_}
+use mathlib.Core.Path.{_≡_, refl, ap, ap₂, _∙_}
 use mathlib.Core.List.{List}
 use Prim.Native.Nat.{ℕ, _+_, _-_, _≤_}
 use native.Mathlib.Omega.{arith}
 use borrow.Author.Needs.{needs}
 use lib.ListN.{length, take, drop, length-take, length-drop}
-use lib.Seq.{drop-drop, take-all}
+use lib.Seq.{drop-drop}
+use Rattle.number_octets.proofs.Laws.{part-rest}
 use Rattle.number_checksum.specs.Checksum.{allOnes, folded, wordSum}
-use Rattle.number_checksum.proofs.Laws.{folded-le, folded-add, wordSum-cut}
+use Rattle.number_checksum.proofs.Laws.{folded-add, wordSum-cut}
 use Rattle.number_checksum.proofs.add.Statement.{statement}
 use Rattle.number_checksum.proofs.add.Tie as tie
 
@@ -103,7 +104,7 @@ returns c =
     let rest : List ℕ = drop (l .loop .at) (a .bytes .now) in
     let block : c .before .block-sum2 .result ≡ wordSum (a .odd) rest =
     c .before .block-sum2 .ensures .0
-    ∙ ap (wordSum (a .odd)) (take-all (length (a .bytes .now) - l .loop .at) rest (simp length-drop (omega arith))) in
+    ∙ ap (wordSum (a .odd)) (part-rest (l .loop .at) (a .bytes .now)) in
     let added : c .before .before .before .wide2 .result ≡ l .loop .sum = c .before .before .before .wide2 .ensures in
     c .fold2 .ensures ∙ ap₂ (λ (x y : ℕ). folded (x + y)) added block ∙ l .loop .inv .2
 

@@ -1,7 +1,7 @@
 -- `number_octets::get_u16` meets its contract: two bytes are the digits of the number (`number-two`), and a byte is below 256.
 -- Assumes nothing.
 use mathlib.Core.Path.{sym}
-use Prim.Native.Nat.{ℕ, _+_, _<_}
+use Prim.Native.Nat.{_+_, _<_}
 use native.Mathlib.Omega.{arith}
 use borrow.Author.Needs.{needs}
 use lib.ListN.{getD}

@@ -2,16 +2,15 @@
 -- Assumes nothing.
 use mathlib.Core.Path.{_≡_, sym, ap, ap₂, _∙_}
 use mathlib.Core.List.{[], _∷_, _++_}
-use mathlib.Core.Logic.{_⊎_, inl, inr, ⊎-elim}
-use Prim.Native.Nat.{ℕ, _+_, _-_, _≤_, _<_}
+use mathlib.Core.Logic.{inl, inr, ⊎-elim}
+use Prim.Native.Nat.{ℕ, _+_, _≤_, _<_}
 use native.Mathlib.Omega.{arith}
 use lib.ListN.{length, getD}
 use Rattle.number_octets.specs.Octets.{number, part}
-use Rattle.wire_options.specs.Kinds.{classOf}
+use Rattle.wire_options.specs.Kinds.{classOf, widthsOf}
 use Rattle.wire_options.specs.declared.step.Class.the-variants.{Fixed}
 use Rattle.program_text.specs.Digits.{decimalOf}
 use Rattle.program_text.specs.Characters.{blank}
-use Rattle.program_lines.specs.Lines.{widthsOf}
 use Rattle.program_text.proofs.Puts.{put-as, put-append, put-room}
 use Rattle.program_lines.proofs.Fields.{option-within, fixed-shape, four-of, four-wide, one-number, two-numbers, number-one, no-numbers}
 use borrow.Author.Needs.{needs}
@@ -24,15 +23,15 @@ shaped : (s : tie.Start) (n : ℕ) → classOf (s .args .kind) ≡ Fixed n n →
 shaped s n c small = fixed-shape (s .args .rest .now) (s .args .kind) (s .args .header) (s .args .size) n (s .pre .1) c small
 
 class-4 : (k : ℕ) → k ≡ 4 → (classOf k ≡ Fixed 4 4) × (widthsOf k ≡ 2 ∷ [])
-unfolding classOf widthsOf
+unfolding classOf
 class-4 k e = (ap classOf e, ap widthsOf e)
 
 class-5 : (k : ℕ) → k ≡ 5 → (classOf k ≡ Fixed 5 5) × (widthsOf k ≡ 2 ∷ 1 ∷ [])
-unfolding classOf widthsOf
+unfolding classOf
 class-5 k e = (ap classOf e, ap widthsOf e)
 
 class-8 : (k : ℕ) → k ≡ 8 → (classOf k ≡ Fixed 10 10) × (widthsOf k ≡ 4 ∷ 4 ∷ [])
-unfolding classOf widthsOf
+unfolding classOf
 class-8 k e = (ap classOf e, ap widthsOf e)
 
 at-4 : (c : tie.At-match-keys1) → let a = c .before .before .before .args in (a .header ≡ 2) × (a .size ≡ 4) × (4 ≤ length (a .rest .now))

@@ -2,18 +2,19 @@
 -- Assumes nothing.
 use mathlib.Core.Path.{_≡_, sym, ap, _∙_}
 use mathlib.Core.List.{List}
-use Prim.Native.Nat.{ℕ, _+_, _-_, _≤_, _<_}
+use Prim.Native.Nat.{ℕ, _-_, _<_}
 use native.Mathlib.Omega.{arith}
 use borrow.Author.Needs.{needs}
-use lib.ListN.{length, take, drop, length-drop}
-use lib.Seq.{take-all}
+use lib.ListN.{length, drop}
+use Rattle.number_octets.proofs.Laws.{part-rest}
 use Rattle.wire_options.specs.Step.{stepOf}
 use Rattle.wire_options.specs.Walk.{itemOf}
+use Rattle.wire_options.specs.declared.step.Step.{Step}
 use Rattle.wire_options.specs.declared.step.Step.the-variants.{Found}
+use Rattle.wire_options.proofs.Rests.{RestBy, Taken, rest-over, rest-by}
 use Rattle.program_lines.specs.Lines.{itemLine}
 use Rattle.program_text.proofs.Puts.{put-as, put-length, put-room}
-use Rattle.program_lines.proofs.Fields.{option-within}
-use Rattle.program_lines.proofs.Items.{Saying, saying-first, saying-found, saying-nop, saying-end, saying-eol, saying-unsound, saying-outlawed, saying-done}
+use Rattle.program_lines.proofs.Items.{Saying, saying-first, saying-last, saying-found, saying-nop}
 use Rattle.program_lines.proofs.put_items.Statement.{statement}
 use Rattle.program_lines.proofs.put_items.Tie as tie
 
@@ -43,12 +44,12 @@ module _ (p : tie.After-next Inv-loop μ-loop) where
   more : from < length list
   more = p .before .before .loop-test .taken
 
-  -- the part is all of the rest
-  all : take (length list - from) (drop from list) ≡ drop from list
-  all = take-all (length list - from) (drop from list) (simp length-drop (omega arith))
-
   stepped : stepOf (drop from list) ≡ p .next .result
-  stepped = sym (p .next .ensures ∙ ap stepOf all)
+  stepped = sym (p .next .ensures ∙ ap stepOf (part-rest from list))
+
+  -- what it leaves to come
+  to-come : {step : Step} → p .next .result ≡ step → RestBy list from (inv .items) step
+  to-come e = rest-by (inv .rest) more (stepped ∙ e)
 
 -- an option that was found
 abbrev kindOf : tie.After-step Inv-loop μ-loop → ℕ
@@ -63,12 +64,8 @@ sizeOf s = s .step .given .0 .1 .1 .0
 found : (s : tie.After-step Inv-loop μ-loop) → let p = s .before .before in stepOf (drop (from p) (list p)) ≡ Found (kindOf s) (headerOf s) (sizeOf s)
 found s = stepped (s .before .before) ∙ s .step .given .1
 
-bound : (s : tie.After-step Inv-loop μ-loop) → let p = s .before .before in (2 ≤ sizeOf s) × (from p + sizeOf s ≤ length (list p))
-bound s =
-    let p = s .before .before in
-    let f = option-within (drop (from p) (list p)) (kindOf s) (headerOf s) (sizeOf s) (found s) in
-    let n : length (drop (from p) (list p)) ≡ length (list p) - from p = length-drop (from p) (list p) in
-    (f .0, omega (arith, more p))
+taken : (s : tie.After-step Inv-loop μ-loop) → let p = s .before .before in Taken (list p) (from p) (inv p .items) (kindOf s) (headerOf s) (sizeOf s)
+taken s = to-come (s .before .before) (s .step .given .1)
 
 loop-holds : tie.Need-loop-holds Inv-loop μ-loop
 loop-holds c = let s = c .before .before in saying-first (s .args .list .now) (s .args .text .now) (s .args .at) (s .pre .1)
@@ -101,20 +98,20 @@ put-item-requires : tie.Need-put-item-requires Inv-loop μ-loop
 put-item-requires c κs =
     let s = c .before .before .before in
     let p = s .before .before in
-    (put-room (start p .pre .0) (inv p .put), ap stepOf (all p) ∙ found s)
+    (put-room (start p .pre .0) (inv p .put), ap stepOf (part-rest (from p) (list p)) ∙ found s)
 
 add-from : tie.Need-add-from Inv-loop μ-loop
-add-from c = omega (arith, bound (c .before .before .before .before .before .before))
+add-from c = omega (arith, taken (c .before .before .before .before .before .before) .fits)
 
 loop-less : tie.Need-loop-less Inv-loop μ-loop
-loop-less c = let b = bound (c .before .before .before .before .before .before) in omega arith
+loop-less c = let t = taken (c .before .before .before .before .before .before) in omega (arith, t .some, t .fits)
 
 loop-again : tie.Need-loop-again Inv-loop μ-loop
 loop-again c =
     let s = c .before .before .before .before .before .before in
     let p = s .before .before in
-    saying-found (inv p) (more p) (start p .pre .0) (found s)
-    (put-as (ap (λ (l : List ℕ). itemLine (itemOf (kindOf s) (headerOf s) (sizeOf s) l)) (all p)) (c .before .before .put-item .ensures))
+    saying-found (inv p) (start p .pre .0) (taken s)
+    (put-as (ap (λ (l : List ℕ). itemLine (itemOf (kindOf s) (headerOf s) (sizeOf s) l)) (part-rest (from p) (list p))) (c .before .before .put-item .ensures))
 
 enum-told : tie.Need-enum-told Inv-loop μ-loop
 enum-told c = search needs
@@ -126,7 +123,7 @@ loop-less-2 : tie.Need-loop-less-2 Inv-loop μ-loop
 loop-less-2 c = omega (arith, more (c .before .before))
 
 loop-again-2 : tie.Need-loop-again-2 Inv-loop μ-loop
-loop-again-2 c = let p = c .before .before in saying-nop (inv p) (more p) (stepped p ∙ c .enum-told .given .1)
+loop-again-2 c = let p = c .before .before in saying-nop (inv p) (more p) (to-come p (c .enum-told .given .1))
 
 enum-told-2 : tie.Need-enum-told-2 Inv-loop μ-loop
 enum-told-2 c = search needs
@@ -135,7 +132,7 @@ same-length : tie.Need-same-length Inv-loop μ-loop
 same-length c = let p = c .before .before in put-length (start p .pre .0) (inv p .put)
 
 returns : tie.Need-returns Inv-loop μ-loop
-returns c = let p = c .before .before in saying-end (inv p) (more p) (stepped p ∙ c .enum-told2 .given .1)
+returns c = let p = c .before .before in saying-last (inv p) (to-come p (c .enum-told2 .given .1))
 
 enum-told-3 : tie.Need-enum-told-3 Inv-loop μ-loop
 enum-told-3 c = search needs
@@ -144,7 +141,7 @@ same-length-2 : tie.Need-same-length-2 Inv-loop μ-loop
 same-length-2 c = let p = c .before .before in put-length (start p .pre .0) (inv p .put)
 
 returns-2 : tie.Need-returns-2 Inv-loop μ-loop
-returns-2 c = let p = c .before .before in saying-eol (inv p) (more p) (stepped p ∙ c .enum-told3 .given .1)
+returns-2 c = let p = c .before .before in saying-last (inv p) (to-come p (c .enum-told3 .given .1))
 
 enum-told-4 : tie.Need-enum-told-4 Inv-loop μ-loop
 enum-told-4 c = search needs
@@ -153,7 +150,7 @@ same-length-3 : tie.Need-same-length-3 Inv-loop μ-loop
 same-length-3 c = let p = c .before .before in put-length (start p .pre .0) (inv p .put)
 
 returns-3 : tie.Need-returns-3 Inv-loop μ-loop
-returns-3 c = let p = c .before .before in saying-unsound (inv p) (more p) (stepped p ∙ c .enum-told4 .given .1)
+returns-3 c = let p = c .before .before in saying-last (inv p) (to-come p (c .enum-told4 .given .1))
 
 enum-told-5 : tie.Need-enum-told-5 Inv-loop μ-loop
 enum-told-5 c = search needs
@@ -162,13 +159,13 @@ same-length-4 : tie.Need-same-length-4 Inv-loop μ-loop
 same-length-4 c = let p = c .before .before in put-length (start p .pre .0) (inv p .put)
 
 returns-4 : tie.Need-returns-4 Inv-loop μ-loop
-returns-4 c = let p = c .before .before in saying-outlawed (inv p) (more p) (stepped p ∙ c .enum-told5 .given .1)
+returns-4 c = let p = c .before .before in saying-last (inv p) (to-come p (c .enum-told5 .given .1))
 
 same-length-5 : tie.Need-same-length-5 Inv-loop μ-loop
 same-length-5 c = let l = c .before in put-length (l .before .before .before .pre .0) (l .loop .inv .put)
 
 returns-5 : tie.Need-returns-5 Inv-loop μ-loop
-returns-5 c = saying-done (c .before .loop .inv) (c .loop-test .left)
+returns-5 c = let i = c .before .loop .inv in saying-last i (rest-over (i .rest) (c .loop-test .left))
 
 pub put-items-spec : {M : Type 1} → statement M
 put-items-spec =

@@ -1,7 +1,6 @@
 -- `program_roundtrip::hex` is safe and ends: it goes through the bytes once.
 -- Assumes nothing.
 use Prim.Native.Nat.{_-_, _≤_}
-use native.Mathlib.Omega.{arith}
 use borrow.Author.Needs.{needs}
 use lib.ListN.{length}
 use Rattle.program_roundtrip.proofs.hex.Statement.{statement}

@@ -1,15 +1,14 @@
 -- `wire_area::behind_frag` meets its contract: the arm knows what FRAG's tests came to, at which `behindFrag` computes.
 -- Assumes nothing.
 use mathlib.Core.Path.{_≡_, refl, sym, ap, ap₂, _∙_}
-use mathlib.Core.Bool.{Bool, true, false}
+use mathlib.Core.Bool.{Bool}
 use mathlib.Core.List.{List}
 use Prim.Native.Nat.{ℕ, _+_, _-_, _≤_}
 use native.Mathlib.Omega.{arith}
 use lib.ListN.{length}
 use Rattle.number_octets.specs.Octets.{part}
-use Rattle.wire_area.specs.Area.{behindFrag, fragmentOf, areaAnswer, pieceWith}
+use Rattle.wire_area.specs.Area.{behindFrag, areaAnswer, pieceWith, asPiece}
 use Rattle.wire_options.specs.Walk.{Walked, walkFrom, walkAnswer, optionLimit, listed, faulty}
-use Rattle.wire_area.specs.Area.{asPiece}
 use Rattle.wire_area.specs.declared.Fragment.{Fragment}
 use Rattle.wire_area.specs.declared.Placed.{Placed}
 use Rattle.wire_area.proofs.Areas.{fragment-within}
@@ -27,8 +26,9 @@ bounds : (c : tie.After-found) → let a = c .before .before .before .before .ar
     (a .base .0 + a .behind ≤ c .found .given .0 .0 .start .0) × (c .found .given .0 .0 .start .0 ≤ a .base .0 + length (a .list .now))
 bounds c =
     let a = c .before .before .before .before .args in
-    fragment-within (a .fields) (a .base .0) (a .behind) (length (a .list .now)) (c .found .given .0 .0)
-    (sym (c .before .before .fragment-of .ensures) ∙ c .found .given .1)
+    let w = fragment-within (a .fields) (a .base .0) (a .behind) (length (a .list .now)) (c .found .given .0 .0)
+    (sym (c .before .before .fragment-of .ensures) ∙ c .found .given .1) in
+    (w .0, w .1)
 
 fragment-of-requires : tie.Need-fragment-of-requires
 fragment-of-requires c κs = search needs

@@ -1,16 +1,15 @@
 -- `wire_area::led` meets its contract: the arm of the match is the step at FRAG, at which `ledBy` computes.
 -- Assumes nothing.
-use Rattle.wire_area.specs.Area.{fragmentOf, behindFrag}
+use Rattle.wire_area.specs.Area.{fragmentOf, behindFrag, fieldsOf, ledBy, areaAnswer}
 use Rattle.wire_area.specs.declared.Fields.{Fields}
 use mathlib.Core.Path.{_≡_, sym, ap, _∙_}
-use mathlib.Core.List.{List}
-use Prim.Native.Nat.{ℕ, _+_, _-_, _≤_, _<_}
+use Prim.Native.Nat.{ℕ, _+_, _≤_}
 use native.Mathlib.Nat.{add-zero}
 use native.Mathlib.Omega.{arith}
-use lib.ListN.{length, drop, take, getD, length-drop}
-use lib.Seq.{take-all, getD-drop}
+use lib.ListN.{length, drop, getD, length-drop}
+use lib.Seq.{getD-drop}
+use Rattle.number_octets.proofs.Laws.{part-rest}
 use Rattle.wire_options.specs.Step.{stepOf}
-use Rattle.wire_area.specs.Area.{fieldsOf, ledBy, areaAnswer}
 use Rattle.wire_options.specs.declared.step.Step.{Step}
 use Rattle.wire_options.specs.declared.step.Step.the-variants.{Found}
 use Rattle.wire_area.proofs.Areas.{frag-found}
@@ -27,14 +26,10 @@ part-rest-start c = search needs
 part-rest-end : tie.Need-part-rest-end
 part-rest-end c = search needs
 
--- the part that is handed on is the rest of the list
-rest-is : (l : List ℕ) (n : ℕ) → n ≤ length l → take (length l - n) (drop n l) ≡ drop n l
-rest-is l n h = take-all (length l - n) (drop n l) (simp length-drop (omega arith))
-
 stepped : (c : tie.After-next) → let a = c .before .before .before .args in stepOf (drop (a .nops) (a .list .now)) ≡ c .next .result
 stepped c =
     let start = c .before .before .before in
-    sym (c .next .ensures ∙ ap stepOf (rest-is (start .args .list .now) (start .args .nops) (omega (arith, start .pre .0))))
+    sym (c .next .ensures ∙ ap stepOf (part-rest (start .args .nops) (start .args .list .now)))
 
 -- the step of the arm for an option
 found : (c : tie.After-known-told) → let a = c .before .before .before .before .before .before .args in
@@ -64,8 +59,8 @@ enum-known-step c = search needs
 fields-of-requires : tie.Need-fields-of-requires
 fields-of-requires c κs =
     let f = whole c in
-    let same = ap length (rest-is (c .before .before .before .before .before .before .args .list .now)
-    (c .before .before .before .before .before .before .args .nops) (omega (arith, c .before .before .before .before .before .before .pre .0))) in
+    let a = c .before .before .before .before .before .before .args in
+    let same = ap length (part-rest (a .nops) (a .list .now)) in
     (omega arith, omega arith)
 
 add-behind-frag : tie.Need-add-behind-frag
@@ -98,8 +93,7 @@ returns c =
     ∙ ap (λ (f : Fields). areaAnswer
     (behindFrag (a .empty) (a .list .now) (a .base .0) (a .nops + size) (fragmentOf f (a .base .0) (a .nops + size) (length (a .list .now)))))
     (c .before .fields-of .ensures .0
-    ∙ ap (fieldsOf size) (rest-is (a .list .now) (a .nops)
-    (omega (arith, c .before .before .before .before .before .before .before .before .pre .0))))
+    ∙ ap (fieldsOf size) (part-rest (a .nops) (a .list .now)))
     ∙ ap (λ (s : Step). areaAnswer (ledBy (a .empty) (a .list .now) (a .base .0) (a .nops) s)) (sym (found place))
 
 returns-2 : tie.Need-returns-2

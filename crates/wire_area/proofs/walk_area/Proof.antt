@@ -2,17 +2,14 @@
 -- Assumes nothing.
 use mathlib.Core.Path.{_≡_, refl, sym, ap, _∙_}
 use mathlib.Core.Bool.{true, false}
-use mathlib.Core.List.{List}
 use mathlib.Core.Logic.{⊎-elim}
 use Prim.Native.Nat.{ℕ}
-use native.Mathlib.Omega.{arith}
 use borrow.Author.Tests.{eq-eqb, ne-eqb}
 use lib.Dec.{eqb}
-use lib.ListN.{length, drop, getD, List·getD-eq-default}
+use lib.ListN.{drop, getD, List·getD-eq-default}
 use Rattle.wire_options.specs.Kinds.{eol, frag}
 use Rattle.wire_options.specs.Step.{stepOf}
-use Rattle.wire_area.specs.Area.{nopsOf, ledBy, areaOf, plainly, areaAnswer}
-use Rattle.wire_area.specs.Area.{asArea}
+use Rattle.wire_area.specs.Area.{nopsOf, ledBy, areaOf, plainly, areaAnswer, asArea}
 use Rattle.wire_options.specs.Walk.{Walked, listed, faulty, walkFrom, walkAnswer, optionLimit}
 use borrow.Author.Needs.{needs}
 use Rattle.wire_area.proofs.walk_area.Statement.{statement}

@@ -2,10 +2,10 @@
 -- Assumes nothing.
 use mathlib.Core.Path.{_≡_, refl, sym, ap, _∙_}
 use mathlib.Core.List.{List}
-use Prim.Native.Nat.{ℕ, _-_}
+use Prim.Native.Nat.{ℕ}
 use native.Mathlib.Omega.{arith}
-use lib.ListN.{length, drop, length-take, length-drop}
-use lib.Seq.{take-all}
+use lib.ListN.{length, drop, length-take}
+use Rattle.number_octets.proofs.Laws.{part-rest}
 use Rattle.wire_options.specs.Walk.{walkFrom, optionLimit, walkAnswer}
 use Rattle.wire_options.specs.declared.walk.Walk.the-variants.{Listed as WalkListed}
 use Rattle.wire_original.specs.Rereading.{places, rereads}
@@ -21,10 +21,8 @@ walk : (c : tie.After-walk-list) → let a = c .before .before .before .args in
     walkAnswer (walkFrom optionLimit 0 (drop (a .from .0) (a .original .now))) ≡ c .walk-list .result
 unfolding optionLimit
 walk c =
-    let start = c .before .before .before in
-    let l = start .args .original .now in
-    sym (c .walk-list .ensures
-    ∙ ap (λ (t : List ℕ). walkAnswer (walkFrom 32 0 t)) (take-all (length l - start .args .from .0) (drop (start .args .from .0) l) (simp length-drop (omega arith))))
+    let a = c .before .before .before .args in
+    sym (c .walk-list .ensures ∙ ap (λ (t : List ℕ). walkAnswer (walkFrom 32 0 t)) (part-rest (a .from .0) (a .original .now)))
 
 sub-walk-list : tie.Need-sub-walk-list
 sub-walk-list c = search needs

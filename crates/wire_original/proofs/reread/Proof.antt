@@ -1,13 +1,12 @@
 -- `wire_original::reread` meets its contract: the code makes the papers' tests in order, and the arm knows how the area starts.
 -- Assumes nothing.
 use mathlib.Core.Path.{_≡_, sym, ap, _∙_}
-use mathlib.Core.Bool.{Bool, true}
-use mathlib.Core.List.{List}
-use Prim.Native.Nat.{ℕ, _+_, _-_, _%_, _≤_}
+use mathlib.Core.Bool.{true}
+use Prim.Native.Nat.{ℕ, _+_, _%_, _≤_}
 use native.Mathlib.Omega.{arith}
 use lib.Dec.{eqb}
-use lib.ListN.{length, drop, length-take, length-drop}
-use lib.Seq.{take-all}
+use lib.ListN.{length, drop, length-drop}
+use Rattle.number_octets.proofs.Laws.{part-rest}
 use Rattle.number_offsets.specs.Offsets.{udpHeader}
 use Rattle.wire_surplus.specs.Surplus.{startOf}
 use Rattle.wire_datagram.specs.Reading.{isOdd}
@@ -28,7 +27,7 @@ begun c =
     let r : ℕ = a .option-start .0 in
     let parity : (8 + r) % 2 ≡ r % 2 = omega arith in
     sym (c .start-of .ensures
-    ∙ ap (startOf (isOdd r) true) (take-all (length l - r) (drop r l) (simp length-drop (omega arith)))
+    ∙ ap (startOf (isOdd r) true) (part-rest r l)
     ∙ ap (λ (n : ℕ). startOf (eqb n 1) true (drop r l)) (sym parity))
 
 taken : (c : tie.After-start-of) → let a = c .before .before .before .before .before .args in let r = a .option-start .0 in

@@ -1,6 +1,6 @@
 -- `wire_surplus::start_of` meets its contract: the code's tests are the definition's, at either parity.
 -- Assumes nothing.
-use mathlib.Core.Path.{_≡_, sym, ap, _∙_}
+use mathlib.Core.Path.{sym, ap, _∙_}
 use mathlib.Core.Bool.{Bool, true, false}
 use Rattle.wire_surplus.specs.Surplus.{startOf, summedOf}
 use Rattle.wire_surplus.proofs.Starts.{start-empty, start-short, start-pad, start-odd, start-even}

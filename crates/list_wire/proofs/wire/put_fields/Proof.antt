@@ -1,6 +1,6 @@
 -- `list_wire::wire::put_fields` meets its contract: each arm lays the fields of its kind, and a kind with no field has an empty body.
 -- Assumes nothing.
-use mathlib.Core.Path.{_≡_, sym, ap, ap₂, _∙_}
+use mathlib.Core.Path.{_≡_, refl, sym, ap, ap₂, _∙_}
 use mathlib.Core.List.{List, _++_}
 use Prim.Native.Nat.{ℕ}
 use native.Mathlib.Omega.{arith}
@@ -20,6 +20,13 @@ none : (c : tie.At-match-rest) → fieldsOnWire (c .before .before .args .kind) 
 none c =
     let r = c .match .rest in
     fields-none (c .before .before .args .kind) (r .0 .0 .0 .0 .0 .1) (r .0 .0 .0 .0 .1) (r .0 .0 .0 .1) (r .0 .0 .1) (r .0 .1) (r .1)
+
+-- what is laid in the arm of a kind is the body of an option of that kind
+armed : (s : tie.Start) (k : ℕ) (body : List ℕ) → let a = s .args in a .kind ≡ k → body ≡ fieldBody k (a .first) (a .second) (a .crc)
+    → wireOf (itemOf (a .kind) body) ≡ wireOf (itemOf (a .kind) (fieldBody (a .kind) (a .first) (a .second) (a .crc)))
+armed s k body e is =
+    let a = s .args in
+    ap (λ (b : List ℕ). wireOf (itemOf (a .kind) b)) (is ∙ sym (ap (λ (n : ℕ). fieldBody n (a .first) (a .second) (a .crc)) e))
 
 put-wide-requires : tie.Need-put-wide-requires
 unfolding fieldsOnWire shapeOf total
@@ -63,11 +70,7 @@ same-length c = search needs
 returns : tie.Need-returns
 unfolding fieldBody shapeOf
 returns c =
-    let on-match = c .before .before .before .before in
-    let s = on-match .before .before in
-    let a = s .args in
-    let is = ap (λ (k : ℕ). fieldBody k (a .first) (a .second) (a .crc)) (on-match .match .keys1) in
-    laid-as (ap (λ (b : List ℕ). wireOf (itemOf (a .kind) b)) (sym is)) (c .before .before .put-wide .ensures)
+    let m = c .before .before .before .before in laid-as (armed (m .before .before) _ _ (m .match .keys1) refl) (c .before .before .put-wide .ensures)
 
 same-length-2 : tie.Need-same-length-2
 same-length-2 c = search needs
@@ -75,11 +78,7 @@ same-length-2 c = search needs
 returns-2 : tie.Need-returns-2
 unfolding fieldBody shapeOf
 returns-2 c =
-    let on-match = c .before .before .before .before in
-    let s = on-match .before .before in
-    let a = s .args in
-    let is = ap (λ (k : ℕ). fieldBody k (a .first) (a .second) (a .crc)) (on-match .match .keys2) in
-    laid-as (ap (λ (b : List ℕ). wireOf (itemOf (a .kind) b)) (narrow-bytes (a .first) ∙ sym is)) (c .before .before .put-narrow .ensures)
+    let m = c .before .before .before .before in laid-as (armed (m .before .before) _ _ (m .match .keys2) (narrow-bytes (m .before .before .args .first))) (c .before .before .put-narrow .ensures)
 
 same-length-3 : tie.Need-same-length-3
 same-length-3 c = search needs
@@ -87,12 +86,9 @@ same-length-3 c = search needs
 returns-3 : tie.Need-returns-3
 unfolding fieldBody shapeOf
 returns-3 c =
-    let on-match = c .before .before .before .before in
-    let s = on-match .before .before in
-    let a = s .args in
-    let is = ap (λ (k : ℕ). fieldBody k (a .first) (a .second) (a .crc)) (on-match .match .keys3) in
-    laid-as (ap (λ (b : List ℕ). wireOf (itemOf (a .kind) b)) (ap₂ _++_ (narrow-bytes (a .first)) (byte-bytes (a .second)) ∙ sym is))
-    (c .before .before .put-mixed .ensures)
+    let m = c .before .before .before .before in
+    let a = m .before .before .args in
+    laid-as (armed (m .before .before) _ _ (m .match .keys3) (ap₂ _++_ (narrow-bytes (a .first)) (byte-bytes (a .second)))) (c .before .before .put-mixed .ensures)
 
 same-length-4 : tie.Need-same-length-4
 same-length-4 c = search needs
@@ -100,11 +96,7 @@ same-length-4 c = search needs
 returns-4 : tie.Need-returns-4
 unfolding fieldBody shapeOf
 returns-4 c =
-    let on-match = c .before .before .before .before in
-    let s = on-match .before .before in
-    let a = s .args in
-    let is = ap (λ (k : ℕ). fieldBody k (a .first) (a .second) (a .crc)) (on-match .match .keys4) in
-    laid-as (ap (λ (b : List ℕ). wireOf (itemOf (a .kind) b)) (sym is)) (c .before .before .put-wide2 .ensures)
+    let m = c .before .before .before .before in laid-as (armed (m .before .before) _ _ (m .match .keys4) refl) (c .before .before .put-wide2 .ensures)
 
 same-length-5 : tie.Need-same-length-5
 same-length-5 c = search needs
@@ -112,11 +104,7 @@ same-length-5 c = search needs
 returns-5 : tie.Need-returns-5
 unfolding fieldBody shapeOf
 returns-5 c =
-    let on-match = c .before .before .before .before in
-    let s = on-match .before .before in
-    let a = s .args in
-    let is = ap (λ (k : ℕ). fieldBody k (a .first) (a .second) (a .crc)) (on-match .match .keys5) in
-    laid-as (ap (λ (b : List ℕ). wireOf (itemOf (a .kind) b)) (sym is)) (c .before .before .put-wide3 .ensures)
+    let m = c .before .before .before .before in laid-as (armed (m .before .before) _ _ (m .match .keys5) refl) (c .before .before .put-wide3 .ensures)
 
 same-length-6 : tie.Need-same-length-6
 same-length-6 c = search needs
@@ -124,11 +112,7 @@ same-length-6 c = search needs
 returns-6 : tie.Need-returns-6
 unfolding fieldBody shapeOf
 returns-6 c =
-    let on-match = c .before .before .before .before in
-    let s = on-match .before .before in
-    let a = s .args in
-    let is = ap (λ (k : ℕ). fieldBody k (a .first) (a .second) (a .crc)) (on-match .match .keys6) in
-    laid-as (ap (λ (b : List ℕ). wireOf (itemOf (a .kind) b)) (sym is)) (c .before .before .put-pair .ensures)
+    let m = c .before .before .before .before in laid-as (armed (m .before .before) _ _ (m .match .keys6) refl) (c .before .before .put-pair .ensures)
 
 same-length-7 : tie.Need-same-length-7
 same-length-7 c = search needs

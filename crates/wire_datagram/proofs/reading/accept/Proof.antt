@@ -1,11 +1,10 @@
 -- `wire_datagram::reading::accept` meets its contract: the arm knows how the area starts, at which `started` computes.
 -- Assumes nothing.
 use mathlib.Core.Path.{_≡_, sym, ap, _∙_}
-use mathlib.Core.List.{List}
-use Prim.Native.Nat.{ℕ, _+_, _-_, _≤_}
+use Prim.Native.Nat.{_+_, _≤_}
 use native.Mathlib.Omega.{arith}
 use lib.ListN.{length, drop, length-take, length-drop}
-use lib.Seq.{take-all}
+use Rattle.number_octets.proofs.Laws.{part-rest}
 use Rattle.number_offsets.specs.Offsets.{udpHeader}
 use Rattle.wire_surplus.specs.Surplus.{startOf}
 use Rattle.wire_datagram.specs.Reading.{payloadLimit, isOdd, started}
@@ -18,11 +17,8 @@ use Rattle.wire_datagram.proofs.reading.accept.Tie as tie
 begun : (c : tie.After-start-of) → let a = c .before .before .before .args in
     startOf (isOdd (a .size)) (a .unused) (drop (a .size) (a .payload .now)) ≡ c .start-of .result
 begun c =
-    let start = c .before .before .before in
-    let l = start .args .payload .now in
-    sym (c .start-of .ensures
-    ∙ ap (startOf (isOdd (start .args .size)) (start .args .unused))
-    (take-all (length l - start .args .size) (drop (start .args .size) l) (simp length-drop (omega arith))))
+    let a = c .before .before .before .args in
+    sym (c .start-of .ensures ∙ ap (startOf (isOdd (a .size)) (a .unused)) (part-rest (a .size) (a .payload .now)))
 
 -- where the list starts is within the payload
 within : (c : tie.After-known-told)

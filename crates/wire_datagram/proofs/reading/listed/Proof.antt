@@ -3,10 +3,10 @@
 use Rattle.wire_datagram.specs.Reading.{extent, noData, optionless}
 use mathlib.Core.Path.{_≡_, refl, sym, ap, _∙_}
 use mathlib.Core.List.{List}
-use Prim.Native.Nat.{ℕ, _-_, _≤_}
+use Prim.Native.Nat.{ℕ}
 use native.Mathlib.Omega.{arith}
-use lib.ListN.{length, drop, length-drop}
-use lib.Seq.{take-all}
+use lib.ListN.{length, drop}
+use Rattle.number_octets.proofs.Laws.{part-rest}
 use Rattle.number_offsets.specs.Offsets.{udpHeader}
 use Rattle.wire_area.specs.Area.{areaOf, areaAnswer}
 use Rattle.wire_area.specs.declared.Area.the-variants.{Listed}
@@ -22,11 +22,9 @@ area : (c : tie.After-walk-area) → let a = c .before .before .before .args in
     areaAnswer (areaOf (noData (a .size)) (a .from .0) (drop (a .from .0) (a .payload .now))) ≡ c .walk-area .result
 unfolding udpHeader
 area c =
-    let start = c .before .before .before in
-    let l = start .args .payload .now in
+    let a = c .before .before .before .args in
     sym (c .walk-area .ensures
-    ∙ ap (λ (t : List ℕ). areaAnswer (areaOf (noData (start .args .size)) (start .args .from .0) t))
-    (take-all (length l - start .args .from .0) (drop (start .args .from .0) l) (simp length-drop (omega arith))))
+    ∙ ap (λ (t : List ℕ). areaAnswer (areaOf (noData (a .size)) (a .from .0) t)) (part-rest (a .from .0) (a .payload .now)))
 
 sub-walk-area : tie.Need-sub-walk-area
 sub-walk-area c = search needs

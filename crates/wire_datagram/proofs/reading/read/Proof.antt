@@ -1,21 +1,18 @@
 -- `wire_datagram::reading::read` meets its contract: the code makes the papers' tests in the papers' order.
 -- Assumes nothing.
-use mathlib.Core.Path.{ap₂}
+use mathlib.Core.Path.{ap₂, _≡_, sym, ap, _∙_}
 use mathlib.Core.Bool.{false}
 use mathlib.Core.List.{List, _++_}
 use lib.Dec.{eqb}
-use lib.ListN.{drop}
+use lib.ListN.{drop, length, take, length-take}
 use lib.Seq.{length-take-le}
 use Rattle.number_checksum.specs.Checksum.{wordSum, folded}
 use Rattle.wire_surplus.specs.Surplus.{startOf}
-use Rattle.wire_datagram.specs.Reading.{pseudoHeader, isOdd, started}
-use mathlib.Core.Path.{_≡_, sym, ap, _∙_}
-use mathlib.Core.Logic.{_⊎_, inl, inr, ⊎-elim}
+use Rattle.wire_datagram.specs.Reading.{pseudoHeader, isOdd, started, payloadLimit, udpLength, accepted, reads}
+use mathlib.Core.Logic.{inl, inr, ⊎-elim}
 use Prim.Native.Nat.{ℕ, _≤_}
 use native.Mathlib.Omega.{arith}
-use lib.ListN.{length, take, length-take}
 use Rattle.number_offsets.specs.Offsets.{udpHeader}
-use Rattle.wire_datagram.specs.Reading.{payloadLimit, udpLength, accepted, reads}
 use Rattle.wire_datagram.proofs.Refusals.{Sized, sumOf, refused-short, refused-long, refused-small, refused-large, refused-sum, reading-accepted}
 use borrow.Author.Needs.{needs}
 use Rattle.wire_datagram.proofs.reading.read.Statement.{statement}

@@ -2,7 +2,7 @@
 -- Assumes nothing.
 use mathlib.Core.Path.{_≡_, refl, sym, ap, _∙_}
 use mathlib.Core.List.{List}
-use Prim.Native.Nat.{ℕ, zero, suc, _+_, _-_, _≤_}
+use Prim.Native.Nat.{ℕ, zero, suc, _-_, _≤_}
 use native.Mathlib.Omega.{arith}
 use borrow.Author.Tests.{eq-eqb, ne-eqb}
 use lib.ListN.{length}
@@ -10,7 +10,6 @@ use Rattle.number_octets.specs.Octets.{number, part}
 use Rattle.wire_options.specs.Kinds.{apc}
 use Rattle.wire_options.specs.Step.{stepOf}
 use Rattle.wire_options.specs.Progress.{roomProgress, progressIn, progressOf}
-use Rattle.wire_options.specs.Walk.{itemOf, apcOf}
 use Rattle.wire_options.specs.declared.step.Step.{Step}
 use Rattle.wire_options.specs.declared.step.Step.the-variants.{Found}
 use Rattle.wire_options.specs.declared.walk.Apcs.{Apcs}

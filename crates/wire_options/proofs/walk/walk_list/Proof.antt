@@ -1,20 +1,20 @@
 -- `wire_options::walk::walk_list` meets its contract. The loop's invariant: what the walk tells of the whole list is what it tells of the rest
--- with the options passed before it (`behind`); each turn carries it on (`turn-goes`).
+-- with the options passed before it (`behind`); each turn carries it on (`turn-on`).
 -- Assumes nothing.
-use mathlib.Core.Path.{_≡_, refl, sym, ap, ap₂, _∙_}
+use mathlib.Core.Path.{_≡_, sym, ap, ap₂, _∙_}
 use mathlib.Core.List.{List}
 use Prim.Native.Nat.{ℕ, _+_, _-_, _≤_, _<_}
 use native.Mathlib.Nat.{add-zero}
 use native.Mathlib.Omega.{arith}
 use borrow.Author.Needs.{needs}
 use lib.ListN.{length, drop, length-drop, drop-of-length-le}
-use lib.Seq.{take-all}
+use Rattle.number_octets.proofs.Laws.{part-rest}
 use Rattle.wire_options.specs.Progress.{progressOf}
 use Rattle.wire_options.specs.Walk.{walkAnswer, walkFrom}
 use Rattle.wire_options.specs.declared.walk.Apcs.{Apcs}
 use Rattle.wire_options.specs.declared.walk.Apcs.the-variants.{Absent}
-use Rattle.wire_options.specs.declared.walk.Walk.the-variants.{Listed, Faulty}
-use Rattle.wire_options.proofs.Walks.{Goes, behind, behind-none, turn-on, joined-absent, progress-goes, turn-ended, turn-failed, told-none}
+use Rattle.wire_options.specs.declared.walk.Walk.the-variants.{Listed}
+use Rattle.wire_options.proofs.Walks.{Goes, behind, behind-none, turn-on, joined-absent, progress-goes, tells, told-none}
 use Rattle.wire_options.proofs.walk.walk_list.Statement.{statement}
 use Rattle.wire_options.proofs.walk.walk_list.Tie as tie
 
@@ -38,9 +38,7 @@ module _ (c : tie.After-progress-at Inv-loop μ-loop) where
   some-rest = simp length-drop (omega (arith, c .before .before .loop-test .taken))
 
   turned : progressOf (at-loop .loop .left) rest ≡ c .progress-at .result
-  turned =
-      let l = at-loop .before .before .args .list .now in
-      sym (c .progress-at .ensures ∙ ap (progressOf (at-loop .loop .left)) (take-all (length l - at-loop .loop .at) rest (simp length-drop (omega arith))))
+  turned = sym (c .progress-at .ensures ∙ ap (progressOf (at-loop .loop .left)) (part-rest (at-loop .loop .at) (at-loop .before .before .args .list .now)))
 
 -- a turn that goes on
 goes : (c : tie.After-turn Inv-loop μ-loop) → let p = c .before .before in
@@ -115,7 +113,7 @@ returns c =
     let a = here .before .before .args in
     let n : ℕ = a .room - here .loop .left in
     sym (here .loop .inv .2
-    ∙ ap (behind n (here .loop .apcs)) (turn-ended (here .loop .left) (rest p) _ (some-rest p) (turned p ∙ c .before .turn2 .given .1))
+    ∙ ap (behind n (here .loop .apcs)) (tells (here .loop .left) (rest p) _ (some-rest p) (turned p ∙ c .before .turn2 .given .1))
     ∙ ap₂ (λ (k : ℕ) (x : Apcs). Listed k (c .before .turn2 .given .0 .0) x) (add-zero n) (joined-absent (here .loop .apcs)))
 
 enum-known-turn-3 : tie.Need-enum-known-turn-3 Inv-loop μ-loop
@@ -128,7 +126,7 @@ returns-2 c =
     let a = here .before .before .args in
     sym (here .loop .inv .2
     ∙ ap (behind (a .room - here .loop .left) (here .loop .apcs))
-    (turn-failed (here .loop .left) (rest p) _ (some-rest p) (turned p ∙ c .before .turn3 .given .1)))
+    (tells (here .loop .left) (rest p) _ (some-rest p) (turned p ∙ c .before .turn3 .given .1)))
 
 sub-t18 : tie.Need-sub-t18 Inv-loop μ-loop
 sub-t18 c = omega arith
