@@ -52,23 +52,23 @@ pub writes : {o : Compose.Outcome} {written : Compose′.Written} {answer : Writ
     → answer ≡ hostWritten (writtenAnswer written) → Writes o answer left
 writes h says = record { answers = says ∙ ap hostWritten (h .answered); buffer-left = h .left }
 
-pub leaves : {a : Table.After} {told : Reassembly.Answer} {answer : Answer} {records : List Client} {store out : List ℕ}
-    → Table.Leaves a told records store out → answer ≡ hostAnswer (replyOf told) → Leaves a answer records store out
+pub leaves : {a : Table.After} {inner : Reassembly.Answer} {answer : Answer} {records : List Client} {store out : List ℕ}
+    → Table.Leaves a inner records store out → answer ≡ hostAnswer (replyOf inner) → Leaves a answer records store out
 leaves h says =
     record { answers = says ∙ ap hostAnswer (h .answers); records-left = h .records-left; store-left = h .store-left; out-left = h .out-left }
 
 -- the fragment that was offered is the one that the call was given
 abbrev Offered : ℕ → List ℕ → List ℕ → Table.Table → Reassembly.Answer → List Client → List ℕ → List ℕ → Arrival → Type 0
-Offered k bytes out t told records store left arrival = Table.Leaves (Table.askOn k (offering arrival bytes out) t) told records store left
+Offered k bytes out t inner records store left arrival = Table.Leaves (Table.askOn k (offering arrival bytes out) t) inner records store left
 
-pub offers : (k : ℕ) (f : Fragment) (bytes out : List ℕ) (t : Table.Table) {arrival : Arrival} {told : Reassembly.Answer} {answer : Answer}
+pub offers : (k : ℕ) (f : Fragment) (bytes out : List ℕ) (t : Table.Table) {arrival : Arrival} {inner : Reassembly.Answer} {answer : Answer}
     {records : List Client} {store left : List ℕ} → arrival ≡ arrivalFrom f
-    → Table.Leaves (Table.askOn k (offering arrival bytes out) t) told records store left → answer ≡ hostAnswer (replyOf told)
+    → Table.Leaves (Table.askOn k (offering arrival bytes out) t) inner records store left → answer ≡ hostAnswer (replyOf inner)
     → Leaves (Table.askOn k (offering (arrivalFrom f) bytes out) t) answer records store left
-offers k f bytes out t {told = told} {records = records} {store = store} {left = left} is h says =
-    leaves (subst (Offered k bytes out t told records store left) is h) says
+offers k f bytes out t {inner = inner} {records = records} {store = store} {left = left} is h says =
+    leaves (subst (Offered k bytes out t inner records store left) is h) says
 
-pub receives : {o : Receive.Receipt} {told : Receiver.Received} {answer : Received} {records : List Client} {store out : List ℕ}
-    → Receive.Leaves o told records store out → answer ≡ hostFate (fateIn told) → Receives o answer records store out
+pub receives : {o : Receive.Receipt} {inner : Receiver.Received} {answer : Received} {records : List Client} {store out : List ℕ}
+    → Receive.Leaves o inner records store out → answer ≡ hostFate (fateIn inner) → Receives o answer records store out
 receives h says =
     record { answers = says ∙ ap hostFate (h .answers); records-left = h .records-left; store-left = h .store-left; out-left = h .out-left }

@@ -86,27 +86,27 @@ reAnswerFrom v =
     }))
     (Reread.refused (v .refusal))
 
-flag-told : (b : Bool) → eqb (flagOf b) 1 ≡ b
-flag-told true = refl
-flag-told false = refl
+flag-recovered : (b : Bool) → eqb (flagOf b) 1 ≡ b
+flag-recovered true = refl
+flag-recovered false = refl
 
-apc-told : (a : Apc) → apcFrom (apcSays a .number) ≡ a
-apc-told Absent = refl
-apc-told Right = refl
-apc-told Wrong = refl
+apc-recovered : (a : Apc) → apcFrom (apcSays a .number) ≡ a
+apc-recovered Absent = refl
+apc-recovered Right = refl
+apc-recovered Wrong = refl
 
-verdict-told : (v : Verdict) → verdictFrom (verdictSays v .number) (fragmentIn v) ≡ v
-verdict-told Bare = refl
-verdict-told Short = refl
-verdict-told Pad = refl
-verdict-told Unsummed = refl
-verdict-told BadSum = refl
-verdict-told Malformed = refl
-verdict-told Unsafe = refl
-verdict-told FragData = refl
-verdict-told Crowded = refl
-verdict-told Listed = refl
-verdict-told (Piece f) = refl
+verdict-recovered : (v : Verdict) → verdictFrom (verdictSays v .number) (fragmentIn v) ≡ v
+verdict-recovered Bare = refl
+verdict-recovered Short = refl
+verdict-recovered Pad = refl
+verdict-recovered Unsummed = refl
+verdict-recovered BadSum = refl
+verdict-recovered Malformed = refl
+verdict-recovered Unsafe = refl
+verdict-recovered FragData = refl
+verdict-recovered Crowded = refl
+verdict-recovered Listed = refl
+verdict-recovered (Piece f) = refl
 
 -- the fragment of a verdict, read back from a value that has it
 abbrev again : Fragment → Bool → Fragment
@@ -119,34 +119,34 @@ again f last = record {
   «option_start» = f .«option_start»;
 }
 
-piece-told : (v : Verdict) → verdictFrom (verdictSays v .number) (again (fragmentIn v) (eqb (flagOf (fragmentIn v .last)) 1)) ≡ v
-piece-told v = ap (λ (b : Bool). verdictFrom (verdictSays v .number) (again (fragmentIn v) b)) (flag-told (fragmentIn v .last)) ∙ verdict-told v
+piece-recovered : (v : Verdict) → verdictFrom (verdictSays v .number) (again (fragmentIn v) (eqb (flagOf (fragmentIn v .last)) 1)) ≡ v
+piece-recovered v = ap (λ (b : Bool). verdictFrom (verdictSays v .number) (again (fragmentIn v) b)) (flag-recovered (fragmentIn v .last)) ∙ verdict-recovered v
 
 abbrev readWith : Whole → Verdict → Apc → Read.Answer
 readWith r verdict apc =
     Read.reads (record { user = r .user; verdict = verdict; options = r .options; count = r .count; fill = r .fill; apc = apc })
 
-pub reading-told : (o : Outcome) → answerFrom (hostReading (answerOf o)) ≡ answerOf o
-reading-told (Unread PayloadTooShort) = refl
-reading-told (Unread PayloadTooLong) = refl
-reading-told (Unread LengthOutOfRange) = refl
-reading-told (Unread ChecksumWrong) = refl
-reading-told (Accepted r) =
-    ap (λ (v : Verdict). readWith r v (apcFrom (apcSays (r .apc) .number))) (piece-told (r .verdict)) ∙ ap (readWith r (r .verdict)) (apc-told (r .apc))
+pub reading-recovered : (o : Outcome) → answerFrom (hostReading (answerOf o)) ≡ answerOf o
+reading-recovered (Unread PayloadTooShort) = refl
+reading-recovered (Unread PayloadTooLong) = refl
+reading-recovered (Unread LengthOutOfRange) = refl
+reading-recovered (Unread ChecksumWrong) = refl
+reading-recovered (Accepted r) =
+    ap (λ (v : Verdict). readWith r v (apcFrom (apcSays (r .apc) .number))) (piece-recovered (r .verdict)) ∙ ap (readWith r (r .verdict)) (apc-recovered (r .apc))
 
 -- ---- rereadings: their verdict is never "piece", so that the value needs no fragment
 
-abbrev Retold : Reread.ReAnswer → Type 0
-Retold a = reAnswerFrom (hostRereading a) ≡ a
+abbrev Recovered : Reread.ReAnswer → Type 0
+Recovered a = reAnswerFrom (hostRereading a) ≡ a
 
-faulty-told : (r : ℕ) (f : Fault) → Retold (Reread.originalFaulty r f)
-faulty-told r Met.Malformed = refl
-faulty-told r Met.Unsafe = refl
-faulty-told r Met.FragData = refl
-faulty-told r Met.Crowded = refl
+faulty-recovered : (r : ℕ) (f : Fault) → Recovered (Reread.originalFaulty r f)
+faulty-recovered r Met.Malformed = refl
+faulty-recovered r Met.Unsafe = refl
+faulty-recovered r Met.FragData = refl
+faulty-recovered r Met.Crowded = refl
 
-walked-told : (original : List ℕ) (r from : ℕ) (w : Walked) → Retold (Reread.rewalked original r from w)
-walked-told original r from (listed items fill) =
+walked-recovered : (original : List ℕ) (r from : ℕ) (w : Walked) → Recovered (Reread.rewalked original r from w)
+walked-recovered original r from (listed items fill) =
     ap (λ (a : Apc). Reread.rereads (record {
       user = Reread.places 0 r;
       verdict = Listed;
@@ -154,25 +154,25 @@ walked-told original r from (listed items fill) =
       count = length items;
       fill = fill;
       apc = a;
-    })) (apc-told (Read.apcOf (take r original) (Read.apcValues items)))
-walked-told original r from (faulty f) = faulty-told r f
+    })) (apc-recovered (Read.apcOf (take r original) (Read.apcValues items)))
+walked-recovered original r from (faulty f) = faulty-recovered r f
 
-started-told : (original : List ℕ) (r : ℕ) (s : Start) → Retold (Reread.restarted original r s)
-started-told original r Begun.Empty = refl
-started-told original r Begun.Short = refl
-started-told original r Begun.Pad = refl
-started-told original r Begun.Unsummed = refl
-started-told original r Begun.BadSum = refl
-started-told original r (Begun.List at) = walked-told original r (r + at) (walkFrom optionLimit 0 (drop (r + at) original))
+started-recovered : (original : List ℕ) (r : ℕ) (s : Start) → Recovered (Reread.restarted original r s)
+started-recovered original r Begun.Empty = refl
+started-recovered original r Begun.Short = refl
+started-recovered original r Begun.Pad = refl
+started-recovered original r Begun.Unsummed = refl
+started-recovered original r Begun.BadSum = refl
+started-recovered original r (Begun.List at) = walked-recovered original r (r + at) (walkFrom optionLimit 0 (drop (r + at) original))
 
-tested-told : (long past : Bool) (a : Reread.ReAnswer) → Retold a → Retold (Reread.reAnswered (firstOf ((long, 2) ∷ (past, 6) ∷ [])) a)
+tested-recovered : (long past : Bool) (a : Reread.ReAnswer) → Recovered a → Recovered (Reread.reAnswered (firstOf ((long, 2) ∷ (past, 6) ∷ [])) a)
 unfolding firstOf
-tested-told true past a h = refl
-tested-told false true a h = refl
-tested-told false false a h = h
+tested-recovered true past a h = refl
+tested-recovered false true a h = refl
+tested-recovered false false a h = h
 
-pub rereading-told : (original : List ℕ) (r : ℕ) → reAnswerFrom (hostRereading (Reread.rereading original r)) ≡ Reread.rereading original r
+pub rereading-recovered : (original : List ℕ) (r : ℕ) → reAnswerFrom (hostRereading (Reread.rereading original r)) ≡ Reread.rereading original r
 unfolding Reread.rereading
-rereading-told original r =
-    tested-told (ltb Reread.originalLimit (length original)) (ltb (length original) r) _
-    (started-told original r (startOf (Read.isOdd (udpHeader + r)) true (drop r original)))
+rereading-recovered original r =
+    tested-recovered (ltb Reread.originalLimit (length original)) (ltb (length original) r) _
+    (started-recovered original r (startOf (Read.isOdd (udpHeader + r)) true (drop r original)))

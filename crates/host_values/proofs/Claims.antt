@@ -26,25 +26,25 @@ use Rattle.host_values.specs.declared.Listing.{Listing}
 use Rattle.host_values.specs.declared.Written.{Written}
 use Rattle.host_values.specs.Lists.{hostListing, hostWritten}
 use Rattle.host_values.specs.Answer.{hostAnswer, hostFate}
-use Rattle.host_readings.proofs.Claims.{answerFrom, reading-told}
+use Rattle.host_readings.proofs.Claims.{answerFrom, reading-recovered}
 
 -- ---- lists and payloads
 
 abbrev pub listedFrom : Listing → Encoding.Answer Transcribe.Listing
 listedFrom v = cond (eqb (v .refusal) 0) (Encoding.given (record { size = v .size; fill = v .fill })) (Encoding.refused (v .refusal))
 
-pub listing-told : (l : Transcribe′.Listed) → listedFrom (hostListing (Transcribe.listedAnswer l)) ≡ Transcribe.listedAnswer l
-listing-told (ListWritten size fill) = refl
-listing-told ListFull = refl
+pub listing-recovered : (l : Transcribe′.Listed) → listedFrom (hostListing (Transcribe.listedAnswer l)) ≡ Transcribe.listedAnswer l
+listing-recovered (ListWritten size fill) = refl
+listing-recovered ListFull = refl
 
 abbrev pub writtenFrom : Written → Encoding.Answer ℕ
 writtenFrom v = cond (eqb (v .refusal) 0) (Encoding.given (v .size)) (Encoding.refused (v .refusal))
 
-pub written-told : (w : Compose′.Written) → writtenFrom (hostWritten (writtenAnswer w)) ≡ writtenAnswer w
-written-told (Payload size) = refl
-written-told Unreadable = refl
-written-told Forbidden = refl
-written-told TooLarge = refl
+pub written-recovered : (w : Compose′.Written) → writtenFrom (hostWritten (writtenAnswer w)) ≡ writtenAnswer w
+written-recovered (Payload size) = refl
+written-recovered Unreadable = refl
+written-recovered Forbidden = refl
+written-recovered TooLarge = refl
 
 -- ---- the table
 
@@ -61,32 +61,32 @@ replyFrom v =
     (account (f .offered ∷ f .held ∷ f .delivered ∷ f .expired ∷ f .conflicted ∷ f .repeated ∷ f .rejected ∷ []))))))))
     (refused (v .refusal))
 
-pub answer-told : (a : Reassembly.Answer) → replyFrom (hostAnswer (replyOf a)) ≡ replyOf a
-answer-told (Refused No.TableMisfit) = refl
-answer-told (Refused No.NoSuchClient) = refl
-answer-told (Refused No.UnsoundRecord) = refl
-answer-told (Refused No.OutTooShort) = refl
-answer-told (Refused No.EmptyFragment) = refl
-answer-told (Refused No.EndPastLimit) = refl
-answer-told (Refused No.OptionStartPastEnd) = refl
-answer-told (Refused No.TimeBeforeLast) = refl
-answer-told (Refused No.OfferedPastLimit) = refl
-answer-told (Refused No.NoFreeAssembly) = refl
-answer-told (Refused No.AssemblyFull) = refl
-answer-told Reset = refl
-answer-told Stored = refl
-answer-told Repeated = refl
-answer-told Conflict = refl
-answer-told (Delivered n r) = refl
-answer-told Advanced = refl
-answer-told (Account f) = refl
+pub answer-recovered : (a : Reassembly.Answer) → replyFrom (hostAnswer (replyOf a)) ≡ replyOf a
+answer-recovered (Refused No.TableMisfit) = refl
+answer-recovered (Refused No.NoSuchClient) = refl
+answer-recovered (Refused No.UnsoundRecord) = refl
+answer-recovered (Refused No.OutTooShort) = refl
+answer-recovered (Refused No.EmptyFragment) = refl
+answer-recovered (Refused No.EndPastLimit) = refl
+answer-recovered (Refused No.OptionStartPastEnd) = refl
+answer-recovered (Refused No.TimeBeforeLast) = refl
+answer-recovered (Refused No.OfferedPastLimit) = refl
+answer-recovered (Refused No.NoFreeAssembly) = refl
+answer-recovered (Refused No.AssemblyFull) = refl
+answer-recovered Reset = refl
+answer-recovered Stored = refl
+answer-recovered Repeated = refl
+answer-recovered Conflict = refl
+answer-recovered (Delivered n r) = refl
+answer-recovered Advanced = refl
+answer-recovered (Account f) = refl
 
 -- ---- one call for each datagram
 
 abbrev pub fateFrom : Received → Fate
 fateFrom v = cond (eqb (v .what) 2) (offered (replyFrom (v .answer))) (fateOf (answerFrom (v .reading)))
 
-pub received-told : (r : Receiver.Received) → fateFrom (hostFate (fateIn r)) ≡ fateIn r
-received-told (Turned refusal) = ap fateOf (reading-told (Unread refusal))
-received-told (Datagram r) = ap fateOf (reading-told (Accepted r))
-received-told (Offered a) = ap offered (answer-told a)
+pub received-recovered : (r : Receiver.Received) → fateFrom (hostFate (fateIn r)) ≡ fateIn r
+received-recovered (Turned refusal) = ap fateOf (reading-recovered (Unread refusal))
+received-recovered (Datagram r) = ap fateOf (reading-recovered (Accepted r))
+received-recovered (Offered a) = ap offered (answer-recovered a)

@@ -1,4 +1,4 @@
--- A listing is the count and the options behind it, and a walk that is told to be sound is one that lists its options.
+-- A listing is the count and the options behind it, and a walk that is answered as sound is one that lists its options.
 -- Assumes nothing.
 use mathlib.Core.Path.{_≡_, sym, ap, ap₂, _∙_}
 use mathlib.Core.List.{List, [], _++_}
@@ -41,20 +41,20 @@ listed-written walk buffer size fill left h s f l =
 
 -- ---- what `walk_list` tells
 
-pub told-sound : (walk : Walked) (count fill : ℕ) (apcs : Apcs) → walkAnswer walk ≡ Listed count fill apcs
+pub answer-sound : (walk : Walked) (count fill : ℕ) (apcs : Apcs) → walkAnswer walk ≡ Listed count fill apcs
     → Sound walk × (count ≡ length (itemsOf walk)) × (fill ≡ fillOf walk)
-told-sound (faulty f) count fill apcs e = absurd (let z : _≡_ {A = ℕ} 0 1 = cc in omega arith)
-told-sound (listed items n) count fill apcs e =
+answer-sound (faulty f) count fill apcs e = absurd (let z : _≡_ {A = ℕ} 0 1 = cc in omega arith)
+answer-sound (listed items n) count fill apcs e =
     let many : length items ≡ count = cc in
     let same : n ≡ fill = cc in
     (tt, sym many, sym same)
 
 -- the listing of a faulty walk is that of no option
-pub told-faulty : (walk : Walked) (fault : Fault) (buffer : List ℕ) (answer : Answered) (left : List ℕ) → walkAnswer walk ≡ Faulty fault
+pub answer-faulty : (walk : Walked) (fault : Fault) (buffer : List ℕ) (answer : Answered) (left : List ℕ) → walkAnswer walk ≡ Faulty fault
     → ListedInto (listed [] 0) buffer answer left → ListedInto walk buffer answer left
 unfolding listing roomFor
-told-faulty (listed items n) fault buffer answer left e r = absurd (let z : _≡_ {A = ℕ} 0 1 = cc in omega arith)
-told-faulty (faulty f) fault buffer answer left e r = record { answered = r .answered; written = r .written }
+answer-faulty (listed items n) fault buffer answer left e r = absurd (let z : _≡_ {A = ℕ} 0 1 = cc in omega arith)
+answer-faulty (faulty f) fault buffer answer left e r = record { answered = r .answered; written = r .written }
 
 -- ---- what was listed can be read
 

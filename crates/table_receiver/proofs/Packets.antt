@@ -90,10 +90,10 @@ if-front : (x : Bool) (g : Given) (gs : List Given) → cond x (g ∷ []) [] ++ 
 if-front true g gs = refl
 if-front false g gs = refl
 
-told-is : (k : ℕ) (t : Table) (c : Call) (es : List Event) → answeredTo k t c ++ gives k (final t (eventsOf c)) es ≡ gives k t (eventsOf c ++ es)
+answered-first : (k : ℕ) (t : Table) (c : Call) (es : List Event) → answeredTo k t c ++ gives k (final t (eventsOf c)) es ≡ gives k t (eventsOf c ++ es)
 unfolding gives final receiveOn
-told-is k t (setUp g) es = refl
-told-is k t (arriving g j p out) es = go (pieceIn (readingOf p))
+answered-first k t (setUp g) es = refl
+answered-first k t (arriving g j p out) es = go (pieceIn (readingOf p))
   where
     go : (o : Option Fragment)
         → cond (eqb j k) (answerBy (receiving j p out (tableFor g t) o)) [] ++ gives k (final t (offers g j p out o)) es
@@ -103,14 +103,14 @@ told-is k t (arriving g j p out) es = go (pieceIn (readingOf p))
         (ap (λ (l : List Given). cond (eqb j k) l []) (reader-silent (readingOf p) out) ∙ if-none (eqb j k))
     go (some f) =
         if-front (eqb j k) (givenBy (askOn j (offerOf p f out) (tableFor g t))) (gives k (next t (asking g j (offerOf p f out))) es)
-told-is k t (calling g j a) es = if-front (eqb j k) (givenBy (askOn j a (tableFor g t))) (gives k (next t (asking g j a)) es)
+answered-first k t (calling g j a) es = if-front (eqb j k) (givenBy (askOn j a (tableFor g t))) (gives k (next t (asking g j a)) es)
 
 tells-is : (k : ℕ) (cs : List Call) (t : Table) → answersTo k t cs ≡ gives k t (allEvents cs)
 unfolding answersTo allEvents gives
 tells-is k [] t = refl
 tells-is k (c ∷ cs) t =
     ap (λ (l : List Given). answeredTo k t c ++ l) (tells-is k cs (after t c) ∙ ap (λ (u : Table). gives k u (allEvents cs)) (after-is t c))
-    ∙ told-is k t c (allEvents cs)
+    ∙ answered-first k t c (allEvents cs)
 
 -- ---- the same lists without other clients' calls
 
@@ -157,9 +157,9 @@ module _ (t : Table) (cs : List Call) (terms : Terms t (allEvents cs)) where
   unfolding allEvents
   table-is = finally-is (opening cs) t
 
-  answers-told : (k : ℕ) → answersTo k t (opening cs) ≡ owes k (lentOf t) [] (Table.opening (allEvents cs))
+  answers-owed : (k : ℕ) → answersTo k t (opening cs) ≡ owes k (lentOf t) [] (Table.opening (allEvents cs))
   unfolding allEvents
-  answers-told k = tells-is k (opening cs) t ∙ demand-3 .answers t (allEvents cs) terms k
+  answers-owed k = tells-is k (opening cs) t ∙ demand-3 .answers t (allEvents cs) terms k
 
   figures-same : (k : ℕ) → k < length (tableAfter t cs .records) → figures (recordOf k (tableAfter t cs)) ≡ Book.figures (bookFrom k t cs)
   figures-same k h =
@@ -258,7 +258,7 @@ pub demand-3-over-payloads : OverPayloads
 demand-3-over-payloads = record {
   no-fragment = not-received;
   events = table-is;
-  answers = answers-told;
+  answers = answers-owed;
   accounts = figures-same;
   sum = sums;
   delivery = λ t cs terms k p out f n r e. delivered-when t cs terms k p out f e n r;

@@ -83,10 +83,10 @@ behind-behind n m a b (Listed count fill c) =
     ap₂ (λ (k : ℕ) (x : Apcs). Listed k fill x) (sym (add-assoc n m count)) (joined-assoc a b c)
 behind-behind n m a b (Faulty fault) = refl
 
-told-before : (item : Item) (w : Walked) → walkAnswer (before item w) ≡ behind 1 (apcOf item) (walkAnswer w)
+answer-before : (item : Item) (w : Walked) → walkAnswer (before item w) ≡ behind 1 (apcOf item) (walkAnswer w)
 unfolding apcsOf
-told-before item (listed items fill) = ap (λ (n : ℕ). Listed n fill (joined (apcOf item) (apcsOf items))) (omega arith)
-told-before item (faulty fault) = refl
+answer-before item (listed items fill) = ap (λ (n : ℕ). Listed n fill (joined (apcOf item) (apcsOf items))) (omega arith)
+answer-before item (faulty fault) = refl
 
 -- ---- one turn
 
@@ -144,7 +144,7 @@ module _ (b : ℕ) (bs : List ℕ) where
             some = omega (arith, f .least);
             fits = f .fits;
             carries =
-                ap walkAnswer w ∙ told-before item (rest r (size - 1))
+                ap walkAnswer w ∙ answer-before item (rest r (size - 1))
                 ∙ ap₂ (λ (n : ℕ) (v : Walked). behind n (apcOf item) (walkAnswer v)) one
                 (walk-skip r (size - 1) bs ∙ ap (λ (k : ℕ). walkFrom r 0 (drop k l)) down);
           }
@@ -157,9 +157,9 @@ tells room (b ∷ bs) progress h q = subst (Tells room (b ∷ bs)) q (tells-step
 pub progress-goes : (room : ℕ) (l : List ℕ) (left size : ℕ) (apcs : Apcs) → 0 < length l → progressOf room l ≡ On left size apcs → Goes room l left size apcs
 progress-goes room l left size apcs h q = tells room l (On left size apcs) h q
 
-pub told-none : (room skip : ℕ) → walkAnswer (walkFrom room skip []) ≡ Listed 0 0 Absent
+pub answer-none : (room skip : ℕ) → walkAnswer (walkFrom room skip []) ≡ Listed 0 0 Absent
 unfolding walkFrom apcsOf
-told-none room skip = refl
+answer-none room skip = refl
 
 -- a loop's turn: what was told of the whole by the rest is told by what is left of it
 pub turn-on : (whole : Walk) (l : List ℕ) (room left next at size : ℕ) (passed apcs sum : Apcs) → left ≤ room

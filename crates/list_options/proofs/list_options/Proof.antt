@@ -1,8 +1,8 @@
--- `list_options::list_options` meets its contract: a walk that is told to be sound is listed, and a faulty one is listed as no option.
+-- `list_options::list_options` meets its contract: a walk that is answered as sound is listed, and a faulty one is listed as no option.
 -- Assumes nothing.
 use mathlib.Core.Path.{refl, sym, _∙_}
 use Rattle.wire_options.specs.Walk.{walkFrom, optionLimit}
-use Rattle.list_options.proofs.Listeds.{told-sound, told-faulty}
+use Rattle.list_options.proofs.Listeds.{answer-sound, answer-faulty}
 use borrow.Author.Needs.{needs}
 use Rattle.list_options.proofs.list_options.Statement.{statement}
 use Rattle.list_options.proofs.list_options.Tie as tie
@@ -17,7 +17,7 @@ list-sound-requires : tie.Need-list-sound-requires
 unfolding optionLimit
 list-sound-requires c κs =
     let a = c .before .before .before .before .before .before .before .args in
-    told-sound (walkFrom optionLimit 0 (a .options .now)) _ _ _
+    answer-sound (walkFrom optionLimit 0 (a .options .now)) _ _ _
     (sym (c .before .before .before .before .walk-list .ensures) ∙ c .before .before .walked .given .1)
 
 enum-told : tie.Need-enum-told
@@ -42,7 +42,7 @@ same-length-2 c = search needs
 returns-2 : tie.Need-returns-2
 unfolding optionLimit walkFrom
 returns-2 c =
-    told-faulty _ _ _ _ _ (sym (c .before .before .before .before .before .before .before .walk-list .ensures)
+    answer-faulty _ _ _ _ _ (sym (c .before .before .before .before .before .before .before .walk-list .ensures)
     ∙ c .before .before .before .before .before .enum-told .given .1) (c .before .before .list-sound2 .ensures)
 
 pub list-options-spec : {M : Type 1} → statement M

@@ -18,9 +18,9 @@ use Rattle.wire_area.proofs.behind_frag.Statement.{statement}
 use Rattle.wire_area.proofs.behind_frag.Tie as tie
 
 -- what a walk behind FRAG tells is dropped, but for faults
-piece-told : (f : Fragment) (w : Walked) → asPiece f (walkAnswer w) ≡ areaAnswer (pieceWith f w)
-piece-told f (listed items fill) = refl
-piece-told f (faulty x) = refl
+piece-answer : (f : Fragment) (w : Walked) → asPiece f (walkAnswer w) ≡ areaAnswer (pieceWith f w)
+piece-answer f (listed items fill) = refl
+piece-answer f (faulty x) = refl
 
 bounds : (c : tie.After-found) → let a = c .before .before .before .before .args in
     (a .base .0 + a .behind ≤ c .found .given .0 .0 .start .0) × (c .found .given .0 .0 .start .0 ≤ a .base .0 + length (a .list .now))
@@ -81,7 +81,7 @@ returns-3 c =
     let l : List ℕ = a .list .now in
     let middle : f .start .0 - a .base .0 - a .behind ≡ f .start .0 - (a .base .0 + a .behind) = omega arith in
     c .as-piece .ensures ∙ ap (asPiece f) (c .before .walk-list .ensures)
-    ∙ piece-told f (walkFrom (optionLimit - 1) 0 (part (a .behind) (f .start .0 - a .base .0 - a .behind) l))
+    ∙ piece-answer f (walkFrom (optionLimit - 1) 0 (part (a .behind) (f .start .0 - a .base .0 - a .behind) l))
     ∙ ap (λ (n : ℕ). areaAnswer (pieceWith f (walkFrom (optionLimit - 1) 0 (part (a .behind) n l)))) middle
     ∙ ap₂ (λ (e : Bool) (p : Placed). areaAnswer (behindFrag e l (a .base .0) (a .behind) p))
     (sym (not-false _ (c .before .before .before .before .before .if1 .left)))

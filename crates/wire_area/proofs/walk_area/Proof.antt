@@ -16,9 +16,9 @@ use Rattle.wire_area.proofs.walk_area.Statement.{statement}
 use Rattle.wire_area.proofs.walk_area.Tie as tie
 
 -- what a walk without FRAG tells is what the area's walk tells
-plain-told : (w : Walked) → asArea (walkAnswer w) ≡ areaAnswer (plainly w)
-plain-told (listed items fill) = refl
-plain-told (faulty x) = refl
+plain-answer : (w : Walked) → asArea (walkAnswer w) ≡ areaAnswer (plainly w)
+plain-answer (listed items fill) = refl
+plain-answer (faulty x) = refl
 
 -- no FRAG leads: nothing is behind the NOPs, or something else
 not-led : (c : tie.Joined1) → let l = c .before .before .before .args .list .now in eqb (getD l (nopsOf l) eol) frag ≡ false
@@ -60,7 +60,7 @@ returns-2 : tie.Need-returns-2
 unfolding areaOf optionLimit
 returns-2 c =
     let a = c .before .before .before .before .before .args in
-    c .as-area .ensures ∙ ap asArea (c .before .walk-list .ensures) ∙ plain-told (walkFrom 32 0 (a .list .now)) ∙ sym (simp (not-led (c .before .before)))
+    c .as-area .ensures ∙ ap asArea (c .before .walk-list .ensures) ∙ plain-answer (walkFrom 32 0 (a .list .now)) ∙ sym (simp (not-led (c .before .before)))
 
 pub walk-area-spec : {M : Type 1} → statement M
 walk-area-spec =

@@ -14,7 +14,7 @@ use Rattle.wire_options.specs.Walk.{walkAnswer, walkFrom}
 use Rattle.wire_options.specs.declared.walk.Apcs.{Apcs}
 use Rattle.wire_options.specs.declared.walk.Apcs.the-variants.{Absent}
 use Rattle.wire_options.specs.declared.walk.Walk.the-variants.{Listed}
-use Rattle.wire_options.proofs.Walks.{Goes, behind, behind-none, turn-on, joined-absent, progress-goes, tells, told-none}
+use Rattle.wire_options.proofs.Walks.{Goes, behind, behind-none, turn-on, joined-absent, progress-goes, tells, answer-none}
 use Rattle.wire_options.proofs.walk.walk_list.Statement.{statement}
 use Rattle.wire_options.proofs.walk.walk_list.Tie as tie
 
@@ -37,13 +37,13 @@ module _ (c : tie.After-progress-at Inv-loop μ-loop) where
   some-rest : 0 < length rest
   some-rest = simp length-drop (omega (arith, c .before .before .loop-test .taken))
 
-  turned : progressOf (at-loop .loop .left) rest ≡ c .progress-at .result
-  turned = sym (c .progress-at .ensures ∙ ap (progressOf (at-loop .loop .left)) (part-rest (at-loop .loop .at) (at-loop .before .before .args .list .now)))
+  progress-is : progressOf (at-loop .loop .left) rest ≡ c .progress-at .result
+  progress-is = sym (c .progress-at .ensures ∙ ap (progressOf (at-loop .loop .left)) (part-rest (at-loop .loop .at) (at-loop .before .before .args .list .now)))
 
 -- a turn that goes on
 goes : (c : tie.After-turn Inv-loop μ-loop) → let p = c .before .before in
     Goes (at-loop p .loop .left) (rest p) (c .turn .given .0 .0) (c .turn .given .0 .1 .0) (c .turn .given .0 .1 .1 .0)
-goes c = let p = c .before .before in progress-goes (at-loop p .loop .left) (rest p) _ _ _ (some-rest p) (turned p ∙ c .turn .given .1)
+goes c = let p = c .before .before in progress-goes (at-loop p .loop .left) (rest p) _ _ _ (some-rest p) (progress-is p ∙ c .turn .given .1)
 
 bound : (c : tie.After-turn Inv-loop μ-loop) → let p = c .before .before in
     at-loop p .loop .at + c .turn .given .0 .1 .0 ≤ length (at-loop p .before .before .args .list .now)
@@ -113,7 +113,7 @@ returns c =
     let a = here .before .before .args in
     let n : ℕ = a .room - here .loop .left in
     sym (here .loop .inv .2
-    ∙ ap (behind n (here .loop .apcs)) (tells (here .loop .left) (rest p) _ (some-rest p) (turned p ∙ c .before .turn2 .given .1))
+    ∙ ap (behind n (here .loop .apcs)) (tells (here .loop .left) (rest p) _ (some-rest p) (progress-is p ∙ c .before .turn2 .given .1))
     ∙ ap₂ (λ (k : ℕ) (x : Apcs). Listed k (c .before .turn2 .given .0 .0) x) (add-zero n) (joined-absent (here .loop .apcs)))
 
 enum-known-turn-3 : tie.Need-enum-known-turn-3 Inv-loop μ-loop
@@ -126,7 +126,7 @@ returns-2 c =
     let a = here .before .before .args in
     sym (here .loop .inv .2
     ∙ ap (behind (a .room - here .loop .left) (here .loop .apcs))
-    (tells (here .loop .left) (rest p) _ (some-rest p) (turned p ∙ c .before .turn3 .given .1)))
+    (tells (here .loop .left) (rest p) _ (some-rest p) (progress-is p ∙ c .before .turn3 .given .1)))
 
 sub-t18 : tie.Need-sub-t18 Inv-loop μ-loop
 sub-t18 c = omega arith
@@ -138,7 +138,7 @@ returns-3 c =
     let n : ℕ = a .room - here .loop .left in
     sym (here .loop .inv .2
     ∙ ap (λ (l : List ℕ). behind n (here .loop .apcs) (walkAnswer (walkFrom (here .loop .left) 0 l))) (drop-of-length-le (a .list .now) (c .loop-test .left))
-    ∙ ap (behind n (here .loop .apcs)) (told-none (here .loop .left) 0)
+    ∙ ap (behind n (here .loop .apcs)) (answer-none (here .loop .left) 0)
     ∙ ap₂ (λ (k : ℕ) (x : Apcs). Listed k 0 x) (add-zero n) (joined-absent (here .loop .apcs)))
 
 pub walk-list-spec : {M : Type 1} → statement M
