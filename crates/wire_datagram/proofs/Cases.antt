@@ -39,7 +39,7 @@ module _
     (P : Reading → Type 0)
     (p : List ℕ)
     (fits : udpLength p ≤ length p)
-    (by-other : (verdict : Verdict) → Other verdict → P (optionless (udpLength p) verdict))
+    (by-other : (end : ℕ) (verdict : Verdict) → Other verdict → P (optionless end verdict))
     (by-list : (from : ℕ) (items : List Item) (fill : ℕ) → from ≤ length p → walkFrom optionLimit 0 (drop from p) ≡ listed items fill
     → P (walked p (udpLength p) from (plain items fill)))
     (by-piece : (from : ℕ) (f : Fragment) → from ≤ length p → areaOf (noData (udpLength p)) from (drop from p) ≡ piece f
@@ -50,17 +50,17 @@ module _
   walked-by : (from : ℕ) (w : AreaWalk) → from ≤ length p → areaOf (noData size) from (drop from p) ≡ w → P (walked p size from w)
   walked-by from (plain items fill) h e = by-list from items fill h (area-plain (noData size) from (drop from p) items fill e)
   walked-by from (piece f) h e = by-piece from f h e
-  walked-by from (fault malformedList) h e = by-other Malformed tt
-  walked-by from (fault unsafeList) h e = by-other Unsafe tt
-  walked-by from (fault fragData) h e = by-other FragData tt
-  walked-by from (fault crowdedList) h e = by-other Crowded tt
+  walked-by from (fault malformedList) h e = by-other _ Malformed tt
+  walked-by from (fault unsafeList) h e = by-other _ Unsafe tt
+  walked-by from (fault fragData) h e = by-other _ FragData tt
+  walked-by from (fault crowdedList) h e = by-other _ Crowded tt
 
   started-by : (odd unused : Bool) (start : Start) → startOf odd unused (drop size p) ≡ start → P (started p size start)
-  started-by odd unused Empty e = by-other Bare tt
-  started-by odd unused shortArea e = by-other Short tt
-  started-by odd unused badPad e = by-other Pad tt
-  started-by odd unused noSum e = by-other Unsummed tt
-  started-by odd unused badSum e = by-other BadSum tt
+  started-by odd unused Empty e = by-other _ Bare tt
+  started-by odd unused shortArea e = by-other _ Short tt
+  started-by odd unused badPad e = by-other _ Pad tt
+  started-by odd unused noSum e = by-other _ Unsummed tt
+  started-by odd unused badSum e = by-other _ BadSum tt
   started-by odd unused (ListAt at) e =
       let within : at ≤ length (drop size p) = start-list odd unused (drop size p) at e in
       walked-by (size + at) (areaOf (noData size) (size + at) (drop (size + at) p)) (omega (arith, simp length-drop at within)) refl

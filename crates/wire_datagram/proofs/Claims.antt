@@ -66,7 +66,7 @@ in-range p s d e =
 
 -- a reading by cases
 pub reading-by : (P : Reading → Type 0) (p s d : List ℕ) (r : Reading) → reading p s d ≡ reads r
-    → ((verdict : Verdict) → Other verdict → P (optionless (udpLength p) verdict))
+    → ((end : ℕ) (verdict : Verdict) → Other verdict → P (optionless end verdict))
     → ((from : ℕ) (items : List Item) (fill : ℕ) → from ≤ length p → walkFrom optionLimit 0 (drop from p) ≡ listed items fill
     → P (walked p (udpLength p) from (plain items fill)))
     → ((from : ℕ) (f : Fragment) → from ≤ length p → areaOf (noData (udpLength p)) from (drop from p) ≡ piece f → P (optionless (udpLength p) (Piece f)))
@@ -91,7 +91,7 @@ pub record Silent (r : Reading) : Type 0 where
 pub options-only-with-read : (p s d : List ℕ) (r : Reading) → reading p s d ≡ reads r → (r .verdict ≡ Read) ⊎ Silent r
 options-only-with-read p s d r e =
     reading-by (λ x. (x .verdict ≡ Read) ⊎ Silent x) p s d r e
-    (λ verdict o. inr (record { no-list = refl; no-count = refl; no-fill = refl; no-apc = refl }))
+    (λ end verdict o. inr (record { no-list = refl; no-count = refl; no-fill = refl; no-apc = refl }))
     (λ from items fill h w. inl refl)
     (λ from f h a. inr (record { no-list = refl; no-count = refl; no-fill = refl; no-apc = refl }))
 

@@ -52,6 +52,6 @@ read-verdict (Piece f) e = absurd (let z : _≡_ {A = ℕ} 0 1 = cc in omega ari
 pub reading-lists : (p s d : List ℕ) (r : Reading) → reading p s d ≡ reads r → r .verdict ≡ Read → ListsIn p r
 reading-lists p s d r e =
     reading-by (λ x. x .verdict ≡ Read → ListsIn p x) p s d r e
-    (λ verdict o v. absurd (subst Other v o))
+    (λ end verdict o v. absurd (subst Other v o))
     (λ from items fill h w v. record { items = items; ordered = h; ends = refl; walks = w; counts = refl })
     (λ from f h a v. absurd (not-read (Piece f) refl v))

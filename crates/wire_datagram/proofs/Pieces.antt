@@ -22,7 +22,7 @@ pub record Within (p : List ℕ) (f : Fragment) : Type 0 where
 pub piece-within : (p s d : List ℕ) (r : Reading) (f : Fragment) → reading p s d ≡ reads r → r .verdict ≡ Piece f → Within p f
 piece-within p s d r f e =
     reading-by (λ x. x .verdict ≡ Piece f → Within p f) p s d r e
-    (λ verdict o v. absurd (subst Other v o))
+    (λ end verdict o v. absurd (subst Other v o))
     (λ from items fill h w v. absurd (let z : _≡_ {A = ℕ} 0 1 = cc in omega arith))
     (λ from g h a v.
     let same : g ≡ f = cc in

@@ -35,7 +35,7 @@ piece-empty size from l f = go (noData size) refl
 pub piece-has-none : (p s d : List ℕ) (r : Reading) (f : Fragment) → reading p s d ≡ reads r → r .verdict ≡ Piece f → udpLength p ≡ udpHeader
 piece-has-none p s d r f e =
     reading-by (λ x. x .verdict ≡ Piece f → udpLength p ≡ udpHeader) p s d r e
-    (λ verdict o v. absurd (subst Other v o))
+    (λ end verdict o v. absurd (subst Other v o))
     (λ from items fill h w v. absurd (let z : _≡_ {A = ℕ} 0 1 = cc in omega arith))
     (λ from g h a v. piece-empty (udpLength p) from (drop from p) g a)
 
