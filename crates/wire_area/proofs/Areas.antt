@@ -143,7 +143,7 @@ with-same f g (faulty x) q = absurd (let z : _≡_ {A = ℕ} 0 1 = cc in omega a
 
 behind-same : (empty : Bool) (l : List ℕ) (base behind : ℕ) (f g : Fragment) → behindFrag empty l base behind (Sound g) ≡ piece f → g ≡ f
 behind-same true l base behind f g q = with-same f g (walkFrom (optionLimit - 1) 0 (upToStart g base behind l)) q
-behind-same false l base behind f g q = absurd (let z : _≡_ {A = ℕ} 0 1 = cc in omega arith)
+behind-same false l base behind f g q = cc
 
 -- a piece is the fragment of the FRAG that leads its list
 pub piece-leads : (empty : Bool) (base : ℕ) (l : List ℕ) (f : Fragment) → areaOf empty base l ≡ piece f → Leads base l f

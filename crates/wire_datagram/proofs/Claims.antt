@@ -15,14 +15,18 @@ use Rattle.number_tests.specs.Tests.{firstOf}
 use Rattle.number_octets.specs.Octets.{number, part}
 use Rattle.number_octets.proofs.Laws.{part-take}
 use Rattle.number_offsets.specs.Offsets.{udpHeader}
+use Rattle.wire_options.specs.Walk.{Item, listed, walkFrom, optionLimit}
 use Rattle.wire_area.specs.Area.{AreaWalk, plain, piece, fault, areaOf}
+use Rattle.wire_area.specs.declared.Fragment.{Fragment}
 use Rattle.wire_surplus.specs.Surplus.{startOf}
-use Rattle.wire_datagram.specs.Reading.{noData, udpLength, udpChecksum, refusalTests, extent, walked, started, isOdd, accepted, reads, answered, reading}
+use Rattle.wire_datagram.specs.Reading.{noData, udpLength, udpChecksum, refusalTests, extent, optionless, walked, started, isOdd, accepted, reads, answered, reading}
 use Rattle.wire_surplus.specs.declared.Start.{Start}
 use Rattle.wire_surplus.specs.declared.Start.the-variants.{Empty, Short, Pad, Unsummed, BadSum, List as ListAt}
 use Rattle.wire_datagram.specs.declared.reading.Apc.the-variants.{Absent}
-use Rattle.wire_datagram.specs.declared.reading.Verdict.the-variants.{Read}
+use Rattle.wire_datagram.specs.declared.reading.Verdict.{Verdict}
+use Rattle.wire_datagram.specs.declared.reading.Verdict.the-variants.{Read, Piece}
 use Rattle.wire_datagram.specs.declared.reading.Reading.{Reading}
+use Rattle.wire_datagram.proofs.Cases.{Other, accepted-by}
 
 -- ---- the user data
 
@@ -52,6 +56,25 @@ met-none p s d r = go (firstOf (refusalTests p s d)) refl
     go none e q = (e, cc)
     go (some n) e q = absurd (let z : _≡_ {A = ℕ} 0 1 = cc in omega arith)
 
+-- L is at least a header and within the payload
+pub in-range : (p s d : List ℕ) → firstOf (refusalTests p s d) ≡ none → (udpHeader ≤ udpLength p) × (udpLength p ≤ length p)
+in-range p s d e =
+    let size = udpLength p in
+    let rest = first-none _ _ (first-none _ _ e .1) .1 in
+    let third = both-false (ltb size udpHeader) (ltb (length p) size) (first-none _ _ rest .0) in
+    (ltb-false size udpHeader (third .0), ltb-false (length p) size (third .1))
+
+-- a reading by cases
+pub reading-by : (P : Reading → Type 0) (p s d : List ℕ) (r : Reading) → reading p s d ≡ reads r
+    → ((end : ℕ) (verdict : Verdict) → Other verdict → P (optionless end verdict))
+    → ((from : ℕ) (items : List Item) (fill : ℕ) → from ≤ length p → walkFrom optionLimit 0 (drop from p) ≡ listed items fill
+    → P (walked p (udpLength p) from (plain items fill)))
+    → ((from : ℕ) (f : Fragment) → from ≤ length p → areaOf (noData (udpLength p)) from (drop from p) ≡ piece f → P (optionless (udpLength p) (Piece f)))
+    → P r
+reading-by P p s d r e by-other by-list by-piece =
+    let m = met-none p s d r e in
+    subst P (m .1) (accepted-by P p (in-range p s d (m .0) .1) by-other by-list by-piece)
+
 -- the user data of a reading is bytes 8 to L, whatever the verdict
 pub user-extent : (p s d : List ℕ) (r : Reading) → reading p s d ≡ reads r → r .user ≡ extent udpHeader (udpLength p)
 user-extent p s d r e = ap (λ (x : Reading). x .user) (sym (met-none p s d r e .1)) ∙ accepted-user p
@@ -65,34 +88,14 @@ pub record Silent (r : Reading) : Type 0 where
   pub no-fill : r .fill ≡ 0
   pub no-apc : r .apc ≡ Absent
 
-walked-silent : (p : List ℕ) (size from : ℕ) (w : AreaWalk) → (walked p size from w .verdict ≡ Read) ⊎ Silent (walked p size from w)
-walked-silent p size from (plain items fill) = inl refl
-walked-silent p size from (piece f) = inr (record { no-list = refl; no-count = refl; no-fill = refl; no-apc = refl })
-walked-silent p size from (fault f) = inr (record { no-list = refl; no-count = refl; no-fill = refl; no-apc = refl })
-
-started-silent : (p : List ℕ) (size : ℕ) (start : Start) → (started p size start .verdict ≡ Read) ⊎ Silent (started p size start)
-started-silent p size Empty = inr (record { no-list = refl; no-count = refl; no-fill = refl; no-apc = refl })
-started-silent p size Short = inr (record { no-list = refl; no-count = refl; no-fill = refl; no-apc = refl })
-started-silent p size Pad = inr (record { no-list = refl; no-count = refl; no-fill = refl; no-apc = refl })
-started-silent p size Unsummed = inr (record { no-list = refl; no-count = refl; no-fill = refl; no-apc = refl })
-started-silent p size BadSum = inr (record { no-list = refl; no-count = refl; no-fill = refl; no-apc = refl })
-started-silent p size (ListAt at) = walked-silent p size (size + at) (areaOf (noData size) (size + at) (drop (size + at) p))
-
 pub options-only-with-read : (p s d : List ℕ) (r : Reading) → reading p s d ≡ reads r → (r .verdict ≡ Read) ⊎ Silent r
-unfolding accepted
 options-only-with-read p s d r e =
-    subst (λ (x : Reading). (x .verdict ≡ Read) ⊎ Silent x) (met-none p s d r e .1)
-    (started-silent p (udpLength p) (startOf (isOdd (udpLength p)) (eqb (udpChecksum p) 0) (drop (udpLength p) p)))
+    reading-by (λ x. (x .verdict ≡ Read) ⊎ Silent x) p s d r e
+    (λ end verdict o. inr (record { no-list = refl; no-count = refl; no-fill = refl; no-apc = refl }))
+    (λ from items fill h w. inl refl)
+    (λ from f h a. inr (record { no-list = refl; no-count = refl; no-fill = refl; no-apc = refl }))
 
 -- ---- user data survives
-
--- L is at least a header and within the payload
-pub in-range : (p s d : List ℕ) → firstOf (refusalTests p s d) ≡ none → (udpHeader ≤ udpLength p) × (udpLength p ≤ length p)
-in-range p s d e =
-    let size = udpLength p in
-    let rest = first-none _ _ (first-none _ _ e .1) .1 in
-    let third = both-false (ltb size udpHeader) (ltb (length p) size) (first-none _ _ rest .0) in
-    (ltb-false size udpHeader (third .0), ltb-false (length p) size (third .1))
 
 pub record Survives (p q s d : List ℕ) (r : Reading) : Type 0 where
   pub other : Reading

@@ -1,4 +1,5 @@
 pub mod Apcs
+pub mod Cases
 pub mod Claims
 pub mod Lists
 pub mod Pieces

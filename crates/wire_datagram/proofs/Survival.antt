@@ -1,28 +1,24 @@
 -- Demand 2's "user data survives", of every payload that 1 to 3 let pass and whose UDP checksum is zero or right: it is read, with the user data
 -- 8 to L, whatever the area holds and however long it is. Only a list whose datagram has no user data can be a piece's.
 -- Assumes nothing.
-use mathlib.Core.Path.{_≡_, refl, ap, _∙_}
+use mathlib.Core.Path.{_≡_, refl, subst}
 use mathlib.Core.Bool.{Bool, true, false}
 use mathlib.Core.List.{List}
 use mathlib.Core.Logic.{_⊎_}
-use Prim.Native.Nat.{ℕ, _+_, _<_}
+use Prim.Native.Nat.{ℕ, _<_}
 use native.Mathlib.Omega.{arith}
 use borrow.Author.Tests.{eqb-true}
-use lib.Dec.{eqb}
 use lib.ListN.{drop}
 use Rattle.number_offsets.specs.Offsets.{udpHeader}
 use Rattle.number_checksum.specs.Checksum.{allOnes}
-use Rattle.wire_area.specs.Area.{AreaWalk, plain, piece, fault, areaOf}
+use Rattle.wire_area.specs.Area.{piece, areaOf}
 use Rattle.wire_area.specs.declared.Fragment.{Fragment}
 use Rattle.wire_area.proofs.Areas.{data-not-piece}
-use Rattle.wire_surplus.specs.Surplus.{startOf}
-use Rattle.wire_datagram.specs.Reading.{noData, udpLength, udpChecksum, extent, walked, started, isOdd, accepted, reads, reading}
-use Rattle.wire_surplus.specs.declared.Start.{Start}
-use Rattle.wire_surplus.specs.declared.Start.the-variants.{Empty, Short, Pad, Unsummed, BadSum, List as ListAt}
+use Rattle.wire_datagram.specs.Reading.{noData, udpLength, udpChecksum, extent, accepted, reads, reading}
 use Rattle.wire_datagram.specs.declared.reading.Verdict.the-variants.{Piece}
 use Rattle.wire_datagram.specs.declared.reading.Reading.{Reading}
-use Rattle.wire_datagram.proofs.Claims.{met-none, accepted-user}
-use Rattle.wire_datagram.proofs.Pieces.{fault-not}
+use Rattle.wire_datagram.proofs.Cases.{Other}
+use Rattle.wire_datagram.proofs.Claims.{accepted-user, reading-by}
 use Rattle.wire_datagram.proofs.Refusals.{Sized, sumOf, reading-accepted}
 
 -- ---- a piece has no user data
@@ -35,29 +31,13 @@ piece-empty size from l f = go (noData size) refl
     go true e q = eqb-true size udpHeader e
     go false e q = absurd (data-not-piece from l f q)
 
-module _ (p : List ℕ) (size : ℕ) (f : Fragment) where
-  walked-empty : (from : ℕ) (w : AreaWalk) → areaOf (noData size) from (drop from p) ≡ w → walked p size from w .verdict ≡ Piece f
-      → size ≡ udpHeader
-  walked-empty from (plain items fill) e v = absurd (let z : _≡_ {A = ℕ} 0 1 = cc in omega arith)
-  walked-empty from (piece g) e v = piece-empty size from (drop from p) g e
-  walked-empty from (fault x) e v = absurd (fault-not x f v)
-
-  started-empty : (start : Start) → started p size start .verdict ≡ Piece f → size ≡ udpHeader
-  started-empty Empty v = absurd (let z : _≡_ {A = ℕ} 0 1 = cc in omega arith)
-  started-empty Short v = absurd (let z : _≡_ {A = ℕ} 0 1 = cc in omega arith)
-  started-empty Pad v = absurd (let z : _≡_ {A = ℕ} 0 1 = cc in omega arith)
-  started-empty Unsummed v = absurd (let z : _≡_ {A = ℕ} 0 1 = cc in omega arith)
-  started-empty BadSum v = absurd (let z : _≡_ {A = ℕ} 0 1 = cc in omega arith)
-  started-empty (ListAt at) v = walked-empty (size + at) (areaOf (noData size) (size + at) (drop (size + at) p)) refl v
-
-accepted-empty : (p : List ℕ) (f : Fragment) → accepted p .verdict ≡ Piece f → udpLength p ≡ udpHeader
-unfolding accepted
-accepted-empty p f = started-empty p (udpLength p) f (startOf (isOdd (udpLength p)) (eqb (udpChecksum p) 0) (drop (udpLength p) p))
-
 -- a payload that is read as a piece has no user data: its L is 8
 pub piece-has-none : (p s d : List ℕ) (r : Reading) (f : Fragment) → reading p s d ≡ reads r → r .verdict ≡ Piece f → udpLength p ≡ udpHeader
-piece-has-none p s d r f e v =
-    accepted-empty p f (ap (λ (x : Reading). x .verdict) (met-none p s d r e .1) ∙ v)
+piece-has-none p s d r f e =
+    reading-by (λ x. x .verdict ≡ Piece f → udpLength p ≡ udpHeader) p s d r e
+    (λ end verdict o v. absurd (subst Other v o))
+    (λ from items fill h w v. absurd (let z : _≡_ {A = ℕ} 0 1 = cc in omega arith))
+    (λ from g h a v. piece-empty (udpLength p) from (drop from p) g a)
 
 -- ---- the claim
 
@@ -71,10 +51,12 @@ pub record Kept (p s d : List ℕ) : Type 0 where
 
 -- `Sized`: 1 to 3 let the payload pass; `sumOf` is the sum that 4 looks at.
 pub user-data-kept : (p s d : List ℕ) → Sized p → (udpChecksum p ≡ 0) ⊎ (sumOf p s d ≡ allOnes) → Kept p s d
-user-data-kept p s d sized sum = record {
-  back = accepted p;
-  is-read = reading-accepted p s d sized sum;
-  user = accepted-user p;
-  no-piece = λ more f v. let none : udpLength p ≡ udpHeader = accepted-empty p f v in omega arith;
-  piece-alone = accepted-empty p;
-}
+user-data-kept p s d sized sum =
+    let is = reading-accepted p s d sized sum in
+    record {
+      back = accepted p;
+      is-read = is;
+      user = accepted-user p;
+      no-piece = λ more f v. let none : udpLength p ≡ udpHeader = piece-has-none p s d (accepted p) f is v in omega arith;
+      piece-alone = λ f v. piece-has-none p s d (accepted p) f is v;
+    }
