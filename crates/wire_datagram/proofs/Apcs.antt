@@ -73,9 +73,9 @@ by-values user v (Same w) = go (eqb v w)
     go true = refl
     go false = refl
 
-pub apc-told : (user : List ℕ) (items : List Item) → apcBy user (apcsOf items) ≡ apcOf user (apcValues items)
+pub apc-by-answer : (user : List ℕ) (items : List Item) → apcBy user (apcsOf items) ≡ apcOf user (apcValues items)
 unfolding joinedValues
-apc-told user items = ap (apcBy user) (values-joined items) ∙ go (apcValues items)
+apc-by-answer user items = ap (apcBy user) (values-joined items) ∙ go (apcValues items)
   where
     go : (vs : List ℕ) → apcBy user (joinedValues vs) ≡ apcOf user vs
     go [] = refl

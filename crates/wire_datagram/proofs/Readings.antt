@@ -10,16 +10,16 @@ use Rattle.wire_area.specs.Area.{AreaWalk, plain, piece, fault, areaAnswer}
 use Rattle.wire_datagram.specs.Reading.{extent, walked}
 use Rattle.wire_datagram.specs.ByWalk.{readingBy}
 use Rattle.wire_datagram.specs.declared.reading.Verdict.the-variants.{Read}
-use Rattle.wire_datagram.proofs.Apcs.{apc-told}
+use Rattle.wire_datagram.proofs.Apcs.{apc-by-answer}
 
-pub reading-told : (payload : List ℕ) (size from : ℕ) (w : AreaWalk) → readingBy payload size from (areaAnswer w) ≡ walked payload size from w
-reading-told payload size from (plain items fill) = λ i. record {
+pub reading-by-answer : (payload : List ℕ) (size from : ℕ) (w : AreaWalk) → readingBy payload size from (areaAnswer w) ≡ walked payload size from w
+reading-by-answer payload size from (plain items fill) = λ i. record {
   user = extent udpHeader size;
   verdict = Read;
   options = extent from (length payload);
   count = length items;
   fill = fill;
-  apc = (apc-told (part udpHeader (size - udpHeader) payload) items) i;
+  apc = (apc-by-answer (part udpHeader (size - udpHeader) payload) items) i;
 }
-reading-told payload size from (piece f) = refl
-reading-told payload size from (fault f) = refl
+reading-by-answer payload size from (piece f) = refl
+reading-by-answer payload size from (fault f) = refl

@@ -8,15 +8,15 @@ use Rattle.wire_options.specs.Walk.{Walked, listed, faulty, walkAnswer}
 use Rattle.wire_original.specs.Rereading.{places, rereads, rewalked}
 use Rattle.wire_original.specs.ByWalk.{rewalkedBy}
 use Rattle.wire_datagram.specs.declared.reading.Verdict.the-variants.{Read}
-use Rattle.wire_datagram.proofs.Apcs.{apc-told}
+use Rattle.wire_datagram.proofs.Apcs.{apc-by-answer}
 
-pub rereading-told : (original : List ℕ) (r from : ℕ) (w : Walked) → rewalkedBy original r from (walkAnswer w) ≡ rewalked original r from w
-rereading-told original r from (listed items fill) = λ i. rereads (record {
+pub rereading-by-answer : (original : List ℕ) (r from : ℕ) (w : Walked) → rewalkedBy original r from (walkAnswer w) ≡ rewalked original r from w
+rereading-by-answer original r from (listed items fill) = λ i. rereads (record {
   user = places 0 r;
   verdict = Read;
   options = places from (length original);
   count = length items;
   fill = fill;
-  apc = (apc-told (take r original) items) i;
+  apc = (apc-by-answer (take r original) items) i;
 })
-rereading-told original r from (faulty f) = refl
+rereading-by-answer original r from (faulty f) = refl

@@ -11,7 +11,7 @@ use Rattle.wire_options.specs.declared.walk.Walk.the-variants.{Listed as WalkLi
 use Rattle.wire_original.specs.Rereading.{places, rereads}
 use Rattle.wire_original.specs.ByWalk.{rewalkedBy}
 use Rattle.wire_datagram.specs.declared.reading.Verdict.the-variants.{Read}
-use Rattle.wire_original.proofs.Rereadings.{rereading-told}
+use Rattle.wire_original.proofs.Rereadings.{rereading-by-answer}
 use borrow.Author.Needs.{needs}
 use Rattle.wire_original.proofs.relisted.Statement.{statement}
 use Rattle.wire_original.proofs.relisted.Tie as tie
@@ -67,7 +67,7 @@ returns c =
       apc = (c .apc-of .ensures) i;
     })) refl
     ∙ ap (rewalkedBy (a .original .now) (a .r .0) (a .from .0)) (sym (walk place ∙ list .1))
-    ∙ rereading-told (a .original .now) (a .r .0) (a .from .0) (walkFrom optionLimit 0 (drop (a .from .0) (a .original .now)))
+    ∙ rereading-by-answer (a .original .now) (a .r .0) (a .from .0) (walkFrom optionLimit 0 (drop (a .from .0) (a .original .now)))
 
 returns-2 : tie.Need-returns-2
 returns-2 c =
@@ -75,7 +75,7 @@ returns-2 c =
     let place = c .before .before .before .before in
     c .faulty .ensures
     ∙ ap (rewalkedBy (a .original .now) (a .r .0) (a .from .0)) (sym (walk place ∙ c .before .before .list2 .given .1))
-    ∙ rereading-told (a .original .now) (a .r .0) (a .from .0) (walkFrom optionLimit 0 (drop (a .from .0) (a .original .now)))
+    ∙ rereading-by-answer (a .original .now) (a .r .0) (a .from .0) (walkFrom optionLimit 0 (drop (a .from .0) (a .original .now)))
 
 pub relisted-spec : {M : Type 1} → statement M
 relisted-spec =

@@ -12,7 +12,7 @@ use Rattle.wire_area.specs.Area.{areaOf, areaAnswer}
 use Rattle.wire_area.specs.declared.Area.the-variants.{Listed}
 use Rattle.wire_datagram.specs.ByWalk.{readingBy}
 use Rattle.wire_datagram.specs.declared.reading.Verdict.the-variants.{Read}
-use Rattle.wire_datagram.proofs.Readings.{reading-told}
+use Rattle.wire_datagram.proofs.Readings.{reading-by-answer}
 use borrow.Author.Needs.{needs}
 use Rattle.wire_datagram.proofs.reading.listed.Statement.{statement}
 use Rattle.wire_datagram.proofs.reading.listed.Tie as tie
@@ -87,7 +87,7 @@ returns c =
       apc = (c .apc-of .ensures) i;
     }) (refl)
     ∙ ap (readingBy (a .payload .now) (a .size) (a .from .0)) (sym (area place ∙ list .1))
-    ∙ reading-told (a .payload .now) (a .size) (a .from .0) (areaOf (noData (a .size)) (a .from .0) (drop (a .from .0) (a .payload .now)))
+    ∙ reading-by-answer (a .payload .now) (a .size) (a .from .0) (areaOf (noData (a .size)) (a .from .0) (drop (a .from .0) (a .payload .now)))
 
 returns-2 : tie.Need-returns-2
 unfolding udpHeader
@@ -96,7 +96,7 @@ returns-2 c =
     let place = c .before .before .before .before in
     c .optionless .ensures
     ∙ ap (readingBy (a .payload .now) (a .size) (a .from .0)) (sym (area place ∙ c .before .before .list2 .given .1))
-    ∙ reading-told (a .payload .now) (a .size) (a .from .0) (areaOf (noData (a .size)) (a .from .0) (drop (a .from .0) (a .payload .now)))
+    ∙ reading-by-answer (a .payload .now) (a .size) (a .from .0) (areaOf (noData (a .size)) (a .from .0) (drop (a .from .0) (a .payload .now)))
 
 returns-3 : tie.Need-returns-3
 unfolding udpHeader
@@ -105,7 +105,7 @@ returns-3 c =
     let place = c .before .before .before .before .before in
     c .optionless2 .ensures ∙ ap (optionless (a .size)) (c .before .verdict-of .ensures)
     ∙ ap (readingBy (a .payload .now) (a .size) (a .from .0)) (sym (area place ∙ c .before .before .before .list3 .given .1))
-    ∙ reading-told (a .payload .now) (a .size) (a .from .0) (areaOf (noData (a .size)) (a .from .0) (drop (a .from .0) (a .payload .now)))
+    ∙ reading-by-answer (a .payload .now) (a .size) (a .from .0) (areaOf (noData (a .size)) (a .from .0) (drop (a .from .0) (a .payload .now)))
 
 pub listed-spec : {M : Type 1} → statement M
 listed-spec =
