@@ -14,7 +14,34 @@ use Rattle.number_octets.proofs.Laws.{number-lt, number-octets, octets-number, 
 use Rattle.number_varint.specs.SevenBit.{encoded}
 use Rattle.wire_options.specs.Walk.{Item, optionLimit}
 use Rattle.list_encoding.specs.Shape.{Shape, fields, raw, barred, shapeOf}
-use Rattle.list_encoding.specs.Encoding.{given, longestBody, encodedFields, encodedBody, encodedOption, encodedOptions, encodedList, Read, got, andThen, readAs, readNumber, readFields, readBytes, readBody, itemOf, readKind, readOption, readOptions, toTheEnd, decodedList, total, Shaped, ValidOption, Each, Valid}
+use Rattle.list_encoding.specs.Encoding.{
+  given,
+  longestBody,
+  encodedFields,
+  encodedBody,
+  encodedOption,
+  encodedOptions,
+  encodedList,
+  Read,
+  got,
+  andThen,
+  readAs,
+  readNumber,
+  readFields,
+  readBytes,
+  readBody,
+  itemOf,
+  readKind,
+  readOption,
+  readOptions,
+  toTheEnd,
+  decodedList,
+  total,
+  Shaped,
+  ValidOption,
+  Each,
+  Valid,
+}
 use Rattle.list_encoding.proofs.Shapes.{Narrow, NarrowShape, ByteKind, shape-narrow, shape-byte}
 use Rattle.list_encoding.proofs.Parts.{then-got, as-got, bytes-got, end-got}
 use Rattle.list_encoding.proofs.Numbers.{bytes-drop, number-back, NumberRead, number-read, number-bytes, number-whole}

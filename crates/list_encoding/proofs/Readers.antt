@@ -11,7 +11,21 @@ use Rattle.number_octets.proofs.Laws.{length-octets}
 use Rattle.number_varint.proofs.Laws as varint
 use Rattle.wire_options.specs.Walk.{Item}
 use Rattle.list_encoding.specs.Shape.{Shape, fields, raw, barred, shapeOf}
-use Rattle.list_encoding.specs.Encoding.{longestBody, got, andThen, readAs, readNumber, readFields, readBytes, readBody, itemOf, readKind, readOption, total, Shaped}
+use Rattle.list_encoding.specs.Encoding.{
+  longestBody,
+  got,
+  andThen,
+  readAs,
+  readNumber,
+  readFields,
+  readBytes,
+  readBody,
+  itemOf,
+  readKind,
+  readOption,
+  total,
+  Shaped,
+}
 use Rattle.list_encoding.proofs.Parts.{then-got, as-got, bytes-got}
 use Rattle.list_encoding.proofs.Numbers.{NumberRead, number-read}
 use Rattle.list_encoding.proofs.Places.{place-of}

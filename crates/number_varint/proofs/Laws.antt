@@ -8,7 +8,20 @@ use lib.ListN.{length, take, drop, getD, length-drop}
 use lib.Seq.{length-take-le, drop-at}
 use Rattle.number_varint.specs.SevenBit.{Taken, taken, untaken, front, number, encoded}
 use Rattle.number_varint.specs.Answer.{found, decodedAs, decodedAt, endOf, placed}
-use Rattle.number_varint.proofs.Groups.{narrowed-only, number-reads, reads-number, reads-width, reads-alone, encodes, encodes-same, encodes-read, reads-encodes, groups-some, groups-short, groups-bytes}
+use Rattle.number_varint.proofs.Groups.{
+  narrowed-only,
+  number-reads,
+  reads-number,
+  reads-width,
+  reads-alone,
+  encodes,
+  encodes-same,
+  encodes-read,
+  reads-encodes,
+  groups-some,
+  groups-short,
+  groups-bytes,
+}
 
 -- ---- of `number` and `encoded`
 

@@ -11,12 +11,24 @@ use lib.ListN.{drop}
 use Rattle.number_tests.specs.Tests.{firstOf}
 use Rattle.number_offsets.specs.Offsets.{udpHeader}
 use Rattle.wire_options.specs.Walk.{Walked, listed, faulty, walkFrom, optionLimit}
-use Rattle.wire_options.specs.declared.walk.Fault.the-variants.{Malformed as malformedList, Unsafe as unsafeList, FragData as fragData, Crowded as crowdedList}
+use Rattle.wire_options.specs.declared.walk.Fault.the-variants.{
+  Malformed as malformedList,
+  Unsafe as unsafeList,
+  FragData as fragData,
+  Crowded as crowdedList,
+}
 use Rattle.wire_surplus.specs.Surplus.{startOf}
 use Rattle.wire_datagram.specs.Reading.{isOdd}
 use Rattle.wire_original.specs.Rereading.{places, ReAnswer, refused, rereads, originalOptionless, rewalked, restarted, reTests, reAnswered, rereading}
 use Rattle.wire_surplus.specs.declared.Start.{Start}
-use Rattle.wire_surplus.specs.declared.Start.the-variants.{Empty, Short as shortArea, Pad as badPad, Unsummed as noSum, BadSum as badSum, List as ListAt}
+use Rattle.wire_surplus.specs.declared.Start.the-variants.{
+  Empty,
+  Short as shortArea,
+  Pad as badPad,
+  Unsummed as noSum,
+  BadSum as badSum,
+  List as ListAt,
+}
 use Rattle.wire_datagram.specs.declared.reading.Apc.the-variants.{Absent}
 use Rattle.wire_datagram.specs.declared.reading.Verdict.{Verdict}
 use Rattle.wire_datagram.specs.declared.reading.Verdict.the-variants.{Bare, Short, Pad, Unsummed, BadSum, Malformed, FragData, Crowded, Read}
