@@ -1,4 +1,4 @@
--- `vectors::expected::run` is safe: each check holds by computing what the function ensures.
+-- `program_vectors::expected::run` is safe: each check holds by computing what the function ensures.
 -- Assumes nothing.
 use borrow.Author.Tests.{eq-eqb}
 use Rattle.number_checksum.specs.Checksum.{wordSum, folded, sent}

@@ -1,4 +1,4 @@
--- `wire_options::walk::turn_at` meets its contract: the arm of the match is the step at the front, at which `turnIn` computes.
+-- `wire_options::walk::progress_at` meets its contract: the arm of the match is the step at the front, at which `progressIn` computes.
 -- Assumes nothing.
 use mathlib.Core.Path.{_≡_, refl, sym, ap, _∙_}
 use mathlib.Core.List.{List}
