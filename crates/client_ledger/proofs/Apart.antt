@@ -12,7 +12,20 @@ use Rattle.client_record.specs.Lists.{all, any, pairs}
 use Rattle.client_record.proofs.Lists.{pairs-append, all-not}
 use Rattle.client_reassembly.specs.Answer as Answer
 use Rattle.client_ledger.specs.Book.{Key, Content, Entry, Book, Result, empty, size, endOf, of, mine, keep, others}
-use Rattle.client_ledger.specs.Book.{outdated, advance, contradicts, lastOne, rejecting, repeating, conflicting, storing, delivering, leaving, with, finished}
+use Rattle.client_ledger.specs.Book.{
+  outdated,
+  advance,
+  contradicts,
+  lastOne,
+  rejecting,
+  repeating,
+  conflicting,
+  storing,
+  delivering,
+  leaving,
+  with,
+  finished,
+}
 use Rattle.client_ledger.specs.Book.{taking, noRoom, isRepeat, isConflict, isFull, fate, Call, fragment, clock, bill, entry, offerTests}
 use Rattle.client_ledger.specs.Book.{clockTests, refuseOr, call, Offer}
 use Rattle.client_ledger.specs.Book as Book

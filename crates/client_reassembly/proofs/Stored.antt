@@ -15,7 +15,28 @@ use Rattle.client_record.specs.declared.Flow.{Flow}
 use Rattle.client_record.specs.declared.Assembly.{Assembly}
 use Rattle.client_record.specs.Limits.{datagramLimit, fragmentLimit, lifetime}
 use Rattle.client_record.specs.Lists.{sameBytes, all, pairs, sum}
-use Rattle.client_record.specs.Record.{freshFragment, freshAssembly, isLast, end, nonEmpty, fits, startsOptionsInside, soundFragment, isFreshFragment, compatible, lastOf, whole, live, heldFragments, spareSlots, bytesHeld, sameFlow, hasKey, openedWithin, sameLiveKey}
+use Rattle.client_record.specs.Record.{
+  freshFragment,
+  freshAssembly,
+  isLast,
+  end,
+  nonEmpty,
+  fits,
+  startsOptionsInside,
+  soundFragment,
+  isFreshFragment,
+  compatible,
+  lastOf,
+  whole,
+  live,
+  heldFragments,
+  spareSlots,
+  bytesHeld,
+  sameFlow,
+  hasKey,
+  openedWithin,
+  sameLiveKey,
+}
 use Rattle.client_record.proofs.Lists.{all-append, all-left, sum-append}
 use Rattle.client_record.proofs.Held.{marks-last}
 use Rattle.client_reassembly.specs.declared.Arrival.{Arrival}

@@ -123,7 +123,8 @@ module _ (fs : List Fragment) (h : compatible fs ≡ true) where
   pub by-sum : BySum fs
   unfolding whole
   by-sum = record {
-    known-end = λ e. ap (λ (x : Bool). x && coveredTo (end (lastOf fs)) fs) (last-marked fs ∙ e) ∙ decides e (coveredTo (end (lastOf fs)) fs) refl;
+    known-end = λ e. ap (λ (x : Bool). x && coveredTo (end (lastOf fs)) fs) (last-marked fs ∙ e)
+        ∙ decides e (coveredTo (end (lastOf fs)) fs) refl;
     no-last = λ e. ap (λ (x : Bool). x && coveredTo (end (lastOf fs)) fs) (last-marked fs ∙ e);
   }
     where

@@ -23,7 +23,19 @@ use Rattle.wire_surplus.specs.declared.Start.the-variants as Begun
 use Rattle.wire_datagram.specs.declared.reading.Apc.{Apc}
 use Rattle.wire_datagram.specs.declared.reading.Apc.the-variants.{Absent, Right, Wrong}
 use Rattle.wire_datagram.specs.declared.reading.Verdict.{Verdict}
-use Rattle.wire_datagram.specs.declared.reading.Verdict.the-variants.{Bare, Short, Pad, Unsummed, BadSum, Malformed, Unsafe, FragData, Crowded, Read as Listed, Piece}
+use Rattle.wire_datagram.specs.declared.reading.Verdict.the-variants.{
+  Bare,
+  Short,
+  Pad,
+  Unsummed,
+  BadSum,
+  Malformed,
+  Unsafe,
+  FragData,
+  Crowded,
+  Read as Listed,
+  Piece,
+}
 use Rattle.wire_datagram.specs.declared.reading.Refusal.the-variants.{PayloadTooShort, PayloadTooLong, LengthOutOfRange, ChecksumWrong}
 use Rattle.wire_datagram.specs.declared.reading.Reading.{Reading as Whole}
 use Rattle.wire_datagram.specs.declared.reading.Outcome.{Outcome}

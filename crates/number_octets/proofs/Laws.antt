@@ -3,14 +3,42 @@
 use mathlib.Core.Path.{_≡_, refl, sym, ap, ap₂, _∙_, subst}
 use mathlib.Core.List.{List, [], _∷_, _++_, append-assoc}
 use Prim.Native.Nat.{ℕ, zero, suc, _+_, _-_, _*_, _/_, _%_, _^_, _<_, _≤_}
-use native.Mathlib.Nat.{zero-add, suc-add, mul-comm, mul-assoc, add-mul, pow-suc, mod-lt, mod-one, mod-mod, mod-eq-of-lt, div-div-eq-div-mul, mul-add-mod-self-right}
+use native.Mathlib.Nat.{
+  zero-add,
+  suc-add,
+  mul-comm,
+  mul-assoc,
+  add-mul,
+  pow-suc,
+  mod-lt,
+  mod-one,
+  mod-mod,
+  mod-eq-of-lt,
+  div-div-eq-div-mul,
+  mul-add-mod-self-right,
+}
 use native.Mathlib.Numerals.{add-one}
 use native.Mathlib.Omega.{arith}
 use lib.Arith.{digits-lt, digits-div, digits-mod, mod-mul}
 use lib.Dec.{lit<}
 use lib.ListN.{length, take, drop, getD, set, length-append, length-take, length-drop, take-append-drop}
 use lib.Pow.{pow-add}
-use lib.Seq.{drop-cons, take-add, take-all, drop-drop, take-append-seam, drop-append-seam, take-append-le, drop-append-le, getD-drop, take-at, drop-at, length-take-le, sets, sets-eq}
+use lib.Seq.{
+  drop-cons,
+  take-add,
+  take-all,
+  drop-drop,
+  take-append-seam,
+  drop-append-seam,
+  take-append-le,
+  drop-append-le,
+  getD-drop,
+  take-at,
+  drop-at,
+  length-take-le,
+  sets,
+  sets-eq,
+}
 use Rattle.number_octets.specs.Octets.{Octets, number, octets, part, overlay}
 
 -- 256 ^ k is positive

@@ -19,7 +19,21 @@ use Rattle.wire_options.specs.Walk.{Item, listed, walkFrom, optionLimit}
 use Rattle.wire_area.specs.Area.{AreaWalk, plain, piece, fault, areaOf}
 use Rattle.wire_area.specs.declared.Fragment.{Fragment}
 use Rattle.wire_surplus.specs.Surplus.{startOf}
-use Rattle.wire_datagram.specs.Reading.{noData, udpLength, udpChecksum, refusalTests, extent, optionless, walked, started, isOdd, accepted, reads, answered, reading}
+use Rattle.wire_datagram.specs.Reading.{
+  noData,
+  udpLength,
+  udpChecksum,
+  refusalTests,
+  extent,
+  optionless,
+  walked,
+  started,
+  isOdd,
+  accepted,
+  reads,
+  answered,
+  reading,
+}
 use Rattle.wire_surplus.specs.declared.Start.{Start}
 use Rattle.wire_surplus.specs.declared.Start.the-variants.{Empty, Short, Pad, Unsummed, BadSum, List as ListAt}
 use Rattle.wire_datagram.specs.declared.reading.Apc.the-variants.{Absent}

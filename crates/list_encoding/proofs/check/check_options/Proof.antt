@@ -7,7 +7,18 @@ use borrow.Author.Needs.{needs}
 use lib.ListN.{drop}
 use Rattle.list_encoding.specs.Encoding.{given}
 use Rattle.list_encoding.specs.Wire.{measuredAnswer}
-use Rattle.list_encoding.proofs.Checks.{SizedOption, sized-there, refused-there, checked, passed, passed-none, check-left, check-end, turn-on, turn-refused}
+use Rattle.list_encoding.proofs.Checks.{
+  SizedOption,
+  sized-there,
+  refused-there,
+  checked,
+  passed,
+  passed-none,
+  check-left,
+  check-end,
+  turn-on,
+  turn-refused,
+}
 use Rattle.list_encoding.proofs.check.check_options.Statement.{statement}
 use Rattle.list_encoding.proofs.check.check_options.Tie as tie
 
