@@ -1,4 +1,5 @@
 pub mod Completion
+pub mod Examples
 pub mod Held
 pub mod Lists
 pub mod Ranges
