@@ -1,4 +1,5 @@
-//! Published vectors, and both sums against the simplest spelling of them.
+//! Published vectors, and the sum and the CRC against the simplest spelling of
+//! them.
 
 use reference::checksum::{area_sum, fold, sent, sum, udp_sum};
 use reference::crc::crc32c;
@@ -49,25 +50,121 @@ fn slow_sum(bytes: &[u8]) -> u16 {
     total as u16
 }
 
+/// Every short length, those about the blocks, and long ones about 2^16 and
+/// 2^17, where carries of carries come.
+fn lengths() -> impl Iterator<Item = usize> {
+    (0..=300)
+        .chain([1_000, 1_001, 65_515])
+        .chain(65_535..=65_540)
+        .chain(131_071..=131_073)
+}
+
+/// Bytes of no pattern, and bytes that carry the most and the least.
+fn fillings(random: &mut Random, length: usize) -> [Vec<u8>; 4] {
+    let mut least = vec![0; length];
+    if let Some(last) = least.last_mut() {
+        *last = 1;
+    }
+    [
+        random.bytes(length),
+        vec![0xFF; length],
+        vec![0; length],
+        least,
+    ]
+}
+
 #[test]
-fn against_slow_sums() {
+fn sums_against_slow_ones() {
     let mut random = Random::new(1);
+    for length in lengths() {
+        for bytes in fillings(&mut random, length + 1) {
+            // The bytes themselves start at an even and at an odd address.
+            for bytes in [&bytes[..length], &bytes[1..]] {
+                let odd = [&[0], bytes].concat();
+                for running in [0, 1, 0x00FF, 0xFF00, 0xABCD, 0xFFFE, 0xFFFFu16] {
+                    let with = |rest: &[u8]| slow_sum(&[&running.to_be_bytes()[..], rest].concat());
+                    let running = u64::from(running);
+                    assert_eq!(sum(running, bytes, false), with(bytes), "{length}");
+                    assert_eq!(sum(running, bytes, true), with(&odd), "{length}, odd");
+                }
+            }
+        }
+    }
+}
+
+/// What brings a sum to FFFF, at either parity of start and at each place.
+#[test]
+fn sums_to_all_ones() {
+    let mut random = Random::new(2);
+    for length in (4..=80).chain([128, 192, 1_472, 65_514]) {
+        let mut bytes = random.bytes(length);
+        for odd_start in [false, true] {
+            for at in [0, length / 3, length / 2, length - 2] {
+                bytes[at..at + 2].fill(0);
+                let rest = sum(0, &bytes, odd_start);
+                let word = !rest;
+                let high_first = (at % 2 == 1) == odd_start;
+                let word = if high_first { word } else { word.swap_bytes() };
+                bytes[at..at + 2].copy_from_slice(&word.to_be_bytes());
+                assert_eq!(sum(0, &bytes, odd_start), 0xFFFF, "{length} {at}");
+            }
+        }
+    }
+}
+
+#[test]
+fn sums_with_their_lengths() {
+    let mut random = Random::new(3);
     for length in (0..200).chain([1_000, 1_001, 65_515]) {
         let bytes = random.bytes(length);
-        assert_eq!(crc32c(&bytes), slow_crc(&bytes), "{length}");
-        assert_eq!(sum(&bytes), slow_sum(&bytes), "{length}");
         let even = [&(length as u16).to_be_bytes(), &bytes[..]].concat();
         let odd = [&(length as u16).to_be_bytes(), &[0][..], &bytes].concat();
         assert_eq!(area_sum(&bytes, false), slow_sum(&even), "{length}");
         assert_eq!(area_sum(&bytes, true), slow_sum(&odd), "{length}");
-        let (a, b) = (random.four(), random.four());
-        let pseudo = [&a[..], &b, &[0, 17], &(length as u16).to_be_bytes(), &bytes].concat();
-        assert_eq!(udp_sum(a, b, &bytes), slow_sum(&pseudo), "{length}");
-        for byte in [0, 0xFF] {
-            let same = vec![byte; length];
-            assert_eq!(sum(&same), slow_sum(&same), "{length}");
+        for (a, b) in [(random.four(), random.four()), ([0xFF; 4], [0xFF; 4])] {
+            let pseudo = [&a[..], &b, &[0, 17], &(length as u16).to_be_bytes(), &bytes].concat();
+            assert_eq!(udp_sum(a, b, &bytes), slow_sum(&pseudo), "{length}");
         }
     }
-    assert_eq!((fold(0), fold(0xFFFF), fold(0x1_FFFE)), (0, 0xFFFF, 0xFFFF));
     assert_eq!((sent(0), sent(0xFFFF), sent(1)), (0xFFFF, 0xFFFF, 0xFFFE));
+}
+
+#[test]
+fn folds() {
+    let mut random = Random::new(4);
+    let edges = [
+        0,
+        1,
+        0xFFFE,
+        0xFFFF,
+        0x1_0000,
+        0x1_FFFE,
+        0xFFFF_FFFF,
+        0x1_0000_0000,
+        u64::MAX,
+    ];
+    for number in edges.into_iter().chain((0..1_000).map(|_| {
+        let (a, b) = (random.four(), random.four());
+        u64::from(u32::from_be_bytes(a)) << 32 | u64::from(u32::from_be_bytes(b))
+    })) {
+        let remainder = (number % 0xFFFF) as u16;
+        let folded = if number > 0 && remainder == 0 {
+            0xFFFF
+        } else {
+            remainder
+        };
+        assert_eq!(fold(number), folded, "{number}");
+    }
+}
+
+#[test]
+fn crcs_against_slow_ones() {
+    let mut random = Random::new(5);
+    for length in lengths() {
+        for bytes in fillings(&mut random, length + 1) {
+            for bytes in [&bytes[..length], &bytes[1..]] {
+                assert_eq!(crc32c(bytes), slow_crc(bytes), "{length}");
+            }
+        }
+    }
 }
