@@ -226,6 +226,7 @@ impl Examined {
 
 /// The verdict on the area `user.to` to the end. The original's user data
 /// starts 8 bytes behind its header, so both settings have the same parity.
+#[inline(always)]
 fn examine(bytes: &[u8], user: Range, summed: bool, setting: Setting) -> Examined {
     let area = &bytes[user.to..];
     if area.is_empty() {
@@ -250,12 +251,69 @@ fn examine(bytes: &[u8], user: Range, summed: bool, setting: Setting) -> Examine
 }
 
 /// The walk from `from`, behind the option checksum.
+#[inline(always)]
 fn walk(bytes: &[u8], user: Range, from: usize, setting: Setting) -> Examined {
-    let mut list = bytes;
-    let mut at = from;
-    let mut count = 0;
+    let mut first = from;
+    while bytes.get(first) == Some(&1) {
+        first += 1;
+    }
+    // FRAG must be first, and never stands in an original.
+    if setting == Setting::Packet && bytes.get(first) == Some(&3) {
+        return Examined::only(walk_piece(bytes, user, first));
+    }
+    let list = match walk_list(bytes, first, 0) {
+        Ok(list) => list,
+        Err(verdict) => return Examined::only(verdict),
+    };
+    let apc = match list.crc {
+        None => Apc::None,
+        // Two different fields can't both be right.
+        Some(_) if list.crcs_differ => Apc::Wrong,
+        Some(field) if field == crc32c(&bytes[user.from..user.to]) => Apc::Right,
+        Some(_) => Apc::Wrong,
+    };
+    Examined {
+        verdict: Verdict::Read,
+        from,
+        to: bytes.len(),
+        count: list.count,
+        fill: list.fill,
+        apc,
+    }
+}
+
+/// The verdict on a list that starts with FRAG, at `at`.
+fn walk_piece(bytes: &[u8], user: Range, at: usize) -> Verdict {
+    let Step::Sound { next, .. } = step(bytes, at) else {
+        return Verdict::Malformed;
+    };
+    let Some(found) = frag(bytes, at, next) else {
+        return Verdict::Malformed;
+    };
+    if user.to > user.from {
+        return Verdict::FragData;
+    }
+    // The list ends at Frag. Start.
+    match walk_list(&bytes[..found.from], next, 1) {
+        Ok(_) => Verdict::Piece(found),
+        Err(verdict) => verdict,
+    }
+}
+
+/// What is found out about a list without fault.
+struct List {
+    count: usize,
+    fill: usize,
+    /// The first APC's field.
+    crc: Option<u32>,
+    crcs_differ: bool,
+}
+
+/// Walks the list from `at` on, where `count` options stand before and FRAG
+/// may not come; or the fault met first.
+#[inline(always)]
+fn walk_list(list: &[u8], mut at: usize, mut count: usize) -> Result<List, Verdict> {
     let mut fill = 0;
-    let mut fragment = None;
     let mut crc = None;
     let mut crcs_differ = false;
     loop {
@@ -266,28 +324,11 @@ fn walk(bytes: &[u8], user: Range, from: usize, setting: Setting) -> Examined {
                 break;
             }
             Step::Nop => at += 1,
-            Step::Unsafe => return Examined::only(Verdict::Unsafe),
-            Step::Malformed => return Examined::only(Verdict::Malformed),
-            Step::Sound { kind: 3, next, .. } => {
-                // FRAG must be first, and never stands in an original.
-                if count != 0 || setting == Setting::Original {
-                    return Examined::only(Verdict::Malformed);
-                }
-                let Some(found) = frag(bytes, at, next) else {
-                    return Examined::only(Verdict::Malformed);
-                };
-                if user.to > user.from {
-                    return Examined::only(Verdict::FragData);
-                }
-                // The list ends at Frag. Start.
-                list = &bytes[..found.from];
-                fragment = Some(found);
-                count = 1;
-                at = next;
-            }
+            Step::Unsafe => return Err(Verdict::Unsafe),
+            Step::Malformed | Step::Sound { kind: 3, .. } => return Err(Verdict::Malformed),
             Step::Sound { kind, body, next } => {
                 if count == OPTIONS_MOST {
-                    return Examined::only(Verdict::Crowded);
+                    return Err(Verdict::Crowded);
                 }
                 if kind == 2 {
                     let field = number32(list, body);
@@ -298,24 +339,12 @@ fn walk(bytes: &[u8], user: Range, from: usize, setting: Setting) -> Examined {
             }
         }
     }
-    if let Some(fragment) = fragment {
-        return Examined::only(Verdict::Piece(fragment));
-    }
-    let apc = match crc {
-        None => Apc::None,
-        // Two different fields can't both be right.
-        Some(_) if crcs_differ => Apc::Wrong,
-        Some(field) if field == crc32c(&bytes[user.from..user.to]) => Apc::Right,
-        Some(_) => Apc::Wrong,
-    };
-    Examined {
-        verdict: Verdict::Read,
-        from,
-        to: bytes.len(),
+    Ok(List {
         count,
         fill,
-        apc,
-    }
+        crc,
+        crcs_differ,
+    })
 }
 
 /// FRAG's fields (RFC section 11.4) at `at`, ending at `end`; none where one
@@ -364,17 +393,19 @@ fn step(list: &[u8], at: usize) -> Step {
     let Some(&kind) = list.get(at) else {
         return Step::End;
     };
-    // The one whole length of a fixed kind; 0 where the length byte decides.
-    let own = match kind {
+    match kind {
         0 => return Step::Eol,
         1 => return Step::Nop,
+        192..=255 => return Step::Unsafe,
+        _ => {}
+    }
+    // The one whole length of a fixed kind; 0 where the length byte decides.
+    let own = match kind {
         2 | 6 | 7 => 6,
-        3 => 0,
         4 => 4,
         5 => 5,
         8 => 10,
-        9..=191 => 0,
-        192..=255 => return Step::Unsafe,
+        _ => 0,
     };
     let (header, whole) = match list.get(at + 1) {
         None | Some(0 | 1) => return Step::Malformed,
