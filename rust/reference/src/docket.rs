@@ -75,7 +75,7 @@ impl<'a> Entries<'a> {
 
     /// The next option, or none at a clean end; refusal 7 or 9, whichever is
     /// met first from the front.
-    #[inline]
+    #[inline(always)]
     pub fn next_option(&mut self) -> Result<Option<ReadOption<'a>>, u32> {
         if self.left == 0 {
             // Bytes left over.
@@ -105,7 +105,7 @@ impl<'a> Entries<'a> {
         Ok(Some(ReadOption { kind, fields }))
     }
 
-    #[inline]
+    #[inline(always)]
     fn number(&mut self, most: u32) -> Result<u32, u32> {
         let (value, next) = number(self.docket, self.at, most).ok_or(7u32)?;
         self.at = next;

@@ -39,7 +39,10 @@ pub fn write(
     payload[6..8].fill(0);
     payload[8..udp_length].copy_from_slice(user);
     let sum_at = udp_length + pad;
-    payload[udp_length..sum_at + 2].fill(0);
+    if pad == 1 {
+        payload[udp_length] = 0;
+    }
+    payload[sum_at..sum_at + 2].fill(0);
     let mut at = sum_at + 2;
     let mut entries = first;
     while let Ok(Some(option)) = entries.next_option() {
