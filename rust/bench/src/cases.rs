@@ -1,8 +1,10 @@
 //! What is measured: the same work done by the library and the reference.
 
-use crate::tables;
+use crate::{sums, tables};
 use reference as plain;
+use std::cell::RefCell;
 use std::hint::black_box;
+use std::rc::Rc;
 use wuraketozo::Flow;
 
 /// One side of a case. `prepare` is not timed; `run` does `calls` calls.
@@ -38,26 +40,6 @@ pub const PLAIN_FLOW: plain::Flow = plain::Flow {
     destination_port: FLOW.destination_port,
 };
 
-/// Runs a closure as often as asked; nothing to prepare.
-struct Repeated<F: FnMut()> {
-    times: usize,
-    work: F,
-}
-
-impl<F: FnMut()> Side for Repeated<F> {
-    fn prepare(&mut self) {}
-
-    fn run(&mut self) {
-        for _ in 0..self.times {
-            (self.work)();
-        }
-    }
-}
-
-fn repeated<F: FnMut() + 'static>(times: usize, work: F) -> Box<dyn Side> {
-    Box::new(Repeated { times, work })
-}
-
 /// Bytes of no pattern.
 pub fn bytes(count: usize) -> Vec<u8> {
     let mut state = 1u32;
@@ -68,139 +50,267 @@ pub fn bytes(count: usize) -> Vec<u8> {
     (0..count).map(|_| next()).collect()
 }
 
-/// The list with REQ 300, and with an APC before it; and its wire bytes.
-fn options(apc: bool) -> (Vec<u8>, usize) {
-    if apc {
-        (vec![2, 2, 6, 0xAC, 2], 12)
-    } else {
-        (vec![1, 6, 0xAC, 2], 6)
+/// Calls on a buffer that both sides share, so that they meet the same
+/// addresses. There is nothing to prepare.
+struct Repeated<S, F> {
+    times: usize,
+    shared: Rc<RefCell<S>>,
+    call: F,
+}
+
+impl<S, F: Fn(&mut S)> Side for Repeated<S, F> {
+    fn prepare(&mut self) {}
+
+    fn run(&mut self) {
+        let shared = &mut *self.shared.borrow_mut();
+        for _ in 0..self.times {
+            (self.call)(shared);
+        }
     }
 }
 
-/// How often a call on so many bytes is repeated in one run.
-fn times(size: usize) -> usize {
-    (200_000 / (size + 100)).clamp(4, 1_000)
-}
-
-/// A payload of `size` bytes with REQ, and APC if asked; its user data too.
-fn payload(size: usize, apc: bool) -> (Vec<u8>, Vec<u8>) {
-    let (list, wire) = options(apc);
-    let mut user = bytes(size - 10 - wire);
-    // An odd length takes a pad byte.
-    if user.len() % 2 == 1 {
-        user.pop();
-    }
-    let fill = size - 10 - wire - user.len();
-    let mut payload = vec![0; size];
-    let length = wuraketozo::write(&FLOW, &user, &list, fill as u8, &mut payload);
-    assert_eq!(length, Ok(size));
-    (payload, user)
-}
-
-fn with_apc(apc: bool) -> &'static str {
-    if apc {
-        "with APC"
-    } else {
-        "no APC"
-    }
-}
-
-fn read(size: usize, apc: bool) -> Case {
-    let calls = times(size);
+/// A case of calls on `size` bytes in a shared buffer.
+fn case<S: 'static>(
+    name: String,
+    size: usize,
+    shared: S,
+    library: impl Fn(&mut S) + Copy + 'static,
+    reference: impl Fn(&mut S) + Copy + 'static,
+    alike: impl Fn(&mut S) -> bool + 'static,
+) -> Case {
+    let times = (200_000 / (size + 100)).clamp(4, 1_000);
+    let shared = Rc::new(RefCell::new(shared));
+    let (left, right) = (shared.clone(), shared.clone());
     Case {
-        name: format!("read {size} bytes, {}", with_apc(apc)),
-        calls,
+        name,
+        calls: times,
         library: Box::new(move || {
-            let (payload, _) = payload(size, apc);
-            repeated(calls, move || {
-                let reading = wuraketozo::read(black_box(&payload), FLOW.source, FLOW.destination);
-                let _ = black_box(reading);
+            Box::new(Repeated {
+                times,
+                shared: left.clone(),
+                call: library,
             })
         }),
         reference: Box::new(move || {
-            let (payload, _) = payload(size, apc);
-            repeated(calls, move || {
-                let reading = plain::read(black_box(&payload), FLOW.source, FLOW.destination);
-                let _ = black_box(reading);
+            Box::new(Repeated {
+                times,
+                shared: right.clone(),
+                call: reference,
             })
         }),
-        alike: Box::new(move || {
-            let (payload, _) = payload(size, apc);
-            let one = wuraketozo::read(&payload, FLOW.source, FLOW.destination);
-            let two = plain::read(&payload, FLOW.source, FLOW.destination);
-            let (Ok(one), Ok(two)) = (one, two) else {
-                return false;
-            };
-            one.verdict == wuraketozo::Verdict::Read
-                && two.verdict == plain::Verdict::Read
-                && one.user == (two.user.from..two.user.to)
-                && one.options == (two.options_from..two.options_to)
-                && (one.count, one.fill) == (two.count, two.fill)
-                && format!("{:?}", one.apc) == format!("{:?}", two.apc)
-        }),
+        alike: Box::new(move || alike(&mut shared.borrow_mut())),
     }
 }
 
-/// The reference's writer, called as the library's.
-fn plain_write(user: &[u8], list: &[u8], buffer: &mut [u8]) -> Result<usize, u32> {
-    plain::write(
-        FLOW.source,
-        FLOW.destination,
-        FLOW.source_port,
-        FLOW.destination_port,
-        user,
-        list,
-        0,
-        buffer,
+/// A number with a comma before its last three digits.
+fn shown(number: usize) -> String {
+    match number / 1_000 {
+        0 => number.to_string(),
+        thousands => format!("{thousands},{:03}", number % 1_000),
+    }
+}
+
+const RUNNING: u16 = 0x1234;
+
+/// The sum of bytes that follow a running sum. At an odd start they lie one
+/// byte further on, as an area does behind an odd L.
+fn sum(size: usize, odd: bool) -> Case {
+    let start = usize::from(odd);
+    let parity = if odd { "odd" } else { "even" };
+    case(
+        format!("sum of {} bytes, {parity} start", shown(size)),
+        size,
+        bytes(start + size),
+        move |all| {
+            let sum = sums::sum(black_box(RUNNING), black_box(&all[start..]), odd);
+            black_box(sum);
+        },
+        move |all| {
+            let running = u64::from(black_box(RUNNING));
+            let sum = plain::checksum::sum(running, black_box(&all[start..]), odd);
+            black_box(sum);
+        },
+        move |all| {
+            let sum = plain::checksum::sum(u64::from(RUNNING), &all[start..], odd);
+            sums::sum(RUNNING, &all[start..], odd) == sum
+        },
     )
 }
 
-fn write(size: usize, apc: bool) -> Case {
-    let calls = times(size);
-    Case {
-        name: format!("write {size} bytes, {}", with_apc(apc)),
-        calls,
-        library: Box::new(move || {
-            let (mut buffer, user) = payload(size, apc);
-            let (list, _) = options(apc);
-            repeated(calls, move || {
-                let length = wuraketozo::write(&FLOW, black_box(&user), &list, 0, &mut buffer);
-                let _ = black_box(length);
-                black_box(&buffer);
-            })
-        }),
-        reference: Box::new(move || {
-            let (mut buffer, user) = payload(size, apc);
-            let (list, _) = options(apc);
-            repeated(calls, move || {
-                let length = plain_write(black_box(&user), &list, &mut buffer);
-                let _ = black_box(length);
-                black_box(&buffer);
-            })
-        }),
-        alike: Box::new(move || {
-            let (_, user) = payload(size, apc);
-            let (list, _) = options(apc);
-            let (mut left, mut right) = (vec![0; size], vec![0; size]);
-            let one = wuraketozo::write(&FLOW, &user, &list, 0, &mut left);
-            let two = plain_write(&user, &list, &mut right);
-            one.is_ok() && one.ok() == two.ok() && left == right
-        }),
+fn crc32c(size: usize) -> Case {
+    case(
+        format!("CRC32c of {} bytes", shown(size)),
+        size,
+        bytes(size),
+        |all| {
+            black_box(sums::crc32c(black_box(all)));
+        },
+        |all| {
+            black_box(plain::crc::crc32c(black_box(all)));
+        },
+        |all| sums::crc32c(all) == plain::crc::crc32c(all),
+    )
+}
+
+/// A payload and what the writer makes it of.
+struct Payload {
+    /// What it is, in words.
+    words: String,
+    user: Vec<u8>,
+    list: Vec<u8>,
+    fill: u8,
+    bytes: Vec<u8>,
+}
+
+impl Payload {
+    /// Of `size` bytes, the bytes that user data, list and its `wire` bytes
+    /// leave being fill.
+    fn new(words: String, size: usize, user: Vec<u8>, list: Vec<u8>, wire: usize) -> Payload {
+        let pad = user.len() % 2;
+        let fill = size - 8 - user.len() - pad - 2 - wire;
+        let mut payload = Payload {
+            words,
+            user,
+            list,
+            fill: fill as u8,
+            bytes: vec![0; size],
+        };
+        assert_eq!(payload.write_plain(), Ok(size));
+        payload
     }
+
+    /// With REQ 300, behind an APC if asked, and as much user data as leaves
+    /// L of the asked parity: a fill of one byte makes up for the rest.
+    fn short_list(size: usize, apc: bool, odd: bool) -> Payload {
+        let (list, wire, with) = if apc {
+            (vec![2, 2, 6, 0xAC, 2], 12, "with APC")
+        } else {
+            (vec![1, 6, 0xAC, 2], 6, "no APC")
+        };
+        let parity = if odd { "odd" } else { "even" };
+        let room = size - 8 - usize::from(odd) - 2 - wire;
+        let user = bytes(room - usize::from((room % 2 == 1) != odd));
+        let words = format!("{} bytes, {with}, {parity} L", shown(size));
+        Payload::new(words, size, user, list, wire)
+    }
+
+    /// 1,472 bytes with one byte of user data, so that L is odd, and one
+    /// option of 1,460 bytes.
+    fn long_option() -> Payload {
+        let body = 1_456;
+        let mut list = vec![1, 10, body as u8 & 0x7F | 0x80, (body >> 7) as u8];
+        list.extend(bytes(body));
+        let words = "1,472 bytes, one long option, odd L".into();
+        Payload::new(words, 1_472, bytes(1), list, 4 + body)
+    }
+
+    fn write(&mut self) -> Result<usize, wuraketozo::Refusal> {
+        let (user, list) = (black_box(&self.user), &self.list);
+        wuraketozo::write(&FLOW, user, list, self.fill, &mut self.bytes)
+    }
+
+    fn write_plain(&mut self) -> Result<usize, u32> {
+        plain::write(
+            FLOW.source,
+            FLOW.destination,
+            FLOW.source_port,
+            FLOW.destination_port,
+            black_box(&self.user),
+            &self.list,
+            self.fill,
+            &mut self.bytes,
+        )
+    }
+
+    /// Whether both read it, and read the same.
+    fn read_alike(&self) -> bool {
+        let one = wuraketozo::read(&self.bytes, FLOW.source, FLOW.destination);
+        let two = plain::read(&self.bytes, FLOW.source, FLOW.destination);
+        let (Ok(one), Ok(two)) = (one, two) else {
+            return false;
+        };
+        one.verdict == wuraketozo::Verdict::Read
+            && two.verdict == plain::Verdict::Read
+            && one.user == (two.user.from..two.user.to)
+            && one.options == (two.options_from..two.options_to)
+            && (one.count, one.fill) == (two.count, two.fill)
+            && format!("{:?}", one.apc) == format!("{:?}", two.apc)
+            && two.apc != plain::Apc::Wrong
+    }
+
+    /// Whether both write it, and write the same.
+    fn write_alike(&mut self) -> bool {
+        let size = self.bytes.len();
+        self.bytes.fill(0xA5);
+        let one = self.write();
+        let left = self.bytes.clone();
+        self.bytes.fill(0x5A);
+        let two = self.write_plain();
+        one == Ok(size) && two == Ok(size) && left == self.bytes
+    }
+}
+
+fn read(payload: Payload) -> Case {
+    case(
+        format!("read {}", payload.words),
+        payload.bytes.len(),
+        payload,
+        |payload| {
+            let bytes = black_box(&payload.bytes);
+            let reading = wuraketozo::read(bytes, FLOW.source, FLOW.destination);
+            let _ = black_box(reading);
+        },
+        |payload| {
+            let bytes = black_box(&payload.bytes);
+            let reading = plain::read(bytes, FLOW.source, FLOW.destination);
+            let _ = black_box(reading);
+        },
+        |payload| payload.read_alike(),
+    )
+}
+
+fn write(payload: Payload) -> Case {
+    case(
+        format!("write {}", payload.words),
+        payload.bytes.len(),
+        payload,
+        |payload| {
+            let _ = black_box(payload.write());
+            black_box(&payload.bytes);
+        },
+        |payload| {
+            let _ = black_box(payload.write_plain());
+            black_box(&payload.bytes);
+        },
+        Payload::write_alike,
+    )
+}
+
+const SIZES: [usize; 3] = [64, 1_472, 65_515];
+
+fn payloads() -> Vec<Payload> {
+    let mut payloads = Vec::new();
+    for size in SIZES {
+        for apc in [false, true] {
+            for odd in [false, true] {
+                payloads.push(Payload::short_list(size, apc, odd));
+            }
+        }
+    }
+    payloads.push(Payload::long_option());
+    payloads
 }
 
 pub fn all() -> Vec<Case> {
     let mut cases = Vec::new();
-    for size in [64, 1_472, 65_515] {
-        for apc in [false, true] {
-            cases.push(read(size, apc));
+    for size in SIZES {
+        for odd in [false, true] {
+            cases.push(sum(size, odd));
         }
     }
-    for size in [64, 1_472] {
-        for apc in [false, true] {
-            cases.push(write(size, apc));
-        }
-    }
+    cases.extend(SIZES.map(crc32c));
+    cases.extend(payloads().into_iter().map(read));
+    cases.extend(payloads().into_iter().map(write));
     cases.extend(tables::all());
     cases
 }

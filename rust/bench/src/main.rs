@@ -4,9 +4,10 @@
 //!     bench --count NUMBER SIDE N  runs case NUMBER, `library` or
 //!                                  `reference`, N times, for callgrind
 //!     bench --names                prints the numbers and names of the cases
-#![forbid(unsafe_code)]
+#![deny(unsafe_code)]
 
 mod cases;
+mod sums;
 mod tables;
 
 use cases::{Case, Side};
@@ -14,7 +15,7 @@ use std::process::ExitCode;
 use std::time::Instant;
 
 const WARM_UP: usize = 50;
-const ROUNDS: usize = 401;
+const ROUNDS: usize = 1_001;
 
 /// Between these lines of FILE the table stands.
 const BEGIN: &str = "<!-- table: written by make bench -->";
@@ -68,13 +69,25 @@ fn measure(case: &Case) -> Result {
     }
 }
 
+/// Nanoseconds, with a decimal where they are few.
+fn nanoseconds(value: f64) -> String {
+    if value < 100.0 {
+        format!("{value:.1}")
+    } else {
+        format!("{value:.0}")
+    }
+}
+
 fn table(results: &[Result]) -> String {
     let mut text =
         String::from("| work | library, ns | reference, ns | ratio |\n|---|---|---|---|\n");
     for result in results {
         text += &format!(
-            "| {} | {:.0} | {:.0} | {:.2} |\n",
-            result.name, result.library, result.reference, result.ratio
+            "| {} | {} | {} | {:.2} |\n",
+            result.name,
+            nanoseconds(result.library),
+            nanoseconds(result.reference),
+            result.ratio
         );
     }
     text
