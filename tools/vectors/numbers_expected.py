@@ -4,7 +4,7 @@ from parts import n
 
 
 class Record:
-    """A record of a table: its bytes with a remark on them, and the line that it gives."""
+    """A record of a table: its bytes with a remark on them, and what it gives behind its name."""
 
     def __init__(self, name, remark, data, text):
         self.name, self.remark, self.data, self.text = name, remark, data, text
@@ -13,13 +13,23 @@ class Record:
 def crc(name, remark, data, published=None):
     value = reader.crc32c(data)
     assert published is None or value == published, name
-    return Record(name, remark, data, f"{value:08x}")
+    return Record(name, remark, data, f" {value:08x}")
 
 
 def total(name, remark, running, odd, data, published=None):
     value = reader.fold(running + reader.words(data, odd))
     assert published is None or value == published, name
-    return Record(name, remark, n(running, 2) + bytes([odd]) + data, f"{value:04x} field {reader.sent(value):04x}")
+    return Record(name, remark, n(running, 2) + bytes([odd]) + data, f" {value:04x} field {reader.sent(value):04x}")
+
+
+def prefixes(name, remark, running, data):
+    """For each prefix a line: its length, its CRC, and the running sum with it at an even and at an odd offset."""
+    text = ""
+    for size in range(len(data) + 1):
+        part = data[:size]
+        even, odd = (reader.fold(running + reader.words(part, parity)) for parity in (False, True))
+        text += f"\n{size} {reader.crc32c(part):08x} {even:04x} {odd:04x}"
+    return Record("prefixes-" + name, remark, n(running, 2) + data, text)
 
 
 def number(name, remark, text, want):
@@ -27,12 +37,12 @@ def number(name, remark, text, want):
     got = reader.decode(data, 0)
     said = "refused 0" if got is None else "value %d next %d" % got
     assert said == want, (name, said)
-    return Record(name, remark, data, said)
+    return Record(name, remark, data, " " + said)
 
 
 def words(remark, a, b):
     value = reader.fold(a + b)
-    return Record("add-word", remark, n(a, 2) + n(b, 2), f"{a:04x} {b:04x} {value:04x} field {reader.sent(value):04x}")
+    return Record("add-word", remark, n(a, 2) + n(b, 2), f" {a:04x} {b:04x} {value:04x} field {reader.sent(value):04x}")
 
 
 def encoding(value, at):
@@ -45,16 +55,18 @@ def encoding(value, at):
         assert reader.decode(b, at) == (value, at + len(e))
     back = reader.decode(b, at)
     told = f"refused {at}" if back is None else "value %d next %d" % back
-    text = f"{value} at {at} length {len(e)} {said} bytes {bytes(b).hex()} {told}"
+    text = f" {value} at {at} length {len(e)} {said} bytes {bytes(b).hex()} {told}"
     return Record("encoding", f"{value} at {at}", n(value, 8) + n(at, 8), text)
 
 
 assert reader.encode(300).hex() == "ac02"
 PDU = bytes.fromhex("01c0000000000000000000000000000014000000000004000000001400000018280000000000000002000000" + "00000000")
 RFC1071 = bytes.fromhex("0001f203f4f5f6f7")
+MIXED = bytes((167 * i * i + 59 * i + 201) % 257 % 256 for i in range(40))
+PAIRS = b"".join(n(word, 2) + n(0xFFFF - word, 2) for word in (0x0001, 0xFFFE, 0x00FF, 0xFF00, 0x8000, 0x7FFF, 0xABCD, 0x1234, 0xFFFF, 0x0000))
 
 TABLES = [
-    ("The published vectors of CRC32c: iSCSI's, the check value, the CRC of nothing; then other lengths.", [
+    ("The published vectors of CRC32c: iSCSI's, the check value, the CRC of nothing.", [
         crc("crc32c-zeros", "32 bytes of 00", bytes(32), 0xAA36918A),
         crc("crc32c-ones", "32 bytes of ff", b"\xff" * 32, 0x43ABA862),
         crc("crc32c-rising", "00 to 1f", bytes(range(32)), 0x4E79DD46),
@@ -62,20 +74,10 @@ TABLES = [
         crc("crc32c-command", "iSCSI's SCSI Read (10) Command PDU", PDU, 0x563A96D9),
         crc("crc32c-check", "123456789", b"123456789", 0x839206E3),
         crc("crc32c-nothing", "no bytes", b"", 0),
-        crc("crc32c-1", "01", bytes(range(1, 2))),
-        crc("crc32c-7", "01 to 07", bytes(range(1, 8))),
-        crc("crc32c-8", "01 to 08", bytes(range(1, 9))),
-        crc("crc32c-9", "01 to 09", bytes(range(1, 10))),
-        crc("crc32c-15", "01 to 0f", bytes(range(1, 16))),
-        crc("crc32c-16", "01 to 10", bytes(range(1, 17))),
-        crc("crc32c-17", "01 to 11", bytes(range(1, 18))),
     ]),
     ("Checksums: the sum of a running sum and bytes, and the field that is sent for it.", [
         total("sum-rfc-1071", "RFC 1071's example", 0, 0, RFC1071, 0xDDF2),
         total("sum-rfc-1071-odd", "the same at an odd offset: the bytes exchanged", 0, 1, RFC1071, 0xF2DD),
-        total("sum-nothing", "no bytes", 0, 0, b"", 0),
-        total("sum-nothing-odd", "no bytes at an odd offset", 0, 1, b"", 0),
-        total("sum-zeros", "four bytes of 00", 0, 0, bytes(4), 0),
         total("sum-one-byte", "01", 0, 0, b"\x01", 0x0100),
         total("sum-one-byte-odd", "01 at an odd offset", 0, 1, b"\x01", 0x0001),
         total("sum-three-bytes", "01 02 03", 0, 0, b"\x01\x02\x03", 0x0402),
@@ -86,6 +88,12 @@ TABLES = [
         total("sum-running", "ddf2, then 22 0d: all ones", 0xDDF2, 0, b"\x22\x0d", 0xFFFF),
         total("sum-first-half", "the first half of RFC 1071's example", 0, 0, RFC1071[:4], 0xF204),
         total("sum-second-half", "the second half upon it", 0xF204, 0, RFC1071[4:], 0xDDF2),
+    ]),
+    ("The first 0 to 40 of some bytes: CRC32c, and a running sum with them at an even and at an odd offset.", [
+        prefixes("mixed", "1234, then bytes of no pattern", 0x1234, MIXED),
+        prefixes("ones", "1, then bytes of ff: every word carries", 1, b"\xff" * 40),
+        prefixes("zeros", "0, then bytes of 00: the sum is 0, not all ones", 0, bytes(40)),
+        prefixes("pairs", "0, then each word before its complement: all ones at every fourth byte", 0, PAIRS),
     ]),
     ("Two words added, and the field that is sent for the sum.", [
         words("0 and 0", 0, 0),
@@ -124,4 +132,4 @@ TABLES = [
 
 
 def number_lines():
-    return [f"{r.name} {r.text}" for _, records in TABLES for r in records]
+    return [f"{r.name}{r.text}" for _, records in TABLES for r in records]

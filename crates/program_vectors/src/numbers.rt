@@ -32,6 +32,27 @@ pub fn sum(bytes: &[u8]) {
     summed(number_checksum::add(number_octets::get_u16(bytes, 0), &bytes[3..], bytes[2] == 1));
 }
 
+// A running sum in two bytes, then bytes: for their first 0, 1, .. up to all the CRC32c, and the sums with them at an even and at an odd
+// offset.
+pub fn prefixes(bytes: &[u8]) {
+    if bytes.len() < 2 {
+        return;
+    }
+    let running = number_octets::get_u16(bytes, 0);
+    let mut end = 2;
+    while end <= bytes.len() {
+        prefix(running, &bytes[2..end]);
+        end += 1;
+    }
+}
+
+fn prefix(running: u16, bytes: &[u8]) {
+    number(b"\n", bytes.len() as u64);
+    crc(bytes);
+    hex(number_checksum::add(running, bytes, false) as u64, 4);
+    hex(number_checksum::add(running, bytes, true) as u64, 4);
+}
+
 // Two words to be added.
 pub fn words(bytes: &[u8]) {
     if bytes.len() < 4 {

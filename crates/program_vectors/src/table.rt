@@ -51,11 +51,12 @@ fn blank(table: &[u8], at: usize) -> usize
     i
 }
 
-// crc32c, sum, add-word, number, encoding
+// crc32c, sum, prefixes, add-word, number, encoding
 fn answer(letter: u8, bytes: &[u8]) {
     match letter {
         b'c' => numbers::crc(bytes),
         b's' => numbers::sum(bytes),
+        b'p' => numbers::prefixes(bytes),
         b'a' => numbers::words(bytes),
         b'n' => numbers::decoded(bytes, 0),
         _ => numbers::encoding(bytes),
