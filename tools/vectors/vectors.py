@@ -35,6 +35,16 @@ def last_byte_low(options):
     return reader.sent(2 + len(body) + reader.words(body[:-1]) + body[-1])
 
 
+def mixed(size):
+    """Bytes of no pattern."""
+    return bytes((167 * i * i + 59 * i + 201) % 65537 % 251 for i in range(size))
+
+
+def long_option(whole):
+    """An option of so many bytes, 255 or more, with a body of no pattern."""
+    return Part(f"kind 9 of {whole} bytes", b"\x09\xff" + n(whole, 2) + mixed(whole - 4))
+
+
 GROUPS = {}
 
 
@@ -268,6 +278,16 @@ group("lists", "apcs", "APC options.",
       P("apc-odd", "read 1 right", [APC(crc32c(A))], A),
       P("apc-digits", "read 2 right", [REQ(1), APC(0x839206E3)], b"123456789"),
       P("apc-last-bit", "read 1 wrong", [APC(0x839206E2)], b"123456789"))
+
+group("lists", "long_apcs", "APC over longer user data.",
+      *(P(f"apc-over-{size}", "read 1 right", [APC(crc32c(mixed(size)))], mixed(size)) for size in (40, 41, 64, 255, 256, 511, 512, 513, 1024)),
+      P("apc-over-1024-last-bit", "read 1 wrong", [APC(crc32c(mixed(1024)) ^ 1)], mixed(1024)),
+      P("apc-over-1024-other-byte", "read 1 wrong", [APC(crc32c(mixed(1023) + b"\0"))], mixed(1024), note="The CRC of other bytes."))
+
+group("lists", "long_areas", "Option checksums over longer areas, L even and odd.",
+      *(P(f"area-{whole + 2}-even", "read 1", [long_option(whole)], AB) for whole in (255, 256, 510, 1021)),
+      *(P(f"area-{whole + 3}-odd", "read 1", [long_option(whole)], A) for whole in (255, 256, 510, 1021)),
+      P("area-1024-odd-swapped", "badsum", [long_option(1021)], A, ocs=other_parity([long_option(1021)]), note="Paired from the area's first byte."))
 
 group("lists", "several_apcs", "Several APC options: wrong if any differs.",
       P("apc-two-right", "read 2 right", [APC(crc32c(AB)), APC(crc32c(AB))], AB),
