@@ -1,4 +1,4 @@
-pub mod Xor
 pub mod Laws
-pub mod Table
+pub mod Words
+pub mod Digits
 pub mod Vectors

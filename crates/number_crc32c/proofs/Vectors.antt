@@ -5,7 +5,8 @@ use mathlib.Core.List.{List, [], _∷_, reverse}
 use Prim.Native.Nat.{ℕ, zero, suc, _+_}
 use lib.ListN.{replicate}
 use Rattle.number_octets.specs.Octets.{number, octets}
-use Rattle.number_crc32c.specs.Crc.{polynomial, ones, bitStep, steps, byteStep, register, reflected, swapped, crcOf}
+use Rattle.number_crc_steps.specs.Steps.{polynomial, bitStep, steps}
+use Rattle.number_crc32c.specs.Crc.{ones, byteStep, register, reflected, swapped, crcOf}
 
 -- `count` numbers from `start` on
 abbrev upwards : ℕ → ℕ → List ℕ

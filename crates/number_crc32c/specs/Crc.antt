@@ -1,25 +1,13 @@
 -- CRC32c (Castagnoli), bit by bit, as the APC option of RFC 9868 (section 11.3) uses it.
 use mathlib.Core.List.{List, [], _∷_, reverse}
-use Prim.Native.Nat.{ℕ, zero, suc, _*_, _/_, _%_}
+use Prim.Native.Nat.{ℕ}
 use lib.Bits.{bitXor}
 use Rattle.number_octets.specs.Octets.{number, octets}
-
--- the polynomial 0x1EDC6F41 with its bits in reverse order: the bit of a byte that is sent first is its lowest
-unfoldable pub polynomial : ℕ
-polynomial = 0x82F6_3B78
+use Rattle.number_crc_steps.specs.Steps.{steps}
 
 -- 32 bits, all set
 unfoldable pub ones : ℕ
 ones = 0xFFFF_FFFF
-
--- one bit: the register is halved and, where the bit that falls out is 1, xor-ed with the polynomial
-unfoldable pub bitStep : ℕ → ℕ
-bitStep n = bitXor (n % 2 * polynomial) (n / 2)
-
--- so many bits
-unfoldable pub steps : ℕ → ℕ → ℕ
-steps zero n = n
-steps (suc k) n = steps k (bitStep n)
 
 -- one byte: it is xor-ed into the lowest byte of the register, and its eight bits are stepped out
 unfoldable pub byteStep : ℕ → ℕ → ℕ

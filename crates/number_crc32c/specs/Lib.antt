@@ -1,2 +1,2 @@
 pub mod Crc
-pub mod Table
+pub mod Words

@@ -1,62 +1,189 @@
-// CRC32c (Castagnoli), by table: eight bytes a step, then the bytes that are left one by one.
+// CRC32c (Castagnoli), by table: sixteen bytes a step, the words that are left in one step, then the last few bytes one by one.
 ghost use mathlib.Core.Path.{_≡_};
 ghost use mathlib.Core.List.{reverse};
-ghost use Prim.Native.Nat.{_+_, _*_, _/_, _≤_, _<_};
+ghost use Prim.Native.Nat.{_+_, _*_, _/_, _%_, _≤_};
+ghost use lib.Bits.{bitXor};
 ghost use lib.ListN.{length, take};
 ghost use Rattle.number_octets.specs.Octets.{number, part};
-ghost use Rattle.number_crc32c.specs.Crc.{ones, steps, byteStep, register, swapped, crcOf};
-ghost use Rattle.number_crc32c.specs.Table.{Stepped};
-
-mod tables;
+ghost use Rattle.number_crc_steps.specs.Steps.{steps};
+ghost use Rattle.number_crc32c.specs.Crc.{ones, byteStep, register, swapped, crcOf};
+ghost use Rattle.number_crc32c.specs.Words.{joined, Holds};
 
 // What the register starts as, and what it is xor-ed with at the end.
 const ONES: u32 = 0xFFFF_FFFF;
+
+// Parts the two entries in a field of the table.
+const HALF: u64 = 0x1_0000_0000;
+
+// Up to four words of a slice that are stepped together, with 0 in front where there are fewer.
+struct Block {
+    a: u32,
+    b: u32,
+    c: u32,
+    d: u32,
+}
+
+// Where a word has come to after so many bits.
+struct Moved {
+    by_32: u32,
+    by_64: u32,
+    by_96: u32,
+    by_128: u32,
+}
+
+// The xor of one, two, three and four numbers. Only the diagonal of four turns is used: a compiler leaves the rest out.
+struct Sums {
+    one: u32,
+    two: u32,
+    three: u32,
+    four: u32,
+}
 
 // The CRC32c of `bytes`, as the number whose big-endian bytes go on the wire.
 pub fn crc32c(bytes: &[u8]) -> u32
     ensures { λ r. ⌜ r ≡ crcOf (now (bytes .entry)) ⌝ }
 {
-    let table = tables::TABLE;
-    swap(state_after(&table, bytes) ^ ONES)
+    swap(state_after(bytes) ^ ONES)
 }
 
 // The register after all of `bytes`.
-fn state_after(table: &[u32; 2048], bytes: &[u8]) -> u32
-    requires { ⌜ Stepped (now table) ⌝ }
+fn state_after(bytes: &[u8]) -> u32
     ensures { λ r. ⌜ r ≡ register ones (now (bytes .entry)) ⌝ }
 {
-    let mut state = state_after_eights(table, bytes);
-    let mut i = bytes.len() / 8 * 8;
+    let mut state = state_after_words(bytes);
+    let mut i = bytes.len() / 4 * 4;
     while i < bytes.len() {
-        state = step(table, state, bytes[i]);
+        state = step(state, bytes[i]);
         i += 1;
     }
     state
 }
 
-// The register after all of `bytes` but the last few, fewer than eight.
-fn state_after_eights(table: &[u32; 2048], bytes: &[u8]) -> u32
-    requires { ⌜ Stepped (now table) ⌝ }
-    ensures { λ r. ⌜ r ≡ register ones (take (length (now (bytes .entry)) / 8 * 8) (now (bytes .entry))) ⌝ }
+// The register after all of `bytes` but the last few, fewer than four.
+fn state_after_words(bytes: &[u8]) -> u32
+    ensures { λ r. ⌜ r ≡ register ones (take (length (now (bytes .entry)) / 4 * 4) (now (bytes .entry))) ⌝ }
 {
     let mut state: u32 = ONES;
-    let count = bytes.len() / 8;
+    let count = (bytes.len() / 4 + 3) / 4;
     let mut k = 0;
     while k < count {
-        state = step_eight(table, state, bytes, k * 8);
+        let block = block_at(state, bytes, 16 * k);
+        state = step_words(block.a, block.b, block.c, block.d);
         k += 1;
     }
     state
 }
 
-// The register after the eight bytes at `at`.
-fn step_eight(table: &[u32; 2048], state: u32, bytes: &[u8], at: usize) -> u32
-    requires { ⌜ (Stepped (now table)) × (at + 8 ≤ length (now bytes)) ⌝ }
-    ensures { λ r. ⌜ r ≡ register state (part at 8 (now (bytes .entry))) ⌝ }
+// The words at `at`, up to four, with the register in the first.
+fn block_at(state: u32, bytes: &[u8], at: usize) -> Block
+    requires { ⌜ at + 4 ≤ length (now bytes) ⌝ }
+    ensures { λ r. ⌜ Holds state at (now (bytes .entry)) (joined (r .a) (r .b) (r .c) (r .d)) ⌝ }
 {
-    let low = state ^ little(bytes, at);
-    let high = little(bytes, at + 4);
-    stepped(table, 0, high) ^ stepped(table, 1, low)
+    let left = bytes.len() - at;
+    if 16 <= left {
+        return Block {
+            a: state ^ little(bytes, at),
+            b: little(bytes, at + 4),
+            c: little(bytes, at + 8),
+            d: little(bytes, at + 12),
+        };
+    }
+    if 12 <= left {
+        return Block {
+            a: 0,
+            b: state ^ little(bytes, at),
+            c: little(bytes, at + 4),
+            d: little(bytes, at + 8),
+        };
+    }
+    if 8 <= left {
+        return Block {
+            a: 0,
+            b: 0,
+            c: state ^ little(bytes, at),
+            d: little(bytes, at + 4),
+        };
+    }
+    Block {
+        a: 0,
+        b: 0,
+        c: 0,
+        d: state ^ little(bytes, at),
+    }
+}
+
+// Four words, stepped out. The last goes first: only the first waits for the register.
+fn step_words(a: u32, b: u32, c: u32, d: u32) -> u32
+    ensures { λ r. ⌜ r ≡ joined a b c d ⌝ }
+{
+    let mut sums = no_sums();
+    let mut word = d;
+    let mut next = c;
+    let mut third = b;
+    let mut i: usize = 0;
+    while i < 4 {
+        let moved = move_word(word);
+        sums = Sums {
+            one: moved.by_32,
+            two: sums.one ^ moved.by_64,
+            three: sums.two ^ moved.by_96,
+            four: sums.three ^ moved.by_128,
+        };
+        word = next;
+        next = third;
+        third = a;
+        i += 1;
+    }
+    sums.four
+}
+
+// A word after 32, 64, 96 and 128 bits, byte by byte.
+fn move_word(n: u32) -> Moved
+    ensures { λ r. ⌜ (r .by_32 ≡ steps 32 n) × (r .by_64 ≡ steps 64 n) × (r .by_96 ≡ steps 96 n) × (r .by_128 ≡ steps 128 n) ⌝ }
+{
+    let mut by_32 = no_sums();
+    let mut by_64 = no_sums();
+    let mut by_96 = no_sums();
+    let mut by_128 = no_sums();
+    let mut rest = n;
+    let mut j: usize = 0;
+    while j < 4 {
+        let row = number_crc_rows::entries(rest % 256);
+        by_32 = added(by_32, row.after_32_24, row.after_16_8);
+        by_64 = added(by_64, row.after_64_56, row.after_48_40);
+        by_96 = added(by_96, row.after_96_88, row.after_80_72);
+        by_128 = added(by_128, row.after_128_120, row.after_112_104);
+        rest = rest / 256;
+        j += 1;
+    }
+    Moved {
+        by_32: by_32.four,
+        by_64: by_64.four,
+        by_96: by_96.four,
+        by_128: by_128.four,
+    }
+}
+
+fn no_sums() -> Sums {
+    Sums {
+        one: 0,
+        two: 0,
+        three: 0,
+        four: 0,
+    }
+}
+
+// Each sum with one number more: the halves of two fields.
+fn added(sums: Sums, high: u64, low: u64) -> Sums
+    ensures { λ r. ⌜ (r .one ≡ high / 4294967296) × (r .two ≡ bitXor (sums .one) (high % 4294967296))
+        × (r .three ≡ bitXor (sums .two) (low / 4294967296)) × (r .four ≡ bitXor (sums .three) (low % 4294967296)) ⌝ }
+{
+    Sums {
+        one: (high / HALF) as u32,
+        two: sums.one ^ ((high % HALF) as u32),
+        three: sums.two ^ ((low / HALF) as u32),
+        four: sums.three ^ ((low % HALF) as u32),
+    }
 }
 
 // The number whose bytes stand at `at`, the least significant first.
@@ -64,29 +191,21 @@ fn little(bytes: &[u8], at: usize) -> u32
     requires { ⌜ at + 4 ≤ length (now bytes) ⌝ }
     ensures { λ r. ⌜ r ≡ number (reverse (part at 4 (now (bytes .entry)))) ⌝ }
 {
-    swap(number_octets::get_u32(bytes, at))
-}
-
-// `n` after 32 bits, or after 64 where `half` is 1.
-fn stepped(table: &[u32; 2048], half: usize, n: u32) -> u32
-    requires { ⌜ (Stepped (now table)) × (half < 2) ⌝ }
-    ensures { λ r. ⌜ r ≡ steps (32 * half + 32) n ⌝ }
-{
-    let row = half * 1024;
-    let a = (n % 256) as usize;
-    let b = (n / 256 % 256) as usize;
-    let c = (n / 65536 % 256) as usize;
-    let d = (n / 16777216) as usize;
-    table[row + 768 + a] ^ table[row + 512 + b] ^ table[row + 256 + c] ^ table[row + d]
+    let first = bytes[at] as u32;
+    let second = bytes[at + 1] as u32;
+    let third = bytes[at + 2] as u32;
+    let fourth = bytes[at + 3] as u32;
+    first + second * 256 + third * 65536 + fourth * 16777216
 }
 
 // The register after one byte more.
-fn step(table: &[u32; 2048], state: u32, byte: u8) -> u32
-    requires { ⌜ Stepped (now table) ⌝ }
+fn step(state: u32, byte: u8) -> u32
     ensures { λ r. ⌜ r ≡ byteStep state byte ⌝ }
 {
-    let at = (state ^ (byte as u32)) % 256;
-    table[at as usize] ^ (state / 256)
+    let n = state ^ (byte as u32);
+    number_crc_rows::nibble_after_8(n % 16)
+        ^ number_crc_rows::nibble_after_4(n / 16 % 16)
+        ^ (n / 256)
 }
 
 // The four bytes in reverse order.

@@ -1,17 +1,15 @@
--- `number_crc32c::crc32c` meets its contract: the table is right, by a test that antt computes (`tested`), and the register is complemented and swapped.
+-- `number_crc32c::crc32c` meets its contract: the register is complemented and swapped.
 -- Assumes nothing.
 use mathlib.Core.Path.{ap, _∙_}
 use Prim.Native.Nat.{ℕ}
 use lib.Bits.{bitXor}
-use Rattle.number_crc32c.specs.Crc.{polynomial, ones, bitStep, steps, reflected, swapped, crcOf}
-use Rattle.number_crc32c.proofs.Table.{tested}
+use Rattle.number_crc32c.specs.Crc.{ones, reflected, swapped, crcOf}
 use borrow.Author.Needs.{needs}
 use Rattle.number_crc32c.proofs.crc32c.Statement.{statement}
 use Rattle.number_crc32c.proofs.crc32c.Tie as tie
 
 state-after-requires : tie.Need-state-after-requires
-unfolding steps bitStep polynomial
-state-after-requires c κs = tested tt tt tt
+state-after-requires c κs = search needs
 
 swap-requires : tie.Need-swap-requires
 swap-requires c κs = search needs

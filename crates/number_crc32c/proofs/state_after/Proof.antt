@@ -3,6 +3,7 @@
 use mathlib.Core.Path.{_≡_, sym, ap, _∙_}
 use Prim.Native.Nat.{ℕ, _-_, _<_, _≤_}
 use native.Mathlib.Omega.{arith}
+use borrow.Author.Needs.{needs}
 use lib.ListN.{length, take, getD}
 use lib.Seq.{take-all}
 use Rattle.number_crc32c.specs.Crc.{ones, byteStep, register}
@@ -11,25 +12,25 @@ use Rattle.number_crc32c.proofs.state_after.Statement.{statement}
 use Rattle.number_crc32c.proofs.state_after.Tie as tie
 
 abbrev Inv-loop : tie.InvT-loop
-Inv-loop table bytes state₀ i₀ state i = (state ≡ register ones (take i bytes)) × (i ≤ length bytes)
+Inv-loop bytes state₀ i₀ state i = (state ≡ register ones (take i bytes)) × (i ≤ length bytes)
 
 abbrev μ-loop : tie.MeasureT-loop
-μ-loop table bytes state₀ i₀ state i = length bytes - i
+μ-loop bytes state₀ i₀ state i = length bytes - i
 
-state-after-eights-requires : tie.Need-state-after-eights-requires Inv-loop μ-loop
-state-after-eights-requires c κs = c .before .pre
+state-after-words-requires : tie.Need-state-after-words-requires Inv-loop μ-loop
+state-after-words-requires c κs = search needs
 
 mul-i : tie.Need-mul-i Inv-loop μ-loop
 mul-i c = omega arith
 
 loop-holds : tie.Need-loop-holds Inv-loop μ-loop
-loop-holds c = (c .state-after-eights .ensures, omega arith)
+loop-holds c = (c .state-after-words .ensures, omega arith)
 
 shared-slice-read-step : tie.Need-shared-slice-read-step Inv-loop μ-loop
 shared-slice-read-step c = omega arith
 
 step-requires : tie.Need-step-requires Inv-loop μ-loop
-step-requires c κs = c .before .before .before .before .before .pre
+step-requires c κs = search needs
 
 add-i : tie.Need-add-i Inv-loop μ-loop
 add-i c = omega arith
@@ -59,7 +60,7 @@ state-after-spec =
     (tie.spec
     Inv-loop
     μ-loop
-    state-after-eights-requires
+    state-after-words-requires
     mul-i
     loop-holds
     shared-slice-read-step
