@@ -25,7 +25,7 @@ pub fn put_area(list: &[u8], crc: u32, fill: u8, buffer: &mut [u8], at: usize) -
     ensures { λ r. ⌜ Laid (now (buffer .entry)) at (areaOf (isOdd at) (listedBytes crc (now (list .entry)) fill)) (now (buffer .exit)) r ⌝ }
 {
     let end = put_blank(list, crc, fill, buffer, at);
-    let sum = number_checksum::add((end - at) as u16, &buffer[at..end], at % 2 == 1);
+    let sum = number_checksum::add_block((end - at) as u64, &buffer[at..end], at % 2 == 1);
     number_octets::put_u16(buffer, at + at % 2, number_checksum::field(sum));
     end
 }

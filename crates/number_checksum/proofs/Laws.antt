@@ -9,9 +9,9 @@ use native.Mathlib.Numerals.{towards-suc}
 use native.Mathlib.Omega.{arith}
 use borrow.Author.Tests.{eqb-true, eqb-false}
 use lib.Dec.{eqb}
-use lib.ListN.{length, take, drop, getD, take-append-drop, drop-of-length-le}
-use lib.Seq.{length-take-le, drop-cons}
-use Rattle.number_octets.specs.Octets.{Octets, octets}
+use lib.ListN.{length, take, drop, getD, take-append-drop, drop-of-length-le, length-drop}
+use lib.Seq.{length-take-le, drop-cons, drop-drop}
+use Rattle.number_octets.specs.Octets.{octets}
 use Rattle.number_octets.proofs.Laws.{octets-two}
 use Rattle.number_checksum.specs.Checksum.{allOnes, wordSum, folded, parityAfter, sent}
 
@@ -87,7 +87,19 @@ wordSum-cut odd n l even h =
     ∙ ap (λ (p : Bool). wordSum odd (take n l) + wordSum p (drop n l))
     (ap (parityAfter odd) (length-take-le n l h) ∙ parity-even odd n even)
 
--- two bytes, and one, at the front of what is left
+-- a part of even length added to a folded sum
+pub folded-part : (odd : Bool) (at n sum r : ℕ) (l : List ℕ) → n % 2 ≡ 0 → at + n ≤ length l
+    → r ≡ folded (sum + wordSum odd (take (at + n - at) (drop at l))) → folded (r + wordSum odd (drop (at + n) l)) ≡ folded (sum + wordSum odd (drop at l))
+folded-part odd at n sum r l even fits e =
+    let size : at + n - at ≡ n = omega arith in
+    let added : r ≡ folded (sum + wordSum odd (take n (drop at l))) = e ∙ ap (λ (m : ℕ). folded (sum + wordSum odd (take m (drop at l)))) size in
+    let cut : wordSum odd (drop at l) ≡ wordSum odd (take n (drop at l)) + wordSum odd (drop n (drop at l)) =
+    wordSum-cut odd n (drop at l) even (simp length-drop (omega arith)) in
+    let behind : wordSum odd (drop n (drop at l)) ≡ wordSum odd (drop (at + n) l) = ap (wordSum odd) (drop-drop n at l) in
+    ap (λ (x : ℕ). folded (x + wordSum odd (drop (at + n) l))) added
+    ∙ folded-add (sum + wordSum odd (take n (drop at l))) (wordSum odd (drop (at + n) l)) ∙ ap folded (omega arith)
+
+-- two bytes at the front of what is left, the last byte, and none
 pub wordSum-two : (l : List ℕ) (i : ℕ) → i + 1 < length l
     → (wordSum false (drop i l) ≡ getD l i 0 * 256 + getD l (i + 1) 0 + wordSum false (drop (i + 2) l))
     × (wordSum true (drop i l) ≡ getD l i 0 + getD l (i + 1) 0 * 256 + wordSum true (drop (i + 2) l))
@@ -97,24 +109,16 @@ wordSum-two l i h =
     (drop-cons l i 0 (omega arith) ∙ ap (λ (t : List ℕ). getD l i 0 ∷ t) (drop-cons l (suc i) 0 (omega arith))) in
     (ap (wordSum false) front ∙ omega arith, ap (wordSum true) front ∙ omega arith)
 
-pub wordSum-one : (l : List ℕ) (i : ℕ) → i + 1 ≡ length l
-    → (wordSum false (drop i l) ≡ getD l i 0 * 256) × (wordSum true (drop i l) ≡ getD l i 0)
+pub wordSum-one : (l : List ℕ) (i : ℕ) → i + 1 ≡ length l → wordSum true (drop i l) ≡ getD l i 0
 unfolding wordSum
 wordSum-one l i h =
     let front : drop i l ≡ getD l i 0 ∷ [] = drop-cons l i 0 (omega arith)
     ∙ ap (λ (t : List ℕ). getD l i 0 ∷ t) (drop-of-length-le l {i = suc i} (omega arith)) in
-    (ap (wordSum false) front ∙ omega arith, ap (wordSum true) front ∙ omega arith)
+    ap (wordSum true) front ∙ omega arith
 
 pub wordSum-none : (odd : Bool) (l : List ℕ) (i : ℕ) → length l ≤ i → wordSum odd (drop i l) ≡ 0
 unfolding wordSum
 wordSum-none odd l i h = ap (wordSum odd) (drop-of-length-le l h)
-
--- each byte adds at most 255 * 256
-pub wordSum-le : (odd : Bool) (l : List ℕ) → Octets l → wordSum odd l ≤ 65280 * length l
-unfolding wordSum
-wordSum-le odd [] h = omega arith
-wordSum-le false (x ∷ l) h = omega (arith, h 0, wordSum-le true l (λ i. h (suc i)))
-wordSum-le true (x ∷ l) h = omega (arith, h 0, wordSum-le false l (λ i. h (suc i)))
 
 -- ---- words
 

@@ -19,7 +19,7 @@ ghost use Rattle.wire_datagram.specs.ByWalk.{apcBy};
 pub const PAYLOAD_LIMIT: usize = 65515;
 
 // UDP's protocol number.
-const UDP: u16 = 17;
+const UDP: u64 = 17;
 
 // Bytes of a packet, counted from its UDP header.
 #[repr(C)]
@@ -104,16 +104,9 @@ pub fn udp_sum(datagram: &[u8], source: [u8; 4], destination: [u8; 4]) -> u16
     requires { ⌜ length (now datagram) ≤ 65535 ⌝ }
     ensures { λ r. ⌜ r ≡ udpSum (pseudoHeader source destination (length (now (datagram .entry)))) (now (datagram .entry)) ⌝ }
 {
-    let addresses = number_checksum::add(
-        number_checksum::add(0, &source, false),
-        &destination,
-        false,
-    );
-    let rest = number_checksum::add_word(
-        number_checksum::add_word(addresses, UDP),
-        datagram.len() as u16,
-    );
-    number_checksum::add(rest, datagram, false)
+    let addresses = number_octets::get_u32(&source, 0) as u64
+        + number_octets::get_u32(&destination, 0) as u64;
+    number_checksum::add_block(addresses + UDP + datagram.len() as u64, datagram, false)
 }
 
 // The reading of a payload that no refusal meets. `unused`: the UDP checksum is zero.

@@ -65,5 +65,5 @@ fn area_sum(area: &[u8], odd: bool) -> u16
     requires { ⌜ length (now area) ≤ 65535 ⌝ }
     ensures { λ r. ⌜ r ≡ folded (length (now (area .entry)) + wordSum odd (now (area .entry))) ⌝ }
 {
-    number_checksum::add(area.len() as u16, area, odd)
+    number_checksum::add_block(area.len() as u64, area, odd)
 }

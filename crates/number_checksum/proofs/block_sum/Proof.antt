@@ -1,57 +1,49 @@
--- `number_checksum::block_sum` meets its contract. The loop's invariant: the sum of the whole is what the bytes passed weigh, first and second
--- of each pair apart, and the sum of the rest, at either parity.
+-- `number_checksum::block_sum` meets its contract. The loop's invariant: both totals with the sum of the bytes that are left fold to the sum of
+-- the whole. A word of four bytes may stand for them in any such sum (`folded-plus`).
 -- Assumes nothing.
-use mathlib.Core.Path.{_≡_, sym, ap, _∙_}
-use mathlib.Core.Bool.{Bool, true, false}
+use mathlib.Core.Path.{_≡_, ap, _∙_}
+use mathlib.Core.Bool.{true}
 use mathlib.Core.List.{List}
-use mathlib.Core.Logic.{⊎-elim}
-use Prim.Native.Nat.{ℕ, _+_, _*_, _-_, _/_, _≤_, _<_}
+use Prim.Native.Nat.{ℕ, _+_, _*_, _-_, _/_, _≤_}
 use native.Mathlib.Omega.{arith}
+use lib.ListN.{length, drop}
+use Rattle.number_checksum.specs.Checksum.{wordSum, folded}
+use Rattle.number_checksum.proofs.Folding.{folded-plus}
 use borrow.Author.Needs.{needs}
-use lib.ListN.{length, drop, getD}
-use Rattle.number_checksum.specs.Checksum.{wordSum}
-use Rattle.number_checksum.proofs.Laws.{wordSum-two, wordSum-one, wordSum-none}
 use Rattle.number_checksum.proofs.block_sum.Statement.{statement}
 use Rattle.number_checksum.proofs.block_sum.Tie as tie
 
 abbrev Inv-loop : tie.InvT-loop
-Inv-loop bytes odd pairs first₀ second₀ k₀ first second k =
-    (k ≤ pairs) × (pairs ≡ length bytes / 2) × (first ≤ 255 * k) × (second ≤ 255 * k)
-    × (wordSum false bytes ≡ first * 256 + second + wordSum false (drop (2 * k) bytes))
-    × (wordSum true bytes ≡ first + second * 256 + wordSum true (drop (2 * k) bytes))
+Inv-loop bytes steps low₀ high₀ k₀ low high k =
+    (k ≤ steps) × (steps ≡ length bytes / 8) × (low ≤ 4294967295 * k) × (high ≤ 4294967295 * k)
+    × (folded (low + high + wordSum true (drop (8 * k) bytes)) ≡ folded (wordSum true bytes))
 
 abbrev μ-loop : tie.MeasureT-loop
-μ-loop bytes odd pairs first₀ second₀ k₀ first second k = pairs - k
+μ-loop bytes steps low₀ high₀ k₀ low high k = steps - k
 
 loop-holds : tie.Need-loop-holds Inv-loop μ-loop
-loop-holds c = (search needs, search needs, search needs, search needs, omega arith, omega arith)
+loop-holds c = (search needs, search needs, search needs, search needs, ap folded (omega arith))
 
-mul-byte : tie.Need-mul-byte Inv-loop μ-loop
-mul-byte c = omega arith
+mul-word : tie.Need-mul-word Inv-loop μ-loop
+mul-word c = omega arith
 
-shared-slice-read-byte : tie.Need-shared-slice-read-byte Inv-loop μ-loop
-shared-slice-read-byte c = omega arith
+word-requires : tie.Need-word-requires Inv-loop μ-loop
+word-requires c κs = omega arith
 
-byte-requires : tie.Need-byte-requires Inv-loop μ-loop
-byte-requires c κs = search needs
+add-low : tie.Need-add-low Inv-loop μ-loop
+add-low c = omega arith
 
-add-first : tie.Need-add-first Inv-loop μ-loop
-add-first c = omega arith
+mul-word-2 : tie.Need-mul-word-2 Inv-loop μ-loop
+mul-word-2 c = omega arith
 
-mul-byte-2 : tie.Need-mul-byte-2 Inv-loop μ-loop
-mul-byte-2 c = omega arith
+add-word : tie.Need-add-word Inv-loop μ-loop
+add-word c = omega arith
 
-add-byte : tie.Need-add-byte Inv-loop μ-loop
-add-byte c = omega arith
+word-requires-2 : tie.Need-word-requires-2 Inv-loop μ-loop
+word-requires-2 c κs = omega arith
 
-shared-slice-read-byte-2 : tie.Need-shared-slice-read-byte-2 Inv-loop μ-loop
-shared-slice-read-byte-2 c = omega arith
-
-byte-requires-2 : tie.Need-byte-requires-2 Inv-loop μ-loop
-byte-requires-2 c κs = search needs
-
-add-second : tie.Need-add-second Inv-loop μ-loop
-add-second c = omega arith
+add-high : tie.Need-add-high Inv-loop μ-loop
+add-high c = omega arith
 
 add-k : tie.Need-add-k Inv-loop μ-loop
 add-k c = omega arith
@@ -61,77 +53,44 @@ loop-less c = omega arith
 
 loop-again : tie.Need-loop-again Inv-loop μ-loop
 loop-again c =
-    let l = c .before .before .before .before .before in
-    let bs = l .before .before .args .bytes .now in
-    let two = wordSum-two bs (2 * l .loop .k) (omega arith) in
-    let next : 2 * l .loop .k + 2 ≡ 2 * (l .loop .k + 1) = omega arith in
-    let x : c .before .before .byte .result ≡ getD bs (2 * l .loop .k) 0 = c .before .before .byte .ensures .0 in
-    let y : c .byte2 .result ≡ getD bs (2 * l .loop .k + 1) 0 = c .byte2 .ensures .0 in
-    let rest : (p : Bool) → wordSum p (drop (2 * l .loop .k + 2) bs) ≡ wordSum p (drop (2 * (l .loop .k + 1)) bs) =
-    λ p. ap (λ (i : ℕ). wordSum p (drop i bs)) next in
-    (omega arith, search needs, omega arith, omega arith, omega (arith, rest false), omega (arith, rest true))
-
-mul-if1 : tie.Need-mul-if1 Inv-loop μ-loop
-mul-if1 c = omega arith
-
-mul-byte-3 : tie.Need-mul-byte-3 Inv-loop μ-loop
-mul-byte-3 c = omega arith
-
-shared-slice-read-byte-3 : tie.Need-shared-slice-read-byte-3 Inv-loop μ-loop
-shared-slice-read-byte-3 c = omega arith
-
-byte-requires-3 : tie.Need-byte-requires-3 Inv-loop μ-loop
-byte-requires-3 c κs = search needs
-
-add-first-2 : tie.Need-add-first-2 Inv-loop μ-loop
-add-first-2 c = omega arith
-
--- what the two sums are once the byte without a partner is in
-abbrev Whole : List ℕ → ℕ → ℕ → Type 0
-Whole bs first second =
-    (first ≤ 65536 * 255) × (second ≤ 65536 * 255) × (wordSum false bs ≡ first * 256 + second) × (wordSum true bs ≡ first + second * 256)
-
-whole : (c : tie.Joined1 Inv-loop μ-loop) → Whole (c .before .before .before .before .args .bytes .now) (c .if1 .first) (c .before .before .loop .second)
-whole c =
-    let l = c .before .before in
-    let bs = l .before .before .args .bytes .now in
-    let n : ℕ = length bs / 2 in
-    let done : l .loop .k ≡ n = omega arith in
-    let rest : (p : Bool) → wordSum p (drop (2 * l .loop .k) bs) ≡ wordSum p (drop (2 * n) bs) = λ p. ap (λ (i : ℕ). wordSum p (drop (2 * i) bs)) done in
-    ⊎-elim
-    (λ w.
-    let one = wordSum-one bs (2 * n) (omega (arith, w .0 .taken)) in
-    let x : w .2 .result ≡ getD bs (2 * n) 0 = w .2 .ensures .0 in
-    let e : c .if1 .first ≡ l .loop .first + w .2 .result = w .3 in
-    let small : w .2 .result < 256 = w .2 .ensures .1 in
-    (omega arith, omega arith, omega (arith, rest false), omega (arith, rest true)))
-    (λ w.
-    let none : (p : Bool) → wordSum p (drop (2 * n) bs) ≡ 0 = λ p. wordSum-none p bs (2 * n) (omega (arith, w .0 .left)) in
-    let e : c .if1 .first ≡ l .loop .first = w .1 in
-    (omega arith, omega arith, omega (arith, rest false, none false), omega (arith, rest true, none true)))
-    (c .if1 .came)
-
-mul-result : tie.Need-mul-result Inv-loop μ-loop
-mul-result c = omega arith
+    let l = c .before .before .before in
+    let bs : List ℕ = l .before .before .args .bytes .now in
+    let k : ℕ = l .loop .k in
+    let x : ℕ = c .before .word .result in
+    let y : ℕ = c .word2 .result in
+    let sum : ℕ = l .loop .low + l .loop .high in
+    let left : ℕ → ℕ = λ i. wordSum true (drop i bs) in
+    let next : 8 * (k + 1) ≡ 8 * k + 4 + 4 = omega arith in
+    let rest : left (8 * (k + 1)) ≡ left (8 * k + 4 + 4) = ap left next in
+    let second : folded (sum + x + (y + left (8 * k + 4 + 4))) ≡ folded (sum + x + left (8 * k + 4)) =
+    folded-plus (sum + x) (y + left (8 * k + 4 + 4)) (left (8 * k + 4)) (c .word2 .ensures .0) in
+    let first : folded (sum + (x + left (8 * k + 4))) ≡ folded (sum + left (8 * k)) =
+    folded-plus sum (x + left (8 * k + 4)) (left (8 * k)) (c .before .word .ensures .0) in
+    (omega arith, search needs, omega arith, omega arith, ap folded (omega arith) ∙ second ∙ ap folded (omega arith) ∙ first ∙ l .loop .inv .4)
 
 add-result : tie.Need-add-result Inv-loop μ-loop
-add-result c = omega (arith, whole (c .before .before))
+add-result c = omega arith
+
+mul-rest-sum : tie.Need-mul-rest-sum Inv-loop μ-loop
+mul-rest-sum c = omega arith
+
+rest-sum-requires : tie.Need-rest-sum-requires Inv-loop μ-loop
+rest-sum-requires c κs = omega arith
+
+add-result-2 : tie.Need-add-result-2 Inv-loop μ-loop
+add-result-2 c = omega arith
 
 returns : tie.Need-returns Inv-loop μ-loop
 returns c =
-    let w = whole (c .before .before) in
-    (sym (ap (λ (p : Bool). wordSum p (c .before .before .before .before .before .before .args .bytes .now)) (c .before .if2 .taken) ∙ w .3), omega arith)
-
-mul-result-2 : tie.Need-mul-result-2 Inv-loop μ-loop
-mul-result-2 c = omega (arith, whole (c .before .before))
-
-add-result-2 : tie.Need-add-result-2 Inv-loop μ-loop
-add-result-2 c = omega (arith, whole (c .before .before))
-
-returns-2 : tie.Need-returns-2 Inv-loop μ-loop
-returns-2 c =
-    let w = whole (c .before .before) in
-    (sym (ap (λ (p : Bool). wordSum p (c .before .before .before .before .before .before .args .bytes .now)) (c .before .if2 .left) ∙ w .2), omega arith)
+    let l = c .before .before in
+    let bs : List ℕ = l .before .before .args .bytes .now in
+    let sum : ℕ = l .loop .low + l .loop .high in
+    let left : ℕ → ℕ = λ i. wordSum true (drop i bs) in
+    let done : 8 * (length bs / 8) ≡ 8 * l .loop .k = omega arith in (
+      folded-plus sum (c .rest-sum .result) (left (8 * (length bs / 8))) (c .rest-sum .ensures .0)
+          ∙ ap (λ (i : ℕ). folded (sum + left i)) done ∙ l .loop .inv .4,
+      omega arith,
+    )
 
 pub block-sum-spec : {M : Type 1} → statement M
 block-sum-spec =
@@ -140,26 +99,18 @@ block-sum-spec =
     Inv-loop
     μ-loop
     loop-holds
-    mul-byte
-    shared-slice-read-byte
-    byte-requires
-    add-first
-    mul-byte-2
-    add-byte
-    shared-slice-read-byte-2
-    byte-requires-2
-    add-second
+    mul-word
+    word-requires
+    add-low
+    mul-word-2
+    add-word
+    word-requires-2
+    add-high
     add-k
     loop-less
     loop-again
-    mul-if1
-    mul-byte-3
-    shared-slice-read-byte-3
-    byte-requires-3
-    add-first-2
-    mul-result
     add-result
-    returns
-    mul-result-2
+    mul-rest-sum
+    rest-sum-requires
     add-result-2
-    returns-2)
+    returns)

@@ -3,6 +3,7 @@
 use mathlib.Core.List.{List}
 use Prim.Native.Nat.{ℕ, _%_}
 use native.Mathlib.Omega.{arith}
+use lib.ListN.{length-take}
 use Rattle.list_wire.specs.Parts.{listedBytes}
 use Rattle.list_wire.proofs.Laying.{laid-length}
 use Rattle.list_writer.proofs.Blanks.{area-size, blank-size, area-summed}
@@ -16,26 +17,19 @@ put-blank-requires c κs =
     let l : List ℕ = listedBytes (s .args .crc) (s .args .list .now) (s .args .fill) in
     omega (arith, s .pre .0, blank-size (s .args .at) l)
 
-sub-add : tie.Need-sub-add
-sub-add c =
+sub-add-block : tie.Need-sub-add-block
+sub-add-block c =
     let e = c .before .before .put-blank .ensures in
     omega (arith, e .ends)
 
-cast-add : tie.Need-cast-add
-cast-add c =
-    let s = c .before .before .before .before .before .before in
-    let l : List ℕ = listedBytes (s .args .crc) (s .args .list .now) (s .args .fill) in
-    let e = c .before .before .put-blank .ensures in
-    omega (arith, e .ends, s .pre .1, blank-size (s .args .at) l)
+sub-add-block-2 : tie.Need-sub-add-block-2
+sub-add-block-2 c = search needs
 
-sub-add-2 : tie.Need-sub-add-2
-sub-add-2 c = search needs
+part-add-block-start : tie.Need-part-add-block-start
+part-add-block-start c = search needs
 
-part-add-start : tie.Need-part-add-start
-part-add-start c = search needs
-
-part-add-end : tie.Need-part-add-end
-part-add-end c =
+part-add-block-end : tie.Need-part-add-block-end
+part-add-block-end c =
     let on-put-blank = c .before .before .before in
     let s = on-put-blank .before .before .before .before in
     let l : List ℕ = listedBytes (s .args .crc) (s .args .list .now) (s .args .fill) in
@@ -43,8 +37,14 @@ part-add-end c =
     let size = blank-size (s .args .at) l in
     omega (arith, e .ends, s .pre .0, size, laid-length e (omega (arith, s .pre .0, size)))
 
-add-requires : tie.Need-add-requires
-add-requires c κs = search needs
+add-block-requires : tie.Need-add-block-requires
+add-block-requires c κs =
+    let on-put-blank = c .before .before .before .before in
+    let s = on-put-blank .before .before .before .before in
+    let l : List ℕ = listedBytes (s .args .crc) (s .args .list .now) (s .args .fill) in
+    let e = on-put-blank .put-blank .ensures in
+    let size = blank-size (s .args .at) l in
+    (omega (arith, e .ends, s .pre .1, size), simp length-take (omega (arith, e .ends, s .pre .1, size)))
 
 add-put-u16 : tie.Need-add-put-u16
 add-put-u16 c = search needs
@@ -72,20 +72,19 @@ returns c =
     let on-put-blank = on-add .before .before .before .before .before in
     let s = on-put-blank .before .before .before .before in
     let l : List ℕ = listedBytes (s .args .crc) (s .args .list .now) (s .args .fill) in
-    area-summed (s .args .at) l (on-add .add .result) (on-field .field .result) (on-put-blank .put-blank .ensures) (s .pre .0)
-    (on-add .add .ensures) (on-field .field .ensures) (c .before .before .put-u16 .ensures)
+    area-summed (s .args .at) l (on-add .add-block .result) (on-field .field .result) (on-put-blank .put-blank .ensures) (s .pre .0)
+    (on-add .add-block .ensures) (on-field .field .ensures) (c .before .before .put-u16 .ensures)
 
 pub put-area-spec : {M : Type 1} → statement M
 put-area-spec =
     tie.close
     (tie.spec
     put-blank-requires
-    sub-add
-    cast-add
-    sub-add-2
-    part-add-start
-    part-add-end
-    add-requires
+    sub-add-block
+    sub-add-block-2
+    part-add-block-start
+    part-add-block-end
+    add-block-requires
     add-put-u16
     field-requires
     put-u16-requires

@@ -1,77 +1,73 @@
--- `wire_datagram::reading::udp_sum` meets its contract: folding early changes nothing, and the pseudo-header's sum is that of its parts.
+-- `wire_datagram::reading::udp_sum` meets its contract: an address folds as the sum of its two words (`pseudo-folds`).
 -- Assumes nothing.
+use mathlib.Core.Path.{_≡_, ap₂, _∙_}
 use mathlib.Core.Bool.{false}
 use mathlib.Core.List.{List}
 use mir.Syntax.{w8}
-use Prim.Native.Nat.{ℕ, _+_, _%_}
-use native.Mathlib.Nat.{zero-add}
+use Prim.Native.Nat.{ℕ, _+_}
 use borrow.Kind.Array.{good-length, eInt}
 use lib.ListN.{length}
 use Rattle.number_checksum.specs.Checksum.{folded, wordSum}
-use mathlib.Core.Path.{_≡_, sym, ap, _∙_}
-use Rattle.number_checksum.proofs.Laws.{folded-add}
-use Rattle.wire_datagram.proofs.Sums.{pseudo-sum}
+use Rattle.wire_datagram.proofs.Sums.{pseudo-folds}
 use borrow.Author.Needs.{needs}
 use Rattle.wire_datagram.proofs.reading.udp_sum.Statement.{statement}
 use Rattle.wire_datagram.proofs.reading.udp_sum.Tie as tie
 
--- five numbers added one after the other, folded each time
-five-sums : (a b d e f : ℕ) {p q r s t : ℕ} → p ≡ folded (0 + a) → q ≡ folded (p + b) → r ≡ folded (q + d) → s ≡ folded (r + e) → t ≡ folded (s + f)
-    → t ≡ folded (a + b + d + e + f)
-five-sums a b d e f hp hq hr hs ht =
-    let one = hp ∙ ap folded (zero-add a) in
-    let two = hq ∙ ap (λ (x : ℕ). folded (x + b)) one ∙ folded-add a b in
-    let three = hr ∙ ap (λ (x : ℕ). folded (x + d)) two ∙ folded-add (a + b) d in
-    let four = hs ∙ ap (λ (x : ℕ). folded (x + e)) three ∙ folded-add (a + b + d) e in
-    ht ∙ ap (λ (x : ℕ). folded (x + f)) four ∙ folded-add (a + b + d + e) f
+slice-aggregate-get-u32 : tie.Need-slice-aggregate-get-u32
+slice-aggregate-get-u32 c = search needs
 
-slice-aggregate-add : tie.Need-slice-aggregate-add
-slice-aggregate-add c = search needs
+get-u32-requires : tie.Need-get-u32-requires
+get-u32-requires c κs = search needs
 
-add-requires : tie.Need-add-requires
-add-requires c κs = search needs
+cast-addresses : tie.Need-cast-addresses
+cast-addresses c = search needs
 
-slice-aggregate-add-2 : tie.Need-slice-aggregate-add-2
-slice-aggregate-add-2 c = search needs
+slice-aggregate-get-u32-2 : tie.Need-slice-aggregate-get-u32-2
+slice-aggregate-get-u32-2 c = search needs
 
-add-requires-2 : tie.Need-add-requires-2
-add-requires-2 c κs = search needs
+get-u32-requires-2 : tie.Need-get-u32-requires-2
+get-u32-requires-2 c κs = search needs
 
-add-word-requires : tie.Need-add-word-requires
-add-word-requires c κs = search needs
+cast-addresses-2 : tie.Need-cast-addresses-2
+cast-addresses-2 c = search needs
 
-cast-add-word : tie.Need-cast-add-word
-cast-add-word c = search needs
+add-addresses : tie.Need-add-addresses
+add-addresses c = search needs
 
-add-word-requires-2 : tie.Need-add-word-requires-2
-add-word-requires-2 c κs = search needs
+add-add-block : tie.Need-add-add-block
+add-add-block c = search needs
 
-add-requires-3 : tie.Need-add-requires-3
-add-requires-3 c κs = search needs
+add-add-block-2 : tie.Need-add-add-block-2
+add-add-block-2 c = search needs
+
+add-block-requires : tie.Need-add-block-requires
+add-block-requires c κs = search needs
 
 returns : tie.Need-returns
 returns c =
-    let start = c .before .before .before .before .before .before .before .before in
+    let second = c .before in
+    let first = second .before .before in
+    let start = first .before .before .before in
     let a = start .args in
     let d : List ℕ = a .datagram .now in
     let s : length (a .t2) ≡ 4 = good-length (eInt w8) 4 (a .t2) _ (start .good .1 .0) in
     let t : length (a .t3) ≡ 4 = good-length (eInt w8) 4 (a .t3) _ (start .good .1 .1 .0) in
-    let parts = pseudo-sum (a .t2) (a .t3) (length d) d (ap (λ (n : ℕ). n % 2) s) (ap (λ (n : ℕ). n % 2) t) (start .pre) in
-    five-sums (wordSum false (a .t2)) (wordSum false (a .t3)) 17 (length d) (wordSum false d)
-    (c .before .before .before .before .before .add .ensures) (c .before .before .before .add2 .ensures) (c .before .before .add-word .ensures)
-    (c .before .add-word2 .ensures) (c .add3 .ensures)
-    ∙ ap folded (sym parts)
+    c .add-block .ensures
+    ∙ ap₂ (λ (x y : ℕ). folded (x + y + 17 + length d + wordSum false d)) (first .get-u32 .ensures) (second .get-u322 .ensures)
+    ∙ pseudo-folds (a .t2) (a .t3) (length d) d s t (start .pre)
 
 pub udp-sum-spec : {M : Type 1} → statement M
 udp-sum-spec =
     tie.close
     (tie.spec
-    slice-aggregate-add
-    add-requires
-    slice-aggregate-add-2
-    add-requires-2
-    add-word-requires
-    cast-add-word
-    add-word-requires-2
-    add-requires-3
+    slice-aggregate-get-u32
+    get-u32-requires
+    cast-addresses
+    slice-aggregate-get-u32-2
+    get-u32-requires-2
+    cast-addresses-2
+    add-addresses
+    add-add-block
+    add-add-block-2
+    add-block-requires
     returns)
