@@ -2,6 +2,7 @@
 //
 // Eight bytes are added at a step, as two little-endian numbers of 32 bits. Folded, such a number is the sum of its two halves, and
 // 256 times a little-endian sum is the big-endian one: so one fold at the end gives the sum of the 16-bit words, at either parity.
+use std::num;
 ghost use mathlib.Core.Path.{_≡_};
 ghost use mathlib.Core.Bool.{true};
 ghost use Prim.Native.Nat.{_+_, _≤_, _<_};
@@ -12,6 +13,9 @@ ghost use Rattle.number_checksum.specs.Checksum.{wordSum, folded, sent};
 const BLOCK: usize = 65536;
 
 const ALL_ONES: u64 = 65535;
+
+// Parts the halves of eight bytes.
+const HALF: u64 = 0x1_0000_0000;
 
 // A running sum with the bytes of a slice added. `odd` says that the first byte stands at an odd offset.
 pub fn add(running: u16, bytes: &[u8], odd: bool) -> u16
@@ -56,21 +60,25 @@ pub fn field(sum: u16) -> u16
     65535 - sum
 }
 
-// The little-endian sum of one block, unfolded.
+// The little-endian sum of one block, unfolded. Eight bytes are added at a step as they stand, wrapping, and their high halves apart: less
+// those, what was added is the low halves, which can't have wrapped.
 fn block_sum(bytes: &[u8]) -> u64
     requires { ⌜ length (now bytes) ≤ 65536 ⌝ }
     ensures { λ r. ⌜ folded r ≡ folded (wordSum true (now (bytes .entry))) ⌝ }
     ensures { λ r. ⌜ r ≤ 140737488355328 ⌝ }
 {
     let steps = bytes.len() / 8;
-    let mut low: u64 = 0;
+    let mut added: u64 = 0;
     let mut high: u64 = 0;
     let mut k = 0;
     while k < steps {
-        low += word(bytes, 8 * k);
-        high += word(bytes, 8 * k + 4);
+        let first = word(bytes, 8 * k);
+        let second = word(bytes, 8 * k + 4);
+        added = num::wrapping_add_u64(added, first + second * HALF);
+        high += second;
         k += 1;
     }
+    let low = num::wrapping_sub_u64(added, high % HALF * HALF);
     low + high + rest_sum(bytes, 8 * steps)
 }
 
