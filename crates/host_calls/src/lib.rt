@@ -10,6 +10,7 @@ use host_values::Listing;
 use host_values::Received;
 use host_values::Written;
 use number_offsets::OriginalOffset;
+use wire_datagram::parts;
 use wire_datagram::reading;
 use wire_datagram::reading::Extent;
 use wire_original::OriginalExtent;
@@ -37,7 +38,7 @@ pub extern "C" fn wuraketozo_read(payload: &[u8], source: Address, destination: 
 {
     let from = source.octets;
     let to = destination.octets;
-    host_readings::reading_of(reading::read(payload, from, to))
+    host_readings::reading_of(parts::outcome_of(reading::examine(payload, from, to)))
 }
 
 // Reads an original again that was put together from fragments.

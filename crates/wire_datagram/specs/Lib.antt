@@ -2,3 +2,4 @@ pub mod Verdict
 pub mod Extents
 pub mod Reading
 pub mod ByWalk
+pub mod Parts

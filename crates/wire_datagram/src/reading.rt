@@ -1,4 +1,6 @@
 // The reading of a payload: refusals in order, the user data's extent, and a verdict on the surplus area.
+use crate::parts;
+use crate::parts::Examined;
 use number_offsets::PacketOffset;
 use number_offsets::UDP_HEADER;
 use wire_area::Area;
@@ -14,6 +16,7 @@ ghost use Rattle.wire_area.specs.Area.{areaOf};
 ghost use Rattle.wire_surplus.specs.Surplus.{startOf};
 ghost use Rattle.wire_datagram.specs.Reading.{payloadLimit, pseudoHeader, udpSum, isOdd, optionless, verdictOf, walked, noData, started, reading, answerOf, isRead};
 ghost use Rattle.wire_datagram.specs.ByWalk.{apcBy};
+ghost use Rattle.wire_datagram.specs.Parts.{outcomeOf};
 
 // An IPv4 packet of 65,535 bytes less its header.
 pub const PAYLOAD_LIMIT: usize = 65515;
@@ -77,26 +80,33 @@ pub enum Outcome {
 pub fn read(payload: &[u8], source: [u8; 4], destination: [u8; 4]) -> Outcome
     ensures { λ r. ⌜ answerOf r ≡ reading (now (payload .entry)) source destination ⌝ }
 {
+    parts::outcome_of(examine(payload, source, destination))
+}
+
+// The same, in parts.
+pub fn examine(payload: &[u8], source: [u8; 4], destination: [u8; 4]) -> Examined
+    ensures { λ r. ⌜ answerOf (outcomeOf r) ≡ reading (now (payload .entry)) source destination ⌝ }
+{
     if payload.len() < UDP_HEADER {
-        return Outcome::Refused(Refusal::PayloadTooShort);
+        return Examined::Refused(Refusal::PayloadTooShort);
     }
     if PAYLOAD_LIMIT < payload.len() {
-        return Outcome::Refused(Refusal::PayloadTooLong);
+        return Examined::Refused(Refusal::PayloadTooLong);
     }
     let size = number_octets::get_u16(payload, 4) as usize;
     if size < UDP_HEADER {
-        return Outcome::Refused(Refusal::LengthOutOfRange);
+        return Examined::Refused(Refusal::LengthOutOfRange);
     }
     if payload.len() < size {
-        return Outcome::Refused(Refusal::LengthOutOfRange);
+        return Examined::Refused(Refusal::LengthOutOfRange);
     }
     let checksum = number_octets::get_u16(payload, 6);
     if checksum != 0 {
         if udp_sum(&payload[..size], source, destination) != 65535 {
-            return Outcome::Refused(Refusal::ChecksumWrong);
+            return Examined::Refused(Refusal::ChecksumWrong);
         }
     }
-    Outcome::Accepted(accept(payload, size, checksum == 0))
+    Examined::Accepted(parts::parts_of(accept(payload, size, checksum == 0)))
 }
 
 // The sum over the pseudo-header and a datagram, for the reader and for the writer.

@@ -1,19 +1,26 @@
 -- `host_calls::wuraketozo_read` meets its contract: the value of the reading.
 -- Assumes nothing.
 use mathlib.Core.Path.{ap, _∙_}
+use Rattle.wire_datagram.specs.Reading.{answerOf}
+use Rattle.wire_datagram.specs.declared.reading.Outcome.{Outcome}
 use Rattle.host_readings.specs.Reading.{hostReading}
 use borrow.Author.Needs.{needs}
 use Rattle.host_calls.proofs.wuraketozo_read.Statement.{statement}
 use Rattle.host_calls.proofs.wuraketozo_read.Tie as tie
 
-read-requires : tie.Need-read-requires
-read-requires c κs = search needs
+examine-requires : tie.Need-examine-requires
+examine-requires c κs = search needs
+
+outcome-of-requires : tie.Need-outcome-of-requires
+outcome-of-requires c κs = search needs
 
 reading-of-requires : tie.Need-reading-of-requires
 reading-of-requires c κs = search needs
 
 returns : tie.Need-returns
-returns c = c .reading-of .ensures ∙ ap hostReading (c .before .read .ensures)
+returns c =
+    c .reading-of .ensures ∙ ap (λ (o : Outcome). hostReading (answerOf o)) (c .before .outcome-of .ensures)
+    ∙ ap hostReading (c .before .before .examine .ensures)
 
 pub wuraketozo-read-spec : {M : Type 1} → statement M
-wuraketozo-read-spec = tie.close (tie.spec read-requires reading-of-requires returns)
+wuraketozo-read-spec = tie.close (tie.spec examine-requires outcome-of-requires reading-of-requires returns)
