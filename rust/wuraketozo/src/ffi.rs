@@ -224,6 +224,7 @@ mod c {
 #[used]
 static LAYOUT: unsafe extern "C" fn() -> usize = c::wuraketozo_layout_2;
 
+#[inline]
 pub fn read(payload: &[u8], source: [u8; 4], destination: [u8; 4]) -> Reading {
     // SAFETY: see the head of this file.
     unsafe {
@@ -236,6 +237,7 @@ pub fn read(payload: &[u8], source: [u8; 4], destination: [u8; 4]) -> Reading {
     }
 }
 
+#[inline]
 pub fn reread(original: &[u8], option_start: Place) -> Rereading {
     // SAFETY: see the head of this file.
     unsafe { c::wuraketozo_reread(original.as_ptr(), original.len(), option_start) }
@@ -275,6 +277,7 @@ pub fn relist(
 }
 
 #[allow(clippy::too_many_arguments)]
+#[inline]
 pub fn write(
     source: [u8; 4],
     destination: [u8; 4],

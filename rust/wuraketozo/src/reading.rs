@@ -84,7 +84,8 @@ impl Verdict {
     }
 
     /// The verdict of a number; a piece has the fragment.
-    fn of(number: u32, fragment: Option<Fragment>) -> Result<Verdict, Refusal> {
+    #[inline]
+    fn of(number: u32, fragment: impl FnOnce() -> Option<Fragment>) -> Result<Verdict, Refusal> {
         Ok(match number {
             0 => Verdict::Bare,
             1 => Verdict::Short,
@@ -96,7 +97,7 @@ impl Verdict {
             7 => Verdict::FragData,
             8 => Verdict::Crowded,
             9 => Verdict::Read,
-            10 => Verdict::Piece(fragment.ok_or(Refusal::Unknown)?),
+            10 => Verdict::Piece(fragment().ok_or(Refusal::Unknown)?),
             _ => return Err(Refusal::Unknown),
         })
     }
@@ -114,6 +115,7 @@ pub enum Apc {
 }
 
 impl Apc {
+    #[inline]
     fn of(number: u32) -> Result<Apc, Refusal> {
         Ok(match number {
             0 => Apc::None,
@@ -147,20 +149,23 @@ impl Reading {
         payload.get(self.user.clone()).unwrap_or(&[])
     }
 
+    #[inline]
     pub(crate) fn of(raw: ffi::Reading) -> Result<Reading, Refusal> {
         if raw.refusal != 0 {
             return Err(Refusal::of(raw.refusal));
         }
-        let fragment = Fragment {
-            identification: raw.identification,
-            place: raw.place,
-            bytes: raw.part.from..raw.part.to,
-            last: raw.last != 0,
-            option_start: raw.option_start,
+        let fragment = || {
+            Some(Fragment {
+                identification: raw.identification,
+                place: raw.place,
+                bytes: raw.part.from..raw.part.to,
+                last: raw.last != 0,
+                option_start: raw.option_start,
+            })
         };
         Ok(Reading {
             user: raw.user.from..raw.user.to,
-            verdict: Verdict::of(raw.verdict, Some(fragment))?,
+            verdict: Verdict::of(raw.verdict, fragment)?,
             options: raw.options.from..raw.options.to,
             count: raw.count,
             fill: raw.fill,
@@ -194,13 +199,14 @@ impl Rereading {
         original.get(start.0..end.0).unwrap_or(&[])
     }
 
+    #[inline]
     fn of(raw: ffi::Rereading) -> Result<Rereading, Refusal> {
         if raw.refusal != 0 {
             return Err(Refusal::of(raw.refusal));
         }
         Ok(Rereading {
             user: raw.user.from..raw.user.to,
-            verdict: Verdict::of(raw.verdict, None)?,
+            verdict: Verdict::of(raw.verdict, || None)?,
             options: raw.options.from..raw.options.to,
             count: raw.count,
             fill: raw.fill,
@@ -224,6 +230,7 @@ impl Rereading {
 /// assert_eq!(reading.count, 1);
 /// # Ok::<(), wuraketozo::Refusal>(())
 /// ```
+#[inline]
 pub fn read(payload: &[u8], source: [u8; 4], destination: [u8; 4]) -> Result<Reading, Refusal> {
     Reading::of(ffi::read(payload, source, destination))
 }
@@ -242,6 +249,7 @@ pub fn read(payload: &[u8], source: [u8; 4], destination: [u8; 4]) -> Result<Rea
 /// assert_eq!(past, Err(Refusal::OptionStartPastOriginal));
 /// # Ok::<(), Refusal>(())
 /// ```
+#[inline]
 pub fn reread(original: &[u8], option_start: Place) -> Result<Rereading, Refusal> {
     Rereading::of(ffi::reread(original, option_start))
 }

@@ -22,6 +22,7 @@ use crate::refusal::Refusal;
 /// assert_eq!(buffer[8..length], [0xF8, 0xC5, 6, 6, 0, 0, 1, 0x2C]);
 /// # Ok::<(), wuraketozo::Refusal>(())
 /// ```
+#[inline]
 pub fn write(
     flow: &Flow,
     user: &[u8],
