@@ -3,3 +3,4 @@ pub mod Extents
 pub mod Reading
 pub mod ByWalk
 pub mod Parts
+pub mod Sums

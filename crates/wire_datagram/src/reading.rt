@@ -17,6 +17,7 @@ ghost use Rattle.wire_surplus.specs.Surplus.{startOf};
 ghost use Rattle.wire_datagram.specs.Reading.{payloadLimit, pseudoHeader, udpSum, isOdd, optionless, verdictOf, walked, noData, started, reading, answerOf, isRead};
 ghost use Rattle.wire_datagram.specs.ByWalk.{apcBy};
 ghost use Rattle.wire_datagram.specs.Parts.{outcomeOf};
+ghost use Rattle.wire_datagram.specs.Sums.{Begins};
 
 // An IPv4 packet of 65,535 bytes less its header.
 pub const PAYLOAD_LIMIT: usize = 65515;
@@ -109,14 +110,27 @@ pub fn examine(payload: &[u8], source: [u8; 4], destination: [u8; 4]) -> Examine
     Examined::Accepted(parts::parts_of(accept(payload, size, checksum == 0)))
 }
 
-// The sum over the pseudo-header and a datagram, for the reader and for the writer.
-pub fn udp_sum(datagram: &[u8], source: [u8; 4], destination: [u8; 4]) -> u16
+// The sum over the pseudo-header and a datagram.
+fn udp_sum(datagram: &[u8], source: [u8; 4], destination: [u8; 4]) -> u16
     requires { ⌜ length (now datagram) ≤ 65535 ⌝ }
     ensures { λ r. ⌜ r ≡ udpSum (pseudoHeader source destination (length (now (datagram .entry)))) (now (datagram .entry)) ⌝ }
 {
+    number_checksum::add_block(
+        pseudo_sum(source, destination, datagram.len()),
+        datagram,
+        false,
+    )
+}
+
+// The pseudo-header of a datagram of `size` bytes as a sum that is not folded yet, for the reader and for the writer.
+pub fn pseudo_sum(source: [u8; 4], destination: [u8; 4], size: usize) -> u64
+    requires { ⌜ size ≤ 65535 ⌝ }
+    ensures { λ r. ⌜ Begins r (pseudoHeader source destination size) ⌝ }
+    ensures { λ r. ⌜ r ≤ 17179869184 ⌝ }
+{
     let addresses = number_octets::get_u32(&source, 0) as u64
         + number_octets::get_u32(&destination, 0) as u64;
-    number_checksum::add_block(addresses + UDP + datagram.len() as u64, datagram, false)
+    addresses + UDP + size as u64
 }
 
 // The reading of a payload that no refusal meets. `unused`: the UDP checksum is zero.

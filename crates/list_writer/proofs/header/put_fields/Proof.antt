@@ -1,11 +1,11 @@
--- `list_writer::header::put_blank` meets its contract: the fields and the data are laid one behind the other.
+-- `list_writer::header::put_fields` meets its contract: the fields and the data are laid one behind the other.
 -- Assumes nothing.
 use mathlib.Core.List.{[]}
 use Rattle.list_wire.specs.Parts.{plainly}
 use Rattle.list_writer.proofs.Blanks.{datagram-laid}
 use borrow.Author.Needs.{needs}
-use Rattle.list_writer.proofs.header.put_blank.Statement.{statement}
-use Rattle.list_writer.proofs.header.put_blank.Tie as tie
+use Rattle.list_writer.proofs.header.put_fields.Statement.{statement}
+use Rattle.list_writer.proofs.header.put_fields.Tie as tie
 
 put-u16-requires : tie.Need-put-u16-requires
 put-u16-requires c κs = search needs
@@ -43,12 +43,12 @@ returns c =
     let on-put-u16 = on-put-u162 .before .before .before .before in
     let s = on-put-u16 .before .before .before .before in
     let a = s .args in
-    datagram-laid (a .buffer .now) _ _ _ _ _ (plainly [] [] (a .source-port) (a .destination-port) (a .«data» .now)) (s .pre .1)
+    datagram-laid (a .buffer .now) _ _ _ _ _ (plainly [] [] (a .source-port) (a .destination-port) (a .«data» .now)) (a .checksum) (s .pre .1)
     (on-put-u16 .put-u16 .ensures) (on-put-u162 .put-u162 .ensures) (on-put-u163 .put-u163 .ensures) (on-put-u164 .put-u164 .ensures)
     (c .before .before .copy .ensures)
 
-pub put-blank-spec : {M : Type 1} → statement M
-put-blank-spec =
+pub put-fields-spec : {M : Type 1} → statement M
+put-fields-spec =
     tie.close
     (tie.spec
     put-u16-requires
