@@ -7,8 +7,9 @@ use Prim.Native.Nat.{ℕ, zero, suc, _+_, _-_, _%_, _≤_, _<_}
 use native.Mathlib.Omega.{arith}
 use lib.Dec.{eqb}
 use lib.ListN.{length, take, drop, replicate, length-append, length-replicate}
+use lib.Seq.{length-take-le, take-append-seam, drop-at}
 use Rattle.number_octets.specs.Octets.{octets, overlay}
-use Rattle.number_octets.proofs.Laws.{length-octets, part-overlay}
+use Rattle.number_octets.proofs.Laws.{length-octets}
 use Rattle.number_offsets.specs.Offsets.{udpHeader}
 use Rattle.number_checksum.specs.Checksum.{wordSum, folded, sent}
 use Rattle.number_checksum.proofs.Laws.{wordSum-word}
@@ -41,36 +42,61 @@ blank-size at l =
     let zeros : List ℕ = replicate n 0 in
     length-append zeros l ∙ ap (λ (k : ℕ). k + length l) (length-replicate {A = ℕ} n 0) ∙ sym (area-size (at % 2) (omega arith) l)
 
-module _ {t u : List ℕ} (at : ℕ) {end : ℕ} (l : List ℕ) (sum field : ℕ) (p : Laid t at (replicate (at % 2 + 2) 0 ++ l) u end)
-    (fits : at + length (areaOf (isOdd at) l) ≤ length t) where
+-- bytes laid in front of others that stand already
+pub laid-under : {t u v : List ℕ} (S B : List ℕ) {size end laid : ℕ} → Laid t size B u end → Laid u 0 S v laid → length S ≡ size
+    → size + length B ≤ length t → Laid t 0 (S ++ B) v end
+laid-under {t} {u} S B {size} p q n fits =
+    let both : length (S ++ B) ≡ length S + length B = length-append S B in
+    let front : 0 + length S ≡ size = omega arith in
+    let back : size + length B ≡ 0 + length (S ++ B) = omega arith in
+    let behind : drop (0 + length S) u ≡ B ++ drop (size + length B) t =
+    ap₂ drop front (p .over) ∙ drop-at (take size t) (B ++ drop (size + length B) t) size (length-take-le size t (omega arith)) in
+    record {
+      over = q .over ∙ ap (λ (x : List ℕ). S ++ x) behind ∙ sym (append-assoc S B (drop (size + length B) t))
+          ∙ ap (λ (k : ℕ). (S ++ B) ++ drop k t) back;
+      ends = p .ends ∙ omega arith;
+    }
+
+-- the area behind a datagram, with its checksum set
+module _ {t v : List ℕ} (S : List ℕ) (size : ℕ) {end : ℕ} (l : List ℕ) (p : Laid t 0 (S ++ (replicate (size % 2 + 2) 0 ++ l)) v end)
+    (n : length S ≡ size) (fits : size + length (areaOf (isOdd size) l) ≤ length t) where
   abbrev odd : Bool
-  odd = isOdd at
+  odd = isOdd size
 
   abbrev blank : List ℕ
   blank = areaWith odd (0 ∷ 0 ∷ []) l
 
-  p′ : Laid t at blank u end
-  p′ = laid-as (blank-is (at % 2) (omega arith) l) p
+  p′ : Laid t 0 (S ++ blank) v end
+  p′ = laid-as (ap (λ (x : List ℕ). S ++ x) (blank-is (size % 2) (omega arith) l)) p
 
-  room : at + length blank ≤ length t
-  room = omega (arith, fits, ap length (blank-is (at % 2) (omega arith) l), blank-size at l)
+  long : length blank ≡ length (areaOf odd l)
+  long = sym (ap length (blank-is (size % 2) (omega arith) l)) ∙ blank-size size l
 
-  span : end - at ≡ length blank
-  span = omega (arith, p′ .ends)
+  both : length (S ++ blank) ≡ length S + length blank
+  both = length-append S blank
 
-  there : take (end - at) (drop at u) ≡ blank
-  there = ap₂ (λ (n : ℕ) (x : List ℕ). take n (drop at x)) span (p′ .over) ∙ part-overlay t at blank room
+  span : end - size ≡ length blank
+  span = omega (arith, p′ .ends, both)
 
-  pub area-summed : {v : List ℕ} → sum ≡ folded (end - at + wordSum odd (take (end - at) (drop at u))) → field ≡ sent sum
-      → v ≡ overlay u (at + at % 2) (octets 2 field)
-      → Laid t at (areaOf odd l) v end
-  area-summed s f e =
-      let is : field ≡ ocsFor odd l =
-      f ∙ ap sent (s ∙ ap₂ (λ (n : ℕ) (x : List ℕ). folded (n + wordSum odd x)) span there) in
-      let place : at + at % 2 ≡ at + length (padding odd) = ap (λ (n : ℕ). at + n) (sym (pad-size (at % 2) (omega arith))) in
-      laid-as (ap (λ (w : ℕ). areaWith odd (octets 2 w) l) is ∙ sym (area-is odd l))
-      (laid-replace (padding odd) (0 ∷ 0 ∷ []) (octets 2 field) l p′ (e ∙ ap (λ (n : ℕ). overlay u n (octets 2 field)) place)
-      (length-octets 2 field) room)
+  there : take (end - size) (drop size v) ≡ blank
+  there =
+      let rest : List ℕ = drop (0 + length (S ++ blank)) t in
+      ap₂ (λ (k : ℕ) (x : List ℕ). take k (drop size x)) span (p′ .over ∙ append-assoc S blank rest)
+      ∙ ap (take (length blank)) (drop-at S (blank ++ rest) size n) ∙ take-append-seam blank rest
+
+  pub payload-summed : {w : List ℕ}
+      → w ≡ overlay v (size + size % 2) (octets 2 (sent (folded (end - size + wordSum odd (take (end - size) (drop size v))))))
+      → Laid t 0 (S ++ areaOf odd l) w end
+  payload-summed e =
+      let field : ℕ = sent (folded (end - size + wordSum odd (take (end - size) (drop size v)))) in
+      let is : field ≡ ocsFor odd l = ap sent (ap₂ (λ (k : ℕ) (x : List ℕ). folded (k + wordSum odd x)) span there) in
+      let pad : length (S ++ padding odd) ≡ length S + length (padding odd) = length-append S (padding odd) in
+      let place : size + size % 2 ≡ 0 + length (S ++ padding odd) = omega (arith, pad-size (size % 2) (omega arith)) in
+      let apart : (z : List ℕ) → S ++ (padding odd ++ (z ++ l)) ≡ (S ++ padding odd) ++ (z ++ l) = λ z. sym (append-assoc S (padding odd) (z ++ l)) in
+      let room : 0 + length ((S ++ padding odd) ++ ((0 ∷ 0 ∷ []) ++ l)) ≤ length t = omega (arith, ap length (apart (0 ∷ 0 ∷ [])), both, long) in
+      laid-as (sym (apart (octets 2 field)) ∙ ap (λ (w : ℕ). S ++ areaWith odd (octets 2 w) l) is ∙ ap (λ (x : List ℕ). S ++ x) (sym (area-is odd l)))
+      (laid-replace (S ++ padding odd) (0 ∷ 0 ∷ []) (octets 2 field) l (laid-as (apart (0 ∷ 0 ∷ [])) p′)
+      (e ∙ ap (λ (k : ℕ). overlay v k (octets 2 field)) place) (length-octets 2 field) room)
 
 -- ---- the datagram
 

@@ -4,12 +4,14 @@ use list_encoding::entry::Entry;
 use list_encoding::entry::Field;
 use list_wire::apc::COUNTS;
 use list_wire::wire;
+ghost use mathlib.Core.Path.{_≡_};
 ghost use mathlib.Core.List.{_++_};
-ghost use Prim.Native.Nat.{_+_, _%_, _≤_};
+ghost use Prim.Native.Nat.{_+_, _-_, _%_, _≤_};
 ghost use lib.ListN.{length, drop, replicate};
+ghost use Rattle.number_octets.specs.Octets.{octets, part, overlay};
+ghost use Rattle.number_checksum.specs.Checksum.{wordSum, folded, sent};
 ghost use Rattle.wire_datagram.specs.Reading.{isOdd};
 ghost use Rattle.list_encoding.specs.Encoding.{readOption};
-ghost use Rattle.list_payload.specs.Payload.{areaOf};
 ghost use Rattle.list_wire.specs.Parts.{Laid, Passes, wireRead, wiresRead, wiresListed, listedBytes};
 
 // Where the next option stands in the list, and where the one before it ends in the buffer.
@@ -18,20 +20,19 @@ struct Passed {
     end: usize,
 }
 
-// The area of a datagram of `at` bytes: pad, option checksum, the options of the list, and the fill. The answer is where it ends.
-pub fn put_area(list: &[u8], crc: u32, fill: u8, buffer: &mut [u8], at: usize) -> usize
-    requires { ⌜ (at + length (areaOf (isOdd at) (listedBytes crc (now list) fill)) ≤ length (now buffer))
-        × (length (areaOf (isOdd at) (listedBytes crc (now list) fill)) ≤ 65535) ⌝ }
-    ensures { λ r. ⌜ Laid (now (buffer .entry)) at (areaOf (isOdd at) (listedBytes crc (now (list .entry)) fill)) (now (buffer .exit)) r ⌝ }
+// The option checksum of the area from `at` to `end`, put in its place. It comes last: bytes that were just stored would have to be waited for.
+pub fn put_ocs(buffer: &mut [u8], at: usize, end: usize)
+    requires { ⌜ (at + at % 2 + 2 ≤ end) × (end ≤ length (now buffer)) × (end ≤ at + 65535) ⌝ }
+    ensures { λ _. ⌜ now (buffer .exit) ≡ overlay (now (buffer .entry)) (at + at % 2)
+        (octets 2 (sent (folded (end - at + wordSum (isOdd at) (part at (end - at) (now (buffer .entry))))))) ⌝ }
 {
-    let end = put_blank(list, crc, fill, buffer, at);
     let sum = number_checksum::add_block((end - at) as u64, &buffer[at..end], at % 2 == 1);
     number_octets::put_u16(buffer, at + at % 2, number_checksum::field(sum));
-    end
 }
 
-// The area with an option checksum of zero.
-fn put_blank(list: &[u8], crc: u32, fill: u8, buffer: &mut [u8], at: usize) -> usize
+// The area of a datagram of `at` bytes with an option checksum of zero: pad, checksum, the options of the list, and the fill. The answer is where
+// it ends.
+pub fn put_blank(list: &[u8], crc: u32, fill: u8, buffer: &mut [u8], at: usize) -> usize
     requires { ⌜ at + length (replicate (at % 2 + 2) 0 ++ listedBytes crc (now list) fill) ≤ length (now buffer) ⌝ }
     ensures { λ r. ⌜ Laid (now (buffer .entry)) at (replicate (at % 2 + 2) 0 ++ listedBytes crc (now (list .entry)) fill) (now (buffer .exit)) r ⌝ }
 {

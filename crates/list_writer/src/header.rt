@@ -12,7 +12,7 @@ ghost use Rattle.list_wire.specs.Parts.{Laid, plainly, summed};
 // Where the checksum stands.
 const CHECKSUM: usize = 6;
 
-// Header and data, with the UDP checksum. The answer is where the data ends.
+// Header and data, with the UDP checksum.
 pub fn put_datagram(
     source: [u8; 4],
     destination: [u8; 4],
@@ -20,10 +20,10 @@ pub fn put_datagram(
     destination_port: u16,
     data: &[u8],
     buffer: &mut [u8],
-) -> usize
+)
     requires { ⌜ (8 + length (now «data») ≤ 65535) × (8 + length (now «data») ≤ length (now buffer)) ⌝ }
-    ensures { λ r. ⌜ Laid (now (buffer .entry)) 0 (summed (plainly source destination «source_port» «destination_port» (now («data» .entry))))
-        (now (buffer .exit)) r ⌝ }
+    ensures { λ _. ⌜ Laid (now (buffer .entry)) 0 (summed (plainly source destination «source_port» «destination_port» (now («data» .entry))))
+        (now (buffer .exit)) (8 + length (now («data» .entry))) ⌝ }
 {
     let sum = datagram_sum(source, destination, source_port, destination_port, data);
     put_fields(
@@ -61,15 +61,14 @@ fn put_fields(
     checksum: u16,
     data: &[u8],
     buffer: &mut [u8],
-) -> usize
+)
     requires { ⌜ (8 + length (now «data») ≤ 65535) × (8 + length (now «data») ≤ length (now buffer)) ⌝ }
-    ensures { λ r. ⌜ Laid (now (buffer .entry)) 0 (datagramWith (plainly [] [] «source_port» «destination_port» (now («data» .entry))) (octets 2 checksum))
-        (now (buffer .exit)) r ⌝ }
+    ensures { λ _. ⌜ Laid (now (buffer .entry)) 0 (datagramWith (plainly [] [] «source_port» «destination_port» (now («data» .entry))) (octets 2 checksum))
+        (now (buffer .exit)) (8 + length (now («data» .entry))) ⌝ }
 {
     number_octets::put_u16(buffer, 0, source_port);
     number_octets::put_u16(buffer, 2, destination_port);
     number_octets::put_u16(buffer, 4, (UDP_HEADER + data.len()) as u16);
     number_octets::put_u16(buffer, CHECKSUM, checksum);
     number_octets::copy(data, buffer, UDP_HEADER);
-    UDP_HEADER + data.len()
 }

@@ -92,7 +92,10 @@ fn put_payload(
         (payloadFrom (plainly source destination «source_port» «destination_port» (now («data» .entry))) (now (list .entry)) fill)
         (now (buffer .exit)) r ⌝ }
 {
-    let size = header::put_datagram(
+    let crc = list_wire::apc::crc_for(list, data);
+    let size = UDP_HEADER + data.len();
+    let end = area::put_blank(list, crc, fill, buffer, size);
+    header::put_datagram(
         source,
         destination,
         source_port,
@@ -100,11 +103,6 @@ fn put_payload(
         data,
         buffer,
     );
-    area::put_area(
-        list,
-        list_wire::apc::crc_for(list, data),
-        fill,
-        buffer,
-        size,
-    )
+    area::put_ocs(buffer, size, end);
+    end
 }

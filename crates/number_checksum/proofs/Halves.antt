@@ -1,6 +1,6 @@
 -- Words of 64 bits, added wrapping with their high halves apart: less the high halves, what was added is the sum of the low halves, as long as that
 -- does not wrap. Assumes nothing.
-use mathlib.Core.Path.{_≡_, sym, ap, _∙_}
+use mathlib.Core.Path.{_≡_, ap, _∙_}
 use mathlib.Core.Bool.{true}
 use mathlib.Core.List.{List}
 use Prim.Native.Nat.{ℕ, _+_, _*_, _%_, _≤_, _<_}

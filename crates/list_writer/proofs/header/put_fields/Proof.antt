@@ -28,9 +28,6 @@ put-u16-requires-4 c κs = search needs
 copy-requires : tie.Need-copy-requires
 copy-requires c κs = search needs
 
-add-result : tie.Need-add-result
-add-result c = search needs
-
 same-length : tie.Need-same-length
 same-length c = search needs
 
@@ -58,6 +55,5 @@ put-fields-spec =
     put-u16-requires-3
     put-u16-requires-4
     copy-requires
-    add-result
     same-length
     returns)
