@@ -78,14 +78,14 @@ no-word a b c d = record {
   all = λ e. absurd (omega arith);
 }
 
-pub word-added : {a b c d i word next third one two three four by-32 by-64 by-96 by-128 : ℕ} → WordsAdded a b c d i word next third one two three four
-    → (by-32 ≡ steps 32 word) × (by-64 ≡ steps 64 word) × (by-96 ≡ steps 96 word) × (by-128 ≡ steps 128 word)
-    → WordsAdded a b c d (i + 1) next third a by-32 (bitXor one by-64) (bitXor two by-96) (bitXor three by-128)
+pub word-added : {a b c d i word next third one two three four one₁ two₁ three₁ four₁ : ℕ} → WordsAdded a b c d i word next third one two three four
+    → (one₁ ≡ steps 32 word) × (two₁ ≡ bitXor one (steps 64 word)) × (three₁ ≡ bitXor two (steps 96 word)) × (four₁ ≡ bitXor three (steps 128 word))
+    → WordsAdded a b c d (i + 1) next third a one₁ two₁ three₁ four₁
 unfolding joined
 word-added {a} {b} {c} {d} {i} t m = record {
   none = λ e. absurd (omega arith);
   once = λ e. let h = t .none (omega arith) in (h .1, h .2, refl, m .0 ∙ ap (steps 32) (h .0));
-  twice = λ e. let h = t .once (omega arith) in (h .1, h .2, ap₂ bitXor (h .3) (m .1 ∙ ap (steps 64) (h .0)));
-  thrice = λ e. let h = t .twice (omega arith) in (h .1, ap₂ bitXor (h .2) (m .2 ∙ ap (steps 96) (h .0)));
-  all = λ e. let h = t .thrice (omega arith) in ap₂ bitXor (h .1) (m .3 ∙ ap (steps 128) (h .0));
+  twice = λ e. let h = t .once (omega arith) in (h .1, h .2, m .1 ∙ ap₂ bitXor (h .3) (ap (steps 64) (h .0)));
+  thrice = λ e. let h = t .twice (omega arith) in (h .1, m .2 ∙ ap₂ bitXor (h .2) (ap (steps 96) (h .0)));
+  all = λ e. let h = t .thrice (omega arith) in m .3 ∙ ap₂ bitXor (h .1) (ap (steps 128) (h .0));
 }

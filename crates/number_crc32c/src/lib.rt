@@ -23,14 +23,6 @@ struct Block {
     d: u32,
 }
 
-// Where a word has come to after so many bits.
-struct Moved {
-    by_32: u32,
-    by_64: u32,
-    by_96: u32,
-    by_128: u32,
-}
-
 // The xor of one, two, three and four numbers. Only the diagonal of four turns is used: a compiler leaves the rest out.
 struct Sums {
     one: u32,
@@ -122,13 +114,7 @@ fn step_words(a: u32, b: u32, c: u32, d: u32) -> u32
     let mut third = b;
     let mut i: usize = 0;
     while i < 4 {
-        let moved = move_word(word);
-        sums = Sums {
-            one: moved.by_32,
-            two: sums.one ^ moved.by_64,
-            three: sums.two ^ moved.by_96,
-            four: sums.three ^ moved.by_128,
-        };
+        sums = move_word(sums, word);
         word = next;
         next = third;
         third = a;
@@ -137,9 +123,10 @@ fn step_words(a: u32, b: u32, c: u32, d: u32) -> u32
     sums.four
 }
 
-// A word after 32, 64, 96 and 128 bits, byte by byte.
-fn move_word(n: u32) -> Moved
-    ensures { λ r. ⌜ (r .by_32 ≡ steps 32 n) × (r .by_64 ≡ steps 64 n) × (r .by_96 ≡ steps 96 n) × (r .by_128 ≡ steps 128 n) ⌝ }
+// A word after 32, 64, 96 and 128 bits, byte by byte: the last three added to the sums before.
+fn move_word(before: Sums, n: u32) -> Sums
+    ensures { λ r. ⌜ (r .one ≡ steps 32 n) × (r .two ≡ bitXor (before .one) (steps 64 n))
+        × (r .three ≡ bitXor (before .two) (steps 96 n)) × (r .four ≡ bitXor (before .three) (steps 128 n)) ⌝ }
 {
     let mut by_32 = no_sums();
     let mut by_64 = no_sums();
@@ -149,18 +136,18 @@ fn move_word(n: u32) -> Moved
     let mut j: usize = 0;
     while j < 4 {
         let row = number_crc_rows::entries(rest % 256);
-        by_32 = added(by_32, row.after_32_24, row.after_16_8);
-        by_64 = added(by_64, row.after_64_56, row.after_48_40);
-        by_96 = added(by_96, row.after_96_88, row.after_80_72);
-        by_128 = added(by_128, row.after_128_120, row.after_112_104);
+        by_32 = added(0, by_32, row.after_32_24, row.after_16_8);
+        by_64 = added(before.one, by_64, row.after_64_56, row.after_48_40);
+        by_96 = added(before.two, by_96, row.after_96_88, row.after_80_72);
+        by_128 = added(before.three, by_128, row.after_128_120, row.after_112_104);
         rest = rest / 256;
         j += 1;
     }
-    Moved {
-        by_32: by_32.four,
-        by_64: by_64.four,
-        by_96: by_96.four,
-        by_128: by_128.four,
+    Sums {
+        one: by_32.four,
+        two: by_64.four,
+        three: by_96.four,
+        four: by_128.four,
     }
 }
 
@@ -173,13 +160,13 @@ fn no_sums() -> Sums {
     }
 }
 
-// Each sum with one number more: the halves of two fields.
-fn added(sums: Sums, high: u64, low: u64) -> Sums
-    ensures { λ r. ⌜ (r .one ≡ high / 4294967296) × (r .two ≡ bitXor (sums .one) (high % 4294967296))
+// Each sum with one number more, the halves of two fields; the first begins at `start`.
+fn added(start: u32, sums: Sums, high: u64, low: u64) -> Sums
+    ensures { λ r. ⌜ (r .one ≡ bitXor start (high / 4294967296)) × (r .two ≡ bitXor (sums .one) (high % 4294967296))
         × (r .three ≡ bitXor (sums .two) (low / 4294967296)) × (r .four ≡ bitXor (sums .three) (low % 4294967296)) ⌝ }
 {
     Sums {
-        one: (high / HALF) as u32,
+        one: start ^ ((high / HALF) as u32),
         two: sums.one ^ ((high % HALF) as u32),
         three: sums.two ^ ((low / HALF) as u32),
         four: sums.three ^ ((low % HALF) as u32),

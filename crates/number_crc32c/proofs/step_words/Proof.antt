@@ -30,9 +30,7 @@ loop-less : tie.Need-loop-less Inv-loop μ-loop
 loop-less c = omega arith
 
 loop-again : tie.Need-loop-again Inv-loop μ-loop
-loop-again c =
-    let moved = c .before .before .before .before .before .before in
-    (omega arith, word-added (moved .before .before .loop .inv .1) (moved .move-word .ensures))
+loop-again c = (omega arith, word-added (c .before .before .loop .inv .1) (c .move-word .ensures))
 
 returns : tie.Need-returns Inv-loop μ-loop
 returns c = c .before .loop .inv .1 .all (omega arith)
