@@ -6,10 +6,10 @@ use mathlib.Core.List.{List, [], _∷_, _++_, append-assoc}
 use Prim.Native.Nat.{ℕ, zero, suc, _+_, _-_, _%_, _≤_, _<_}
 use native.Mathlib.Omega.{arith}
 use lib.Dec.{eqb}
-use lib.ListN.{length, take, drop, replicate, length-append, length-replicate}
+use lib.ListN.{length, take, drop, set, replicate, length-append, length-replicate}
 use lib.Seq.{length-take-le, take-append-seam, drop-at}
 use Rattle.number_octets.specs.Octets.{octets, overlay}
-use Rattle.number_octets.proofs.Laws.{length-octets}
+use Rattle.number_octets.proofs.Laws.{length-octets, overlay-sets}
 use Rattle.number_offsets.specs.Offsets.{udpHeader}
 use Rattle.number_checksum.specs.Checksum.{wordSum, folded, sent}
 use Rattle.number_checksum.proofs.Laws.{wordSum-word}
@@ -20,6 +20,27 @@ use Rattle.list_payload.proofs.Areas.{ocsFor, area-is, area-length}
 use Rattle.list_wire.proofs.Laying.{laid-append, laid-length, laid-as, laid-by, laid-replace}
 
 -- ---- the area
+
+zero-two : octets 2 0 ≡ 0 ∷ 0 ∷ []
+unfolding octets
+zero-two = refl
+
+-- the same end under another name
+laid-to : {t : List ℕ} {at : ℕ} {a u : List ℕ} {m n : ℕ} → m ≡ n → Laid t at a u m → Laid t at a u n
+laid-to e p = record { over = p .over; ends = sym e ∙ p .ends }
+
+-- pad and option checksum, laid as zeros
+pub start-even : {t v : List ℕ} (at : ℕ) → at % 2 ≡ 0 → v ≡ overlay t at (octets 2 0) → Laid t at (replicate (at % 2 + 2) 0) v (at + 2)
+start-even {t} at even e =
+    laid-as (ap (λ (n : ℕ). replicate (n + 2) 0) (sym even)) (laid-by 2 (e ∙ ap (overlay t at) zero-two) refl)
+
+pub start-odd : {t v : List ℕ} (at : ℕ) → at % 2 ≡ 1 → at + 3 ≤ length t → v ≡ overlay (set t at 0) (at + 1) (octets 2 0)
+    → Laid t at (replicate (at % 2 + 2) 0) v (at + 3)
+start-odd {t} at odd fits e =
+    let pad : Laid t at (0 ∷ []) (set t at 0) (at + 1) = laid-by 1 (overlay-sets t at (0 ∷ []) (omega arith)) refl in
+    let ocs : Laid (set t at 0) (at + 1) (0 ∷ 0 ∷ []) _ (at + 1 + 2) = laid-by 2 (e ∙ ap (overlay (set t at 0) (at + 1)) zero-two) refl in
+    let end : at + 1 + 2 ≡ at + 3 = omega arith in
+    laid-as (ap (λ (n : ℕ). replicate (n + 2) 0) (sym odd)) (laid-append pad (laid-to end ocs) (omega arith))
 
 blank-is : (n : ℕ) → n < 2 → (l : List ℕ) → replicate (n + 2) 0 ++ l ≡ areaWith (eqb n 1) (0 ∷ 0 ∷ []) l
 blank-is zero h l = refl

@@ -36,9 +36,23 @@ pub fn put_blank(list: &[u8], crc: u32, fill: u8, buffer: &mut [u8], at: usize) 
     requires { ⌜ at + length (replicate (at % 2 + 2) 0 ++ listedBytes crc (now list) fill) ≤ length (now buffer) ⌝ }
     ensures { λ r. ⌜ Laid (now (buffer .entry)) at (replicate (at % 2 + 2) 0 ++ listedBytes crc (now (list .entry)) fill) (now (buffer .exit)) r ⌝ }
 {
-    let start = put_zeros(at % 2 + 2, buffer, at);
+    let start = put_start(buffer, at);
     let end = put_listed(list, crc, buffer, start);
     put_zeros(fill as usize, buffer, end)
+}
+
+// The pad, where the area starts at an odd offset, and an option checksum of zero.
+fn put_start(buffer: &mut [u8], at: usize) -> usize
+    requires { ⌜ at + (at % 2 + 2) ≤ length (now buffer) ⌝ }
+    ensures { λ r. ⌜ Laid (now (buffer .entry)) at (replicate (at % 2 + 2) 0) (now (buffer .exit)) r ⌝ }
+{
+    if at % 2 == 1 {
+        buffer[at] = 0;
+        number_octets::put_u16(buffer, at + 1, 0);
+        return at + 3;
+    }
+    number_octets::put_u16(buffer, at, 0);
+    at + 2
 }
 
 // The options of an encoded list.

@@ -10,11 +10,8 @@ use borrow.Author.Needs.{needs}
 use Rattle.list_writer.proofs.area.put_blank.Statement.{statement}
 use Rattle.list_writer.proofs.area.put_blank.Tie as tie
 
-add-put-zeros : tie.Need-add-put-zeros
-add-put-zeros c = search needs
-
-put-zeros-requires : tie.Need-put-zeros-requires
-put-zeros-requires c κs =
+put-start-requires : tie.Need-put-start-requires
+put-start-requires c κs =
     let s = c .before .before .before in
     let a = s .args in
     let list : List ℕ = wiresListed (a .crc) (a .list .now) in
@@ -25,22 +22,22 @@ put-zeros-requires c κs =
 
 put-listed-requires : tie.Need-put-listed-requires
 put-listed-requires c κs =
-    let on-put-zeros = c .before .before .before in
-    let s = on-put-zeros .before .before .before .before in
+    let on-put-start = c .before .before .before in
+    let s = on-put-start .before .before .before .before in
     let a = s .args in
     let list : List ℕ = wiresListed (a .crc) (a .list .now) in
     let zeros : List ℕ = replicate (a .fill) 0 in
-    omega (arith, behind-room (list ++ zeros) (on-put-zeros .put-zeros .ensures) (s .pre), length-append list zeros)
+    omega (arith, behind-room (list ++ zeros) (on-put-start .put-start .ensures) (s .pre), length-append list zeros)
 
-put-zeros-requires-2 : tie.Need-put-zeros-requires-2
-put-zeros-requires-2 c κs =
+put-zeros-requires : tie.Need-put-zeros-requires
+put-zeros-requires c κs =
     let on-put-listed = c .before .before .before in
-    let on-put-zeros = on-put-listed .before .before .before .before in
-    let s = on-put-zeros .before .before .before .before in
+    let on-put-start = on-put-listed .before .before .before .before in
+    let s = on-put-start .before .before .before .before in
     let a = s .args in
     let list : List ℕ = wiresListed (a .crc) (a .list .now) in
     let zeros : List ℕ = replicate (a .fill) 0 in
-    let rest = behind-room (list ++ zeros) (on-put-zeros .put-zeros .ensures) (s .pre) in
+    let rest = behind-room (list ++ zeros) (on-put-start .put-start .ensures) (s .pre) in
     omega (arith, behind-room zeros (on-put-listed .put-listed .ensures) rest, length-replicate {A = ℕ} (a .fill) 0)
 
 same-length : tie.Need-same-length
@@ -50,22 +47,21 @@ returns : tie.Need-returns
 returns c =
     let p6 = c .before .before .before .before .before .before in
     let on-put-listed = p6 in
-    let on-put-zeros = on-put-listed .before .before .before .before in
-    let s = on-put-zeros .before .before .before .before in
+    let on-put-start = on-put-listed .before .before .before .before in
+    let s = on-put-start .before .before .before .before in
     let a = s .args in
     let list : List ℕ = wiresListed (a .crc) (a .list .now) in
     let zeros : List ℕ = replicate (a .fill) 0 in
-    let first = on-put-zeros .put-zeros .ensures in
-    let rest = laid-append (on-put-listed .put-listed .ensures) (c .before .before .put-zeros2 .ensures) (behind-room (list ++ zeros) first (s .pre)) in
+    let first = on-put-start .put-start .ensures in
+    let rest = laid-append (on-put-listed .put-listed .ensures) (c .before .before .put-zeros .ensures) (behind-room (list ++ zeros) first (s .pre)) in
     laid-append first rest (s .pre)
 
 pub put-blank-spec : {M : Type 1} → statement M
 put-blank-spec =
     tie.close
     (tie.spec
-    add-put-zeros
-    put-zeros-requires
+    put-start-requires
     put-listed-requires
-    put-zeros-requires-2
+    put-zeros-requires
     same-length
     returns)
