@@ -33,6 +33,7 @@ use Rattle.wire_datagram.specs.declared.reading.Verdict.the-variants.{
   Unsafe,
   FragData,
   Crowded,
+  Tail,
   Read as Listed,
   Piece,
 }
@@ -60,7 +61,8 @@ verdictFrom n f =
     (cond (eqb n 6) Unsafe
     (cond (eqb n 7) FragData
     (cond (eqb n 8) Crowded
-    (cond (eqb n 9) Listed (Piece f))))))))))
+    (cond (eqb n 9) Listed
+    (cond (eqb n 11) Tail (Piece f)))))))))))
 
 abbrev pub fragmentFrom : Reading → Fragment
 fragmentFrom v = record {
@@ -117,6 +119,7 @@ verdict-recovered Malformed = refl
 verdict-recovered Unsafe = refl
 verdict-recovered FragData = refl
 verdict-recovered Crowded = refl
+verdict-recovered Tail = refl
 verdict-recovered Listed = refl
 verdict-recovered (Piece f) = refl
 
@@ -156,6 +159,7 @@ faulty-recovered r Met.Malformed = refl
 faulty-recovered r Met.Unsafe = refl
 faulty-recovered r Met.FragData = refl
 faulty-recovered r Met.Crowded = refl
+faulty-recovered r Met.Tail = refl
 
 walked-recovered : (original : List ℕ) (r from : ℕ) (w : Walked) → Recovered (Reread.rewalked original r from w)
 walked-recovered original r from (listed items fill) =

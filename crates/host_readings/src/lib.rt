@@ -71,6 +71,7 @@ fn verdict_number(verdict: Verdict) -> u32
         Verdict::Unsafe => 6,
         Verdict::FragData => 7,
         Verdict::Crowded => 8,
+        Verdict::Tail => 11,
         Verdict::Read => READ,
         Verdict::Piece(_) => 10,
     }
@@ -134,6 +135,7 @@ fn fragment_in(verdict: Verdict) -> wire_area::Fragment
         Verdict::Unsafe => no_fragment(),
         Verdict::FragData => no_fragment(),
         Verdict::Crowded => no_fragment(),
+        Verdict::Tail => no_fragment(),
         Verdict::Read => no_fragment(),
         Verdict::Piece(fragment) => fragment,
     }

@@ -2,3 +2,4 @@ pub mod Wires
 pub mod Areas
 pub mod ReadBack
 pub mod Claims
+pub mod Fills

@@ -1,7 +1,7 @@
 -- What the writer puts on the wire is what the walk meets: each option's step finds it, and the fill starts with EOL.
 -- Assumes nothing.
 use mathlib.Core.Path.{_≡_, refl, sym, ap, ap₂, _∙_}
-use mathlib.Core.Bool.{Bool, true, false}
+use mathlib.Core.Bool.{Bool, true, false, cond}
 use mathlib.Core.List.{List, [], _∷_, _++_, append-assoc}
 use mathlib.Core.Logic.{_⊎_, ⊎-elim}
 use Prim.Native.Nat.{ℕ, zero, suc, _+_, _-_, _≤_, _<_}
@@ -11,15 +11,18 @@ use lib.Dec.{leb}
 use lib.ListN.{length, take, drop, replicate, length-append, length-replicate}
 use lib.Seq.{drop-append-seam, take-at, drop-at, drop-drop}
 use Rattle.number_octets.specs.Octets.{number, octets, part}
+use Rattle.number_octets.specs.Zeros.{allZero}
+use Rattle.number_octets.proofs.Blanks.{zero-alike}
 use Rattle.number_octets.proofs.Laws.{length-octets, number-octets}
 use Rattle.wire_options.specs.Kinds.{classOf, frag}
 use Rattle.wire_options.specs.Step.{headerOf, stepOf, stepIn, fixedStep, varyingStep}
-use Rattle.wire_options.specs.Walk.{Item, listed, before, itemOf, walkAt, walkFrom}
+use Rattle.wire_options.specs.Walk.{Item, listed, faulty, before, itemOf, walkAt, walkFrom}
 use Rattle.wire_options.specs.declared.step.Class.{Class}
 use Rattle.wire_options.specs.declared.step.Class.the-variants.{Fixed, Varying}
 use Rattle.wire_options.specs.declared.step.Header.the-variants.{Sound}
 use Rattle.wire_options.specs.declared.step.Step.{Step}
 use Rattle.wire_options.specs.declared.step.Step.the-variants.{Found}
+use Rattle.wire_options.specs.declared.walk.Fault.the-variants.{Tail}
 use Rattle.wire_options.proofs.Walks.{walk-skip}
 use Rattle.list_encoding.specs.Wire.{longestShort}
 use Rattle.list_payload.specs.Payload.{wireOf, wires}
@@ -183,9 +186,11 @@ one-more room item rest w =
 
 -- the fill: nothing, or EOL and what is behind it
 walk-fill : (room fill : ℕ) → walkFrom room 0 (replicate fill 0) ≡ listed [] fill
-unfolding walkFrom stepOf classOf
+unfolding walkFrom stepOf classOf allZero
 walk-fill room zero = refl
-walk-fill room (suc fill) = ap (λ (n : ℕ). listed [] (suc n)) (length-replicate fill 0)
+walk-fill room (suc fill) =
+    ap (λ (t : Bool). cond t (listed [] (suc (length {A = ℕ} (replicate fill 0)))) (faulty Tail)) (zero-alike fill)
+    ∙ ap (λ (n : ℕ). listed [] (suc n)) (length-replicate fill 0)
 
 pub walk-wires : (room : ℕ) (items : List Item) (fill : ℕ) → Each items → length items ≤ room
     → walkFrom room 0 (wires items ++ replicate fill 0) ≡ listed items fill

@@ -66,17 +66,6 @@ swapped-digits n h =
     number-four (n / 1 % 256) (n / 256 % 256) (n / 65536 % 256) (n / 16777216 % 256)
     ∙ ap₂ (λ (x y : ℕ). x * 16777216 + n / 256 % 256 * 65536 + n / 65536 % 256 * 256 + y) low top
 
--- the number of the four bytes at a place, the least significant first
-pub little-four : (at : ℕ) (l : List ℕ) → at + 4 ≤ length l
-    → number (reverse (part at 4 l)) ≡ getD l at 0 + getD l (at + 1) 0 * 256 + getD l (at + 2) 0 * 65536 + getD l (at + 3) 0 * 16777216
-little-four at l h =
-    let third : at + 2 + 1 ≡ at + 3 = omega arith in
-    let bytes : part at 4 l ≡ getD l at 0 ∷ getD l (at + 1) 0 ∷ getD l (at + 2) 0 ∷ getD l (at + 3) 0 ∷ [] =
-    part-append at 2 2 l ∙ ap₂ _++_ (part-two at l (omega arith)) (part-two (at + 2) l (omega arith))
-    ∙ ap (λ (i : ℕ). getD l at 0 ∷ getD l (at + 1) 0 ∷ getD l (at + 2) 0 ∷ getD l i 0 ∷ []) third in
-    ap (λ (bs : List ℕ). number (reverse bs)) bytes
-    ∙ number-four (getD l (at + 3) 0) (getD l (at + 2) 0) (getD l (at + 1) 0) (getD l at 0) ∙ omega arith
-
 -- ---- several bytes at once
 
 number-reverse : (b : ℕ) (bs : List ℕ) → number (reverse (b ∷ bs)) ≡ number (reverse bs) * 256 + b

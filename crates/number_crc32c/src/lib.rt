@@ -1,6 +1,5 @@
 // CRC32c (Castagnoli), by table: sixteen bytes a step, the words that are left in one step, then the last few bytes one by one.
 ghost use mathlib.Core.Path.{_≡_};
-ghost use mathlib.Core.List.{reverse};
 ghost use Prim.Native.Nat.{_+_, _*_, _/_, _%_, _≤_};
 ghost use lib.Bits.{bitXor};
 ghost use lib.ListN.{length, take};
@@ -74,33 +73,33 @@ fn block_at(state: u32, bytes: &[u8], at: usize) -> Block
     let left = bytes.len() - at;
     if 16 <= left {
         return Block {
-            a: state ^ little(bytes, at),
-            b: little(bytes, at + 4),
-            c: little(bytes, at + 8),
-            d: little(bytes, at + 12),
+            a: state ^ number_octets::get_u32_little(bytes, at),
+            b: number_octets::get_u32_little(bytes, at + 4),
+            c: number_octets::get_u32_little(bytes, at + 8),
+            d: number_octets::get_u32_little(bytes, at + 12),
         };
     }
     if 12 <= left {
         return Block {
             a: 0,
-            b: state ^ little(bytes, at),
-            c: little(bytes, at + 4),
-            d: little(bytes, at + 8),
+            b: state ^ number_octets::get_u32_little(bytes, at),
+            c: number_octets::get_u32_little(bytes, at + 4),
+            d: number_octets::get_u32_little(bytes, at + 8),
         };
     }
     if 8 <= left {
         return Block {
             a: 0,
             b: 0,
-            c: state ^ little(bytes, at),
-            d: little(bytes, at + 4),
+            c: state ^ number_octets::get_u32_little(bytes, at),
+            d: number_octets::get_u32_little(bytes, at + 4),
         };
     }
     Block {
         a: 0,
         b: 0,
         c: 0,
-        d: state ^ little(bytes, at),
+        d: state ^ number_octets::get_u32_little(bytes, at),
     }
 }
 
@@ -171,18 +170,6 @@ fn added(start: u32, sums: Sums, high: u64, low: u64) -> Sums
         three: sums.two ^ ((low / HALF) as u32),
         four: sums.three ^ ((low % HALF) as u32),
     }
-}
-
-// The number whose bytes stand at `at`, the least significant first.
-fn little(bytes: &[u8], at: usize) -> u32
-    requires { ⌜ at + 4 ≤ length (now bytes) ⌝ }
-    ensures { λ r. ⌜ r ≡ number (reverse (part at 4 (now (bytes .entry)))) ⌝ }
-{
-    let first = bytes[at] as u32;
-    let second = bytes[at + 1] as u32;
-    let third = bytes[at + 2] as u32;
-    let fourth = bytes[at + 3] as u32;
-    first + second * 256 + third * 65536 + fourth * 16777216
 }
 
 // The register after one byte more.

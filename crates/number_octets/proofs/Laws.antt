@@ -1,7 +1,7 @@
 -- Laws of numbers in network byte order, proved once over the width, and of a list laid over another.
 -- Assumes nothing.
 use mathlib.Core.Path.{_≡_, refl, sym, ap, ap₂, _∙_, subst}
-use mathlib.Core.List.{List, [], _∷_, _++_, append-assoc}
+use mathlib.Core.List.{List, [], _∷_, _++_, reverse, append-assoc}
 use Prim.Native.Nat.{ℕ, zero, suc, _+_, _-_, _*_, _/_, _%_, _^_, _<_, _≤_}
 use native.Mathlib.Nat.{
   zero-add,
@@ -155,6 +155,19 @@ number-four at l h =
     let size : length (part (at + 2) 2 l) ≡ 2 = simp (length-take, length-drop) (omega arith) in
     ap number (part-append at 2 2 l) ∙ number-append (part at 2 l) (part (at + 2) 2 l)
     ∙ ap (λ (k : ℕ). number (part at 2 l) * 256 ^ k + number (part (at + 2) 2 l)) size
+
+pub part-four : (at : ℕ) (l : List ℕ) → at + 4 ≤ length l
+    → part at 4 l ≡ getD l at 0 ∷ getD l (at + 1) 0 ∷ getD l (at + 2) 0 ∷ getD l (at + 3) 0 ∷ []
+part-four at l h =
+    let third : at + 2 + 1 ≡ at + 3 = omega arith in
+    part-append at 2 2 l ∙ ap₂ _++_ (part-two at l (omega arith)) (part-two (at + 2) l (omega arith))
+    ∙ ap (λ (i : ℕ). getD l at 0 ∷ getD l (at + 1) 0 ∷ getD l (at + 2) 0 ∷ getD l i 0 ∷ []) third
+
+-- the number of four bytes, the least significant first
+pub little-four : (at : ℕ) (l : List ℕ) → at + 4 ≤ length l
+    → number (reverse (part at 4 l)) ≡ getD l at 0 + getD l (at + 1) 0 * 256 + getD l (at + 2) 0 * 65536 + getD l (at + 3) 0 * 16777216
+unfolding number
+little-four at l h = ap (λ (bs : List ℕ). number (reverse bs)) (part-four at l h) ∙ omega arith
 
 pub length-part : (at n : ℕ) (l : List ℕ) → at + n ≤ length l → length (part at n l) ≡ n
 length-part at n l h = simp (length-take, length-drop) (omega arith)

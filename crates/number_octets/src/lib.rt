@@ -1,5 +1,7 @@
-// Numbers in network byte order (big-endian) in byte slices, and copying bytes from one slice into another.
+// Numbers in byte slices, in network byte order (big-endian) where the name says nothing else, and copying bytes from one slice into another.
+pub mod zeros;
 ghost use mathlib.Core.Path.{_≡_};
+ghost use mathlib.Core.List.{reverse};
 ghost use Prim.Native.Nat.{_+_, _≤_};
 ghost use lib.ListN.{length};
 ghost use Rattle.number_octets.specs.Octets.{number, octets, part, overlay};
@@ -22,6 +24,18 @@ pub fn get_u32(bytes: &[u8], at: usize) -> u32
     let high = get_u16(bytes, at) as u32;
     let low = get_u16(bytes, at + 2) as u32;
     high * 65536 + low
+}
+
+// The 32-bit number at `at` whose least significant byte stands first.
+pub fn get_u32_little(bytes: &[u8], at: usize) -> u32
+    requires { ⌜ at + 4 ≤ length (now bytes) ⌝ }
+    ensures { λ r. ⌜ r ≡ number (reverse (part at 4 (now (bytes .entry)))) ⌝ }
+{
+    let first = bytes[at] as u32;
+    let second = bytes[at + 1] as u32;
+    let third = bytes[at + 2] as u32;
+    let fourth = bytes[at + 3] as u32;
+    first + second * 256 + third * 65536 + fourth * 16777216
 }
 
 // Puts a 16-bit number at `at`.

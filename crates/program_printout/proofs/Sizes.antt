@@ -18,7 +18,7 @@ use Rattle.wire_datagram.specs.Reading.{Answer, refused, reads, payloadLimit, r
 use Rattle.wire_datagram.specs.declared.reading.Extent.{Extent}
 use Rattle.wire_datagram.specs.declared.reading.Reading.{Reading}
 use Rattle.wire_datagram.specs.declared.reading.Verdict.{Verdict}
-use Rattle.wire_datagram.specs.declared.reading.Verdict.the-variants.{Bare, Short, Pad, Unsummed, BadSum, Malformed, Unsafe, FragData, Crowded, Read, Piece}
+use Rattle.wire_datagram.specs.declared.reading.Verdict.the-variants.{Bare, Short, Pad, Unsummed, BadSum, Malformed, Unsafe, FragData, Crowded, Tail, Read, Piece}
 use Rattle.wire_datagram.proofs.Claims.{met-none}
 use Rattle.wire_options.specs.Kinds.{widthsOf}
 use Rattle.program_text.specs.Digits.{digit, digitsIn, longest, decimalOf, hexOf}
@@ -126,6 +126,7 @@ word-size Malformed = omega arith
 word-size Unsafe = omega arith
 word-size FragData = omega arith
 word-size Crowded = omega arith
+word-size Tail = omega arith
 word-size Read = omega arith
 word-size (Piece f) = omega arith
 

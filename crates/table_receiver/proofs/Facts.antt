@@ -21,6 +21,7 @@ use Rattle.wire_datagram.specs.declared.reading.Verdict.the-variants.{
   Unsafe,
   FragData,
   Crowded,
+  Tail,
   Read,
   Piece,
 }
@@ -73,6 +74,7 @@ piece-verdict Malformed f e = absurd (let z : _≡_ {A = ℕ} 0 1 = cc in omega 
 piece-verdict Unsafe f e = absurd (let z : _≡_ {A = ℕ} 0 1 = cc in omega arith)
 piece-verdict FragData f e = absurd (let z : _≡_ {A = ℕ} 0 1 = cc in omega arith)
 piece-verdict Crowded f e = absurd (let z : _≡_ {A = ℕ} 0 1 = cc in omega arith)
+piece-verdict Tail f e = absurd (let z : _≡_ {A = ℕ} 0 1 = cc in omega arith)
 piece-verdict Read f e = absurd (let z : _≡_ {A = ℕ} 0 1 = cc in omega arith)
 piece-verdict (Piece g) f e = cc
 

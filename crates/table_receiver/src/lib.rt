@@ -56,6 +56,7 @@ fn fragment_in(verdict: Verdict) -> Found
         Verdict::Unsafe => Found::Other,
         Verdict::FragData => Found::Other,
         Verdict::Crowded => Found::Other,
+        Verdict::Tail => Found::Other,
         Verdict::Read => Found::Other,
         Verdict::Piece(fragment) => Found::Fragment(fragment),
     }

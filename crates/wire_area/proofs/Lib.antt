@@ -1,2 +1,3 @@
 pub mod Areas
+pub mod Fills
 pub mod Locality

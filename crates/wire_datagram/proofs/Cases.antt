@@ -8,7 +8,7 @@ use native.Mathlib.Omega.{arith}
 use lib.Dec.{eqb}
 use lib.ListN.{length, drop, length-drop}
 use Rattle.wire_options.specs.Walk.{Item, listed, walkFrom, optionLimit}
-use Rattle.wire_options.specs.declared.walk.Fault.the-variants.{Malformed as malformedList, Unsafe as unsafeList, FragData as fragData, Crowded as crowdedList}
+use Rattle.wire_options.specs.declared.walk.Fault.the-variants.{Malformed as malformedList, Unsafe as unsafeList, FragData as fragData, Crowded as crowdedList, Tail as tailed}
 use Rattle.wire_area.specs.Area.{AreaWalk, plain, piece, fault, areaOf}
 use Rattle.wire_area.specs.declared.Fragment.{Fragment}
 use Rattle.wire_area.proofs.Areas.{area-plain}
@@ -19,7 +19,7 @@ use Rattle.wire_surplus.proofs.Starts.{start-list}
 use Rattle.wire_datagram.specs.Reading.{noData, udpLength, udpChecksum, optionless, walked, started, isOdd, accepted}
 use Rattle.wire_datagram.specs.declared.reading.Reading.{Reading}
 use Rattle.wire_datagram.specs.declared.reading.Verdict.{Verdict}
-use Rattle.wire_datagram.specs.declared.reading.Verdict.the-variants.{Bare, Short, Pad, Unsummed, BadSum, Malformed, Unsafe, FragData, Crowded, Read, Piece}
+use Rattle.wire_datagram.specs.declared.reading.Verdict.the-variants.{Bare, Short, Pad, Unsummed, BadSum, Malformed, Unsafe, FragData, Crowded, Tail, Read, Piece}
 
 -- neither "read" nor a piece
 abbrev pub Other : Verdict → Type 0
@@ -32,6 +32,7 @@ Other Malformed = Unit {0}
 Other Unsafe = Unit {0}
 Other FragData = Unit {0}
 Other Crowded = Unit {0}
+Other Tail = Unit {0}
 Other Read = ⊥
 Other (Piece f) = ⊥
 
@@ -54,6 +55,7 @@ module _
   walked-by from (fault unsafeList) h e = by-other _ Unsafe tt
   walked-by from (fault fragData) h e = by-other _ FragData tt
   walked-by from (fault crowdedList) h e = by-other _ Crowded tt
+  walked-by from (fault tailed) h e = by-other _ Tail tt
 
   started-by : (odd unused : Bool) (start : Start) → startOf odd unused (drop size p) ≡ start → P (started p size start)
   started-by odd unused Empty e = by-other _ Bare tt

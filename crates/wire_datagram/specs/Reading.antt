@@ -14,7 +14,7 @@ use Rattle.wire_options.specs.Kinds.{apc}
 use Rattle.wire_options.specs.Walk.{Item, walkFrom, optionLimit}
 use Rattle.wire_area.specs.Area.{AreaWalk, plain, piece, fault, plainly, areaOf}
 use Rattle.wire_options.specs.declared.walk.Fault.{Fault}
-use Rattle.wire_options.specs.declared.walk.Fault.the-variants.{Malformed as malformedList, Unsafe as unsafeList, FragData as fragData, Crowded as crowdedList}
+use Rattle.wire_options.specs.declared.walk.Fault.the-variants.{Malformed as malformedList, Unsafe as unsafeList, FragData as fragData, Crowded as crowdedList, Tail as tailed}
 use Rattle.wire_surplus.specs.Surplus.{startOf}
 use Rattle.wire_surplus.specs.declared.Start.{Start}
 use Rattle.wire_surplus.specs.declared.Start.the-variants.{
@@ -29,7 +29,7 @@ use Rattle.wire_datagram.specs.declared.reading.Extent.{Extent}
 use Rattle.wire_datagram.specs.declared.reading.Apc.{Apc}
 use Rattle.wire_datagram.specs.declared.reading.Apc.the-variants.{Absent, Right, Wrong}
 use Rattle.wire_datagram.specs.declared.reading.Verdict.{Verdict}
-use Rattle.wire_datagram.specs.declared.reading.Verdict.the-variants.{Bare, Short, Pad, Unsummed, BadSum, Malformed, Unsafe, FragData, Crowded, Read, Piece}
+use Rattle.wire_datagram.specs.declared.reading.Verdict.the-variants.{Bare, Short, Pad, Unsummed, BadSum, Malformed, Unsafe, FragData, Crowded, Tail, Read, Piece}
 use Rattle.wire_datagram.specs.declared.reading.Reading.{Reading}
 use Rattle.wire_datagram.specs.declared.reading.Refusal.{Refusal}
 use Rattle.wire_datagram.specs.declared.reading.Refusal.the-variants.{PayloadTooShort, PayloadTooLong, LengthOutOfRange, ChecksumWrong}
@@ -101,6 +101,7 @@ verdictOf malformedList = Malformed
 verdictOf unsafeList = Unsafe
 verdictOf fragData = FragData
 verdictOf crowdedList = Crowded
+verdictOf tailed = Tail
 
 -- the reading after the walk of a list at packet offset `from`
 abbrev pub walked : List ℕ → ℕ → ℕ → AreaWalk → Reading
@@ -175,5 +176,6 @@ isRead Malformed = false
 isRead Unsafe = false
 isRead FragData = false
 isRead Crowded = false
+isRead Tail = false
 isRead Read = true
 isRead (Piece fragment) = false

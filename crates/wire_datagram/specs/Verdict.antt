@@ -6,7 +6,7 @@ use Rattle.wire_area.specs.declared.Fragment.{Fragment}
 use Rattle.wire_datagram.specs.declared.reading.Apc.{Apc}
 use Rattle.wire_datagram.specs.declared.reading.Apc.the-variants.{Absent, Right, Wrong}
 use Rattle.wire_datagram.specs.declared.reading.Verdict.{Verdict}
-use Rattle.wire_datagram.specs.declared.reading.Verdict.the-variants.{Bare, Short, Pad, Unsummed, BadSum, Malformed, Unsafe, FragData, Crowded, Read, Piece}
+use Rattle.wire_datagram.specs.declared.reading.Verdict.the-variants.{Bare, Short, Pad, Unsummed, BadSum, Malformed, Unsafe, FragData, Crowded, Tail, Read, Piece}
 
 -- ---- the words, as lists of ASCII characters
 
@@ -46,6 +46,10 @@ fragdataWord = 102 ∷ 114 ∷ 97 ∷ 103 ∷ 100 ∷ 97 ∷ 116 ∷ 97 ∷ []
 abbrev pub crowdedWord : List ℕ
 crowdedWord = 99 ∷ 114 ∷ 111 ∷ 119 ∷ 100 ∷ 101 ∷ 100 ∷ []
 
+-- tail
+abbrev pub tailWord : List ℕ
+tailWord = 116 ∷ 97 ∷ 105 ∷ 108 ∷ []
+
 -- read
 abbrev pub readWord : List ℕ
 readWord = 114 ∷ 101 ∷ 97 ∷ 100 ∷ []
@@ -72,7 +76,8 @@ pub record Said (Values : Type 0) : Type 0 where
 abbrev said : ℕ → List ℕ → Said (Option Fragment)
 said number word = record { number = number; word = word; values = none }
 
--- "The verdict is the first of these that applies": numbered in that order from 0. "piece" has a fragment.
+-- "The verdict is the first of these that applies": numbered in that order from 0, and "tail", which came later, behind them all, so that the
+-- other numbers stay. "piece" has a fragment.
 abbrev pub verdictSays : Verdict → Said (Option Fragment)
 verdictSays Bare = said 0 noneWord
 verdictSays Short = said 1 shortWord
@@ -83,6 +88,7 @@ verdictSays Malformed = said 5 malformedWord
 verdictSays Unsafe = said 6 unsafeWord
 verdictSays FragData = said 7 fragdataWord
 verdictSays Crowded = said 8 crowdedWord
+verdictSays Tail = said 11 tailWord
 verdictSays Read = said 9 readWord
 verdictSays (Piece fragment) = record { number = 10; word = pieceWord; values = some fragment }
 

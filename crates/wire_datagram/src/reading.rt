@@ -50,6 +50,7 @@ pub enum Verdict {
     Unsafe,
     FragData,
     Crowded,
+    Tail,
     Read,
     Piece(Fragment),
 }
@@ -200,6 +201,7 @@ fn verdict_of(fault: Fault) -> Verdict
         Fault::Unsafe => Verdict::Unsafe,
         Fault::FragData => Verdict::FragData,
         Fault::Crowded => Verdict::Crowded,
+        Fault::Tail => Verdict::Tail,
     }
 }
 
@@ -217,6 +219,7 @@ pub fn is_read(verdict: Verdict) -> bool
         Verdict::Unsafe => false,
         Verdict::FragData => false,
         Verdict::Crowded => false,
+        Verdict::Tail => false,
         Verdict::Read => true,
         Verdict::Piece(_) => false,
     }

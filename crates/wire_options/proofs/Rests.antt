@@ -7,15 +7,17 @@ use Prim.Native.Nat.{ℕ, zero, suc, _+_, _-_, _≤_, _<_}
 use native.Mathlib.Omega.{arith}
 use borrow.Author.Tests.{eqb-false}
 use lib.Dec.{eqb}
-use lib.ListN.{length, drop, length-drop, drop-of-length-le}
+use lib.ListN.{length, drop, replicate, length-drop, drop-of-length-le}
 use lib.Seq.{drop-drop}
+use Rattle.number_octets.specs.Zeros.{allZero}
+use Rattle.number_octets.proofs.Blanks.{zero-only}
 use Rattle.wire_options.specs.Kinds.{frag}
 use Rattle.wire_options.specs.Step.{stepOf}
 use Rattle.wire_options.specs.Walk.{Item, Walked, listed, faulty, before, itemOf, sound, walkAt, walkFrom, itemsOf}
 use Rattle.wire_options.specs.declared.step.Step.{Step}
 use Rattle.wire_options.specs.declared.step.Step.the-variants.{End, Eol, Nop, Found, Malformed as Unsound, Outlawed}
 use Rattle.wire_options.specs.declared.walk.Fault.{Fault}
-use Rattle.wire_options.specs.declared.walk.Fault.the-variants.{Malformed}
+use Rattle.wire_options.specs.declared.walk.Fault.the-variants.{Malformed, Tail}
 use Rattle.wire_options.proofs.Steps.{step-found}
 use Rattle.wire_options.proofs.Walks.{walk-skip}
 
@@ -33,7 +35,7 @@ pub record First (room : ℕ) (l : List ℕ) (items : List Item) (fill kind head
 -- what a walk of `l` that lists `items` has at its front, by the step there
 abbrev pub ListsBy : ℕ → List ℕ → List Item → ℕ → Step → Type 0
 ListsBy room l items fill End = ([] ≡ items) × (0 ≡ fill)
-ListsBy room l items fill Eol = ([] ≡ items) × (length l ≡ fill)
+ListsBy room l items fill Eol = ([] ≡ items) × (length l ≡ fill) × (allZero l ≡ true)
 ListsBy room l items fill Nop = walkFrom room 1 l ≡ listed items fill
 ListsBy room l items fill (Found kind header size) = First room l items fill kind header size
 ListsBy room l items fill Unsound = ⊥
@@ -68,9 +70,14 @@ lists-by room (b ∷ bs) items fill step h e q = go step (sym (ap (λ (s : Step)
         let n = behind (itemOf kind header size l) (rest r (size - 1)) items fill q in
         record { left = r; one = refl; other = c; later = n .0; splits = n .1; walks = n .2 }
 
+    ended : (t : Bool) → allZero l ≡ t → cond t (listed [] (length l)) (faulty Tail) ≡ listed items fill
+        → ([] ≡ items) × (length l ≡ fill) × (allZero l ≡ true)
+    ended true z q = (cc, cc, z)
+    ended false z q = absurd (faultless _ items fill q)
+
     go : (step : Step) → walkAt room l step rest ≡ listed items fill → ListsBy room l items fill step
     go End q = (cc, cc)
-    go Eol q = (cc, cc)
+    go Eol q = ended (allZero l) refl q
     go Nop q = q
     go (Found kind header size) q = found kind header size (eqb kind frag) room refl q
     go Unsound q = faultless _ items fill q
@@ -78,11 +85,24 @@ lists-by room (b ∷ bs) items fill step h e q = go step (sym (ap (λ (s : Step)
 
 -- ---- all steps
 
+-- the fill stands at the end of the list, and is zero bytes
+pub record Filled (l : List ℕ) (fill : ℕ) : Type 0 where
+  pub within : fill ≤ length l
+  pub zeros : drop (length l - fill) l ≡ replicate fill 0
+
+filled-none : (l : List ℕ) → Filled l 0
+filled-none l = record { within = omega arith; zeros = drop-of-length-le l {i = length l - 0} (omega arith) }
+
+filled-whole : (l : List ℕ) → allZero l ≡ true → Filled l (length l)
+filled-whole l z =
+    let none : length l - length l ≡ 0 = omega arith in
+    record { within = omega arith; zeros = ap (λ (n : ℕ). drop n l) none ∙ zero-only l z }
+
 -- What holds at the end of a list and is kept by each step holds of every walk that lists its options.
 module _
     (P : ℕ → ℕ → List ℕ → List Item → ℕ → Type 0)
     (over : (room skip : ℕ) → P room skip [] [] 0)
-    (ends : (room fill : ℕ) (l : List ℕ) → fill ≤ length l → P room 0 l [] fill)
+    (ends : (room fill : ℕ) (l : List ℕ) → Filled l fill → P room 0 l [] fill)
     (skips : (room skip b : ℕ) (bs : List ℕ) (items : List Item) (fill : ℕ) → P room skip bs items fill → P room (suc skip) (b ∷ bs) items fill)
     (nop : (room : ℕ) (l : List ℕ) (items : List Item) (fill : ℕ) → 0 < length l → P room 1 l items fill → P room 0 l items fill)
     (found : (room : ℕ) (l : List ℕ) (items : List Item) (fill kind header size : ℕ) → stepOf l ≡ Found kind header size → (kind ≡ frag → ⊥)
@@ -104,8 +124,8 @@ module _
       Later = (left skip : ℕ) (later : List Item) → walkFrom left skip bs ≡ listed later fill → P left skip bs later fill
 
       go : (step : Step) → stepOf l ≡ step → ListsBy room l items fill step → Later → P room 0 l items fill
-      go End e q ih = rw (← (q .0), ← (q .1)) (ends room 0 l (omega arith))
-      go Eol e q ih = rw (← (q .0), ← (q .1)) (ends room (length l) l (omega arith))
+      go End e q ih = rw (← (q .0), ← (q .1)) (ends room 0 l (filled-none l))
+      go Eol e q ih = rw (← (q .0), ← (q .1)) (ends room (length l) l (filled-whole l (q .2)))
       go Nop e q ih = nop room l items fill (omega arith) (skips room 0 b bs items fill (ih room 0 items q))
       go Unsound e q ih = absurd q
       go Outlawed e q ih = absurd q

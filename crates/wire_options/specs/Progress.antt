@@ -4,12 +4,13 @@ use mathlib.Core.List.{List}
 use Prim.Native.Nat.{ℕ, zero, suc}
 use lib.Dec.{eqb}
 use lib.ListN.{length}
+use Rattle.number_octets.specs.Zeros.{allZero}
 use Rattle.wire_options.specs.Kinds.{frag}
 use Rattle.wire_options.specs.Step.{stepOf}
 use Rattle.wire_options.specs.Walk.{itemOf, apcOf}
 use Rattle.wire_options.specs.declared.step.Step.{Step}
 use Rattle.wire_options.specs.declared.step.Step.the-variants.{End, Eol, Nop, Found, Malformed as Unsound, Outlawed}
-use Rattle.wire_options.specs.declared.walk.Fault.the-variants.{Malformed, Unsafe, Crowded}
+use Rattle.wire_options.specs.declared.walk.Fault.the-variants.{Malformed, Unsafe, Crowded, Tail}
 use Rattle.wire_options.specs.declared.walk.Apcs.{Apcs}
 use Rattle.wire_options.specs.declared.walk.Apcs.the-variants.{Absent}
 use Rattle.wire_options.specs.declared.walk.Walk.{Walk}
@@ -22,9 +23,13 @@ abbrev pub roomProgress : ℕ → ℕ → Apcs → Progress
 roomProgress zero size apcs = Failed Crowded
 roomProgress (suc room) size apcs = On room size apcs
 
+-- EOL: the fill, or a tail
+abbrev pub endProgress : List ℕ → Progress
+endProgress l = cond (allZero l) (Ended (length l)) (Failed Tail)
+
 abbrev pub progressIn : ℕ → List ℕ → Step → Progress
 progressIn room l End = Ended 0
-progressIn room l Eol = Ended (length l)
+progressIn room l Eol = endProgress l
 progressIn room l Nop = On room 1 Absent
 progressIn room l (Found kind header size) = cond (eqb kind frag) (Failed Malformed) (roomProgress room size (apcOf (itemOf kind header size l)))
 progressIn room l Unsound = Failed Malformed

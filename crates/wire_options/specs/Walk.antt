@@ -5,12 +5,13 @@ use Prim.Native.Nat.{ℕ, zero, suc, _+_, _-_}
 use lib.Dec.{eqb}
 use lib.ListN.{length}
 use Rattle.number_octets.specs.Octets.{number, part}
+use Rattle.number_octets.specs.Zeros.{allZero}
 use Rattle.wire_options.specs.Kinds.{apc, frag}
 use Rattle.wire_options.specs.Step.{stepOf}
 use Rattle.wire_options.specs.declared.step.Step.{Step}
 use Rattle.wire_options.specs.declared.step.Step.the-variants.{End, Eol, Nop, Found, Malformed as Unsound, Outlawed}
 use Rattle.wire_options.specs.declared.walk.Fault.{Fault}
-use Rattle.wire_options.specs.declared.walk.Fault.the-variants.{Malformed, Unsafe, FragData, Crowded}
+use Rattle.wire_options.specs.declared.walk.Fault.the-variants.{Malformed, Unsafe, FragData, Crowded, Tail}
 use Rattle.wire_options.specs.declared.walk.Apcs.{Apcs}
 use Rattle.wire_options.specs.declared.walk.Apcs.the-variants.{Absent, Same, Different}
 use Rattle.wire_options.specs.declared.walk.Walk.{Walk}
@@ -47,11 +48,15 @@ abbrev pub sound : ℕ → Item → (ℕ → Walked) → Walked
 sound zero item rest = faulty Crowded
 sound (suc room) item rest = before item (rest room)
 
+-- EOL, at the front of `l`. With all behind it up to the end of the list it is the fill, "set to zero" (section 11.1); else "tail" (document 02, R-2).
+abbrev pub endsAt : List ℕ → Walked
+endsAt l = cond (allZero l) (listed [] (length l)) (faulty Tail)
+
 -- What follows from the step at the front of `l`. `rest room skip` is the walk behind its first byte, `skip` bytes further on.
--- The walk ends at the end or at EOL, which with all behind it is the fill; NOPs are skipped.
+-- The walk ends at the end or at EOL; NOPs are skipped.
 abbrev pub walkAt : ℕ → List ℕ → Step → (ℕ → ℕ → Walked) → Walked
 walkAt room l End rest = listed [] 0
-walkAt room l Eol rest = listed [] (length l)
+walkAt room l Eol rest = endsAt l
 walkAt room l Nop rest = rest room 0
 walkAt room l (Found kind header size) rest =
     cond (eqb kind frag) (faulty Malformed) (sound room (itemOf kind header size l) (λ left. rest left (size - 1)))

@@ -23,7 +23,7 @@ pub enum Header {
 pub enum Step {
     // Nothing is left.
     End,
-    // End of Options List: nothing behind it counts.
+    // End of Options List: no option stands behind it.
     Eol,
     Nop,
     // An option: its fields or body stand behind a header of `header` bytes; the next one stands `size` bytes on.

@@ -1,11 +1,12 @@
 // The walk over a list of options in which FRAG has no place: what is behind a leading FRAG, or the whole list where there is none.
 use crate::step;
 use crate::step::Step;
+use number_octets::zeros;
 ghost use mathlib.Core.Path.{_≡_};
 ghost use Prim.Native.Nat.{_<_};
 ghost use lib.ListN.{length};
 ghost use Rattle.wire_options.specs.Walk.{joined, walkAnswer, walkFrom};
-ghost use Rattle.wire_options.specs.Progress.{progressOf};
+ghost use Rattle.wire_options.specs.Progress.{endProgress, progressOf};
 
 // How many options besides NOP and EOL a list may have: a house rule.
 pub const OPTION_LIMIT: usize = 32;
@@ -21,6 +22,8 @@ pub enum Fault {
     // FRAG in a datagram that has user data.
     FragData,
     Crowded,
+    // A byte behind EOL that is not zero.
+    Tail,
 }
 
 // The values of a list's APC options: none, one value however often, or values that differ.
@@ -99,7 +102,7 @@ fn progress_at(rest: &[u8], room: usize) -> Progress
     let step = step::next(rest);
     match step {
         Step::End => Progress::Ended { fill: 0 },
-        Step::Eol => Progress::Ended { fill: rest.len() },
+        Step::Eol => end_at(rest),
         Step::Nop => on(room, 1, Apcs::Absent),
         Step::Found { kind, header, size } => {
             if kind == FRAG {
@@ -117,6 +120,16 @@ fn progress_at(rest: &[u8], room: usize) -> Progress
         Step::Malformed => Progress::Failed(Fault::Malformed),
         Step::Outlawed => Progress::Failed(Fault::Unsafe),
     }
+}
+
+// EOL stands at the front: with all behind it, it is the fill, which is zero bytes.
+fn end_at(rest: &[u8]) -> Progress
+    ensures { λ r. ⌜ r ≡ endProgress (now (rest .entry)) ⌝ }
+{
+    if zeros::all_zero(rest) {
+        return Progress::Ended { fill: rest.len() };
+    }
+    Progress::Failed(Fault::Tail)
 }
 
 fn on(room: usize, size: usize, apcs: Apcs) -> Progress

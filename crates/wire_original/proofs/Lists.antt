@@ -12,17 +12,17 @@ use Rattle.number_tests.proofs.Tests.{first-none}
 use Rattle.number_tests.specs.Tests.{firstOf}
 use Rattle.number_offsets.specs.Offsets.{udpHeader}
 use Rattle.wire_options.specs.Walk.{Walked, listed, faulty, walkFrom, optionLimit}
-use Rattle.wire_options.specs.declared.walk.Fault.the-variants.{Malformed as malformedList, Unsafe as unsafeList, FragData as fragData, Crowded as crowdedList}
+use Rattle.wire_options.specs.declared.walk.Fault.the-variants.{Malformed as malformedList, Unsafe as unsafeList, FragData as fragData, Crowded as crowdedList, Tail as tailed}
 use Rattle.wire_surplus.specs.Surplus.{startOf}
 use Rattle.wire_datagram.specs.Reading.{isOdd, isRead}
 use Rattle.wire_original.specs.Rereading.{ReAnswer, refused, rereads, originalOptionless, rewalked, restarted, reTests, reAnswered, rereading}
 use Rattle.wire_surplus.specs.declared.Start.{Start}
 use Rattle.wire_surplus.specs.declared.Start.the-variants.{Empty, Short as shortArea, Pad as badPad, Unsummed as noSum, BadSum as badSum, List as ListAt}
 use Rattle.wire_datagram.specs.declared.reading.Verdict.{Verdict}
-use Rattle.wire_datagram.specs.declared.reading.Verdict.the-variants.{Bare, Short, Pad, Unsummed, BadSum, Malformed, FragData, Crowded, Read}
+use Rattle.wire_datagram.specs.declared.reading.Verdict.the-variants.{Bare, Short, Pad, Unsummed, BadSum, Malformed, FragData, Crowded, Tail, Read}
 use Rattle.wire_original.specs.declared.Rereading.{Rereading}
 use Rattle.wire_surplus.proofs.Starts.{start-list}
-use Rattle.wire_datagram.proofs.Lists.{Lists, not-read}
+use Rattle.wire_datagram.proofs.Lists.{Lists, ZeroFill, lists-fill, not-read}
 
 abbrev pub RelistsIn : List ℕ → Rereading → Type 0
 RelistsIn original r = Lists original (r .options .from .0) (r .options .to .0) (r .count) (r .fill)
@@ -48,6 +48,7 @@ module _ (original : List ℕ) (r : ℕ) (x : Rereading) (v : x .verdict ≡ Rea
   rewalked-lists from (faulty malformedList) h e q = absurd (optionless-not Malformed refl q)
   rewalked-lists from (faulty fragData) h e q = absurd (optionless-not FragData refl q)
   rewalked-lists from (faulty crowdedList) h e q = absurd (optionless-not Crowded refl q)
+  rewalked-lists from (faulty tailed) h e q = absurd (optionless-not Tail refl q)
 
   restarted-lists : (odd : Bool) (start : Start) → r ≤ length original → startOf odd true (drop r original) ≡ start
       → restarted original r start ≡ rereads x → RelistsIn original x
@@ -72,3 +73,8 @@ rereading-lists original r x e v = go (firstOf (reTests original r)) refl e
     go none f q =
         let second = first-none _ _ (first-none _ _ f .1) .0 in
         restarted-lists original r x v (isOdd (udpHeader + r)) start (ltb-false (length original) r second) refl q
+
+-- Document 02, R-2: with "read" the fill is zero bytes throughout.
+pub rereading-fill : (original : List ℕ) (r : ℕ) (x : Rereading) → rereading original r ≡ rereads x → x .verdict ≡ Read
+    → ZeroFill original (x .options .from .0) (x .fill)
+rereading-fill original r x e v = lists-fill original (x .options .from .0) (x .options .to .0) (x .count) (x .fill) (rereading-lists original r x e v)

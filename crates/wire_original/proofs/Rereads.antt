@@ -16,6 +16,7 @@ use Rattle.wire_options.specs.declared.walk.Fault.the-variants.{
   Unsafe as unsafeList,
   FragData as fragData,
   Crowded as crowdedList,
+  Tail as tailed,
 }
 use Rattle.wire_surplus.specs.Surplus.{startOf}
 use Rattle.wire_datagram.specs.Reading.{isOdd}
@@ -31,7 +32,7 @@ use Rattle.wire_surplus.specs.declared.Start.the-variants.{
 }
 use Rattle.wire_datagram.specs.declared.reading.Apc.the-variants.{Absent}
 use Rattle.wire_datagram.specs.declared.reading.Verdict.{Verdict}
-use Rattle.wire_datagram.specs.declared.reading.Verdict.the-variants.{Bare, Short, Pad, Unsummed, BadSum, Malformed, FragData, Crowded, Read}
+use Rattle.wire_datagram.specs.declared.reading.Verdict.the-variants.{Bare, Short, Pad, Unsummed, BadSum, Malformed, FragData, Crowded, Tail, Read}
 use Rattle.wire_original.specs.declared.Rereading.{Rereading}
 
 -- nothing is reported of the area
@@ -62,6 +63,7 @@ rewalked-by original r from (faulty unsafeList) = tt
 rewalked-by original r from (faulty malformedList) = optionless-by r Malformed
 rewalked-by original r from (faulty fragData) = optionless-by r FragData
 rewalked-by original r from (faulty crowdedList) = optionless-by r Crowded
+rewalked-by original r from (faulty tailed) = optionless-by r Tail
 
 restarted-by : (original : List ℕ) (r : ℕ) (start : Start) → RereadBy r (restarted original r start)
 restarted-by original r Empty = optionless-by r Bare

@@ -9,7 +9,7 @@ use Rattle.number_tests.specs.Tests.{firstOf}
 use Rattle.number_offsets.specs.Offsets.{udpHeader}
 use Rattle.wire_options.specs.Walk.{Item, Walked, listed, faulty, walkFrom, optionLimit}
 use Rattle.wire_options.specs.declared.walk.Fault.{Fault}
-use Rattle.wire_options.specs.declared.walk.Fault.the-variants.{Malformed as malformedList, Unsafe as unsafeList, FragData as fragData, Crowded as crowdedList}
+use Rattle.wire_options.specs.declared.walk.Fault.the-variants.{Malformed as malformedList, Unsafe as unsafeList, FragData as fragData, Crowded as crowdedList, Tail as tailed}
 use Rattle.wire_surplus.specs.Surplus.{startOf}
 use Rattle.wire_datagram.specs.Reading.{apcValues, apcOf, verdictOf, isOdd}
 use Rattle.wire_surplus.specs.declared.Start.{Start}
@@ -23,7 +23,7 @@ use Rattle.wire_surplus.specs.declared.Start.the-variants.{
 }
 use Rattle.wire_datagram.specs.declared.reading.Apc.the-variants.{Absent}
 use Rattle.wire_datagram.specs.declared.reading.Verdict.{Verdict}
-use Rattle.wire_datagram.specs.declared.reading.Verdict.the-variants.{Bare, Short, Pad, Unsummed, BadSum, Malformed, FragData, Crowded, Read}
+use Rattle.wire_datagram.specs.declared.reading.Verdict.the-variants.{Bare, Short, Pad, Unsummed, BadSum, Malformed, FragData, Crowded, Tail, Read}
 use Rattle.wire_original.specs.declared.OriginalExtent.{OriginalExtent}
 use Rattle.wire_original.specs.declared.Rereading.{Rereading}
 use Rattle.wire_original.specs.declared.RereadRefusal.{RereadRefusal}
@@ -53,6 +53,7 @@ originalFaulty r unsafeList = refused 5
 originalFaulty r malformedList = originalOptionless r Malformed
 originalFaulty r fragData = originalOptionless r FragData
 originalFaulty r crowdedList = originalOptionless r Crowded
+originalFaulty r tailed = originalOptionless r Tail
 
 -- the list starts at place `from`; FRAG has no place in it
 abbrev pub rewalked : List ℕ → ℕ → ℕ → Walked → ReAnswer

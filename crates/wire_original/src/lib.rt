@@ -102,6 +102,7 @@ fn faulty(r: OriginalOffset, fault: Fault) -> RereadOutcome
         Fault::Malformed => optionless(r, Verdict::Malformed),
         Fault::FragData => optionless(r, Verdict::FragData),
         Fault::Crowded => optionless(r, Verdict::Crowded),
+        Fault::Tail => optionless(r, Verdict::Tail),
     }
 }
 

@@ -66,6 +66,12 @@ enum-told-10 c = search needs
 no-fragment-requires-10 : tie.Need-no-fragment-requires-10
 no-fragment-requires-10 c κs = search needs
 
+enum-told-11 : tie.Need-enum-told-11
+enum-told-11 c = search needs
+
+no-fragment-requires-11 : tie.Need-no-fragment-requires-11
+no-fragment-requires-11 c κs = search needs
+
 enum-known-verdict : tie.Need-enum-known-verdict
 enum-known-verdict c = search needs
 
@@ -100,7 +106,10 @@ returns-10 : tie.Need-returns-10
 returns-10 c = search needs
 
 returns-11 : tie.Need-returns-11
-returns-11 c = sym (ap fragmentIn (c .before .verdict .given .1))
+returns-11 c = search needs
+
+returns-12 : tie.Need-returns-12
+returns-12 c = sym (ap fragmentIn (c .before .verdict .given .1))
 
 pub fragment-in-spec : {M : Type 1} → statement M
 fragment-in-spec =
@@ -126,6 +135,8 @@ fragment-in-spec =
     no-fragment-requires-9
     enum-told-10
     no-fragment-requires-10
+    enum-told-11
+    no-fragment-requires-11
     enum-known-verdict
     returns
     returns-2
@@ -137,4 +148,5 @@ fragment-in-spec =
     returns-8
     returns-9
     returns-10
-    returns-11)
+    returns-11
+    returns-12)

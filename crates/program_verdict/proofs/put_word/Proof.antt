@@ -106,6 +106,15 @@ slice-aggregate-put-11 c = search needs
 put-requires-11 : tie.Need-put-requires-11
 put-requires-11 c κs = search needs
 
+enum-told-12 : tie.Need-enum-told-12
+enum-told-12 c = search needs
+
+slice-aggregate-put-12 : tie.Need-slice-aggregate-put-12
+slice-aggregate-put-12 c = search needs
+
+put-requires-12 : tie.Need-put-requires-12
+put-requires-12 c κs = search needs
+
 same-length : tie.Need-same-length
 same-length c = search needs
 
@@ -172,6 +181,12 @@ same-length-11 c = search needs
 returns-11 : tie.Need-returns-11
 returns-11 c = put-as (ap wordOf (sym (c .before .before .before .before .before .enum-told11 .given .1))) (c .before .before .put11 .ensures)
 
+same-length-12 : tie.Need-same-length-12
+same-length-12 c = search needs
+
+returns-12 : tie.Need-returns-12
+returns-12 c = put-as (ap wordOf (sym (c .before .before .before .before .before .enum-told12 .given .1))) (c .before .before .put12 .ensures)
+
 pub put-word-spec : {M : Type 1} → statement M
 put-word-spec =
     tie.close
@@ -209,6 +224,9 @@ put-word-spec =
     enum-told-11
     slice-aggregate-put-11
     put-requires-11
+    enum-told-12
+    slice-aggregate-put-12
+    put-requires-12
     same-length
     returns
     same-length-2
@@ -230,4 +248,6 @@ put-word-spec =
     same-length-10
     returns-10
     same-length-11
-    returns-11)
+    returns-11
+    same-length-12
+    returns-12)

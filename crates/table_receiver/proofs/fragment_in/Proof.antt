@@ -39,6 +39,9 @@ enum-told-9 c = search needs
 enum-told-10 : tie.Need-enum-told-10
 enum-told-10 c = search needs
 
+enum-told-11 : tie.Need-enum-told-11
+enum-told-11 c = search needs
+
 enum-known-verdict : tie.Need-enum-known-verdict
 enum-known-verdict c = search needs
 
@@ -73,7 +76,10 @@ returns-10 : tie.Need-returns-10
 returns-10 c = search needs
 
 returns-11 : tie.Need-returns-11
-returns-11 c = sym (ap (λ (v : Verdict). foundBy (pieceOf v)) (c .before .verdict .given .1))
+returns-11 c = search needs
+
+returns-12 : tie.Need-returns-12
+returns-12 c = sym (ap (λ (v : Verdict). foundBy (pieceOf v)) (c .before .verdict .given .1))
 
 pub fragment-in-spec : {M : Type 1} → statement M
 fragment-in-spec =
@@ -89,6 +95,7 @@ fragment-in-spec =
     enum-told-8
     enum-told-9
     enum-told-10
+    enum-told-11
     enum-known-verdict
     returns
     returns-2
@@ -100,4 +107,5 @@ fragment-in-spec =
     returns-8
     returns-9
     returns-10
-    returns-11)
+    returns-11
+    returns-12)

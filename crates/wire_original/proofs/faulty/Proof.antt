@@ -27,6 +27,12 @@ enum-told-4 c = search needs
 optionless-requires-3 : tie.Need-optionless-requires-3
 optionless-requires-3 c κs = search needs
 
+enum-told-5 : tie.Need-enum-told-5
+enum-told-5 c = search needs
+
+optionless-requires-4 : tie.Need-optionless-requires-4
+optionless-requires-4 c κs = search needs
+
 returns : tie.Need-returns
 returns c = ap (originalFaulty (c .before .before .args .r .0)) (sym (c .enum-told .given .1))
 
@@ -39,6 +45,9 @@ returns-3 c = c .optionless2 .ensures ∙ ap (originalFaulty (c .before .before 
 returns-4 : tie.Need-returns-4
 returns-4 c = c .optionless3 .ensures ∙ ap (originalFaulty (c .before .before .before .args .r .0)) (sym (c .before .enum-told4 .given .1))
 
+returns-5 : tie.Need-returns-5
+returns-5 c = c .optionless4 .ensures ∙ ap (originalFaulty (c .before .before .before .args .r .0)) (sym (c .before .enum-told5 .given .1))
+
 pub faulty-spec : {M : Type 1} → statement M
 faulty-spec =
     tie.close
@@ -50,7 +59,10 @@ faulty-spec =
     optionless-requires-2
     enum-told-4
     optionless-requires-3
+    enum-told-5
+    optionless-requires-4
     returns
     returns-2
     returns-3
-    returns-4)
+    returns-4
+    returns-5)

@@ -30,6 +30,9 @@ enum-told c = search needs
 enum-told-2 : tie.Need-enum-told-2
 enum-told-2 c = search needs
 
+end-at-requires : tie.Need-end-at-requires
+end-at-requires c κs = search needs
+
 enum-told-3 : tie.Need-enum-told-3
 enum-told-3 c = search needs
 
@@ -116,8 +119,8 @@ returns-4 c = let a = c .before .before .before .before .args in sym
     (turn-is (a .room) (a .rest .now) _ (sym (c .before .before .next .ensures) ∙ c .enum-told .given .1))
 
 returns-5 : tie.Need-returns-5
-returns-5 c = let a = c .before .before .before .before .args in sym
-    (turn-is (a .room) (a .rest .now) _ (sym (c .before .before .next .ensures) ∙ c .enum-told2 .given .1))
+returns-5 c = let a = c .before .before .before .before .before .args in c .end-at .ensures
+    ∙ sym (turn-is (a .room) (a .rest .now) _ (sym (c .before .before .before .next .ensures) ∙ c .before .enum-told2 .given .1))
 
 returns-6 : tie.Need-returns-6
 returns-6 c = let a = c .before .before .before .before .before .args in c .on .ensures
@@ -147,6 +150,7 @@ progress-at-spec =
     next-requires
     enum-told
     enum-told-2
+    end-at-requires
     enum-told-3
     on-requires
     enum-known-step

@@ -1,13 +1,13 @@
--- `number_crc32c::little` meets its contract: four bytes are the digits of the number (`little-four`), and a byte is below 256.
+-- `number_octets::get_u32_little` meets its contract: four bytes are the digits of the number (`little-four`), and a byte is below 256.
 -- Assumes nothing.
 use mathlib.Core.Path.{sym}
 use Prim.Native.Nat.{_+_, _<_}
 use native.Mathlib.Omega.{arith}
 use lib.ListN.{getD}
-use Rattle.number_crc32c.proofs.Laws.{little-four}
+use Rattle.number_octets.proofs.Laws.{little-four}
 use borrow.Author.Needs.{needs}
-use Rattle.number_crc32c.proofs.little.Statement.{statement}
-use Rattle.number_crc32c.proofs.little.Tie as tie
+use Rattle.number_octets.proofs.get_u32_little.Statement.{statement}
+use Rattle.number_octets.proofs.get_u32_little.Tie as tie
 
 -- the bytes are below 256
 small : (c : tie.After-shared-slice-known4) → let a = c .before .before .before .before .args in
@@ -71,8 +71,8 @@ add-result-3 c = omega (arith, small c)
 returns : tie.Need-returns
 returns c = let a = c .before .before .before .before .args in sym (little-four (a .at) (a .bytes .now) (c .before .before .before .before .pre))
 
-pub little-spec : {M : Type 1} → statement M
-little-spec =
+pub get-u32-little-spec : {M : Type 1} → statement M
+get-u32-little-spec =
     tie.close
     (tie.spec
     shared-slice-read-first
