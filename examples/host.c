@@ -131,7 +131,7 @@ static size_t out_length;
 static const char *verdict_word(uint32_t verdict)
 {
     static const char *const words[] = {"none",   "short",    "pad",     "unsummed", "badsum", "malformed",
-                                        "unsafe", "fragdata", "crowded", "read",     "piece"};
+                                        "unsafe", "fragdata", "crowded", "read",     "piece",  "tail"};
     return verdict < sizeof words / sizeof words[0] ? words[verdict] : "?";
 }
 

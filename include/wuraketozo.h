@@ -48,7 +48,8 @@ typedef struct {
 
 /* ---- reading ---- */
 
-/* The verdict on what stands behind the user data (the surplus area). With every verdict but PIECE the user data is to be delivered. */
+/* The verdict on what stands behind the user data (the surplus area). With every verdict but PIECE the user data is to be delivered. A
+ * number stays what it is: new verdicts come at the end. */
 enum {
     WURAKETOZO_NONE = 0,
     WURAKETOZO_SHORT = 1,
@@ -60,7 +61,8 @@ enum {
     WURAKETOZO_FRAGDATA = 7,
     WURAKETOZO_CROWDED = 8,
     WURAKETOZO_READ = 9,
-    WURAKETOZO_PIECE = 10
+    WURAKETOZO_PIECE = 10,
+    WURAKETOZO_TAIL = 11 /* a byte behind EOL is not zero, up to the end or, in a fragment's list, up to its part */
 };
 
 /* What the APC options say of the user data. */
@@ -69,7 +71,7 @@ enum { WURAKETOZO_APC_NONE = 0, WURAKETOZO_APC_RIGHT = 1, WURAKETOZO_APC_WRONG =
 /* What a payload says. */
 typedef struct {
     uint32_t refusal;          /* 0, or the reader's number; then every other field is 0 */
-    uint32_t verdict;          /* WURAKETOZO_NONE .. WURAKETOZO_PIECE */
+    uint32_t verdict;          /* WURAKETOZO_NONE .. WURAKETOZO_TAIL */
     wuraketozo_extent user;    /* the user data */
     wuraketozo_extent options; /* the option list with its fill, 0 and 0 unless the verdict is READ */
     size_t count;              /* options in it, NOP and EOL not counted */
@@ -88,7 +90,7 @@ wuraketozo_reading wuraketozo_read(const uint8_t *payload, size_t length, wurake
 /* What an original says. */
 typedef struct {
     uint32_t refusal;                   /* 0, or the reader's number; then every other field is 0 */
-    uint32_t verdict;                   /* WURAKETOZO_NONE .. WURAKETOZO_READ, and not UNSAFE, which is refusal 5 */
+    uint32_t verdict;                   /* WURAKETOZO_NONE .. WURAKETOZO_READ or TAIL, and not UNSAFE, which is refusal 5 */
     wuraketozo_original_extent user;    /* the user data */
     wuraketozo_original_extent options; /* the option list with its fill, 0 and 0 unless the verdict is READ */
     size_t count;                       /* options in it, NOP and EOL not counted */

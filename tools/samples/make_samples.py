@@ -1,7 +1,8 @@
 #!/usr/bin/env python3
-"""Writes samples/NAME.bin (8 address bytes and a payload) and samples/NAME.txt (what document 01 says is printed of it).
+"""Writes samples/NAME.bin (8 address bytes and a payload) and samples/NAME.txt (what document 01 says is printed of it, with R-2 of
+document 02).
 
-The expected text comes from a reading of document 01 in this script alone: refusals 1 to 4 in order, the verdicts in order, the walk.
+The expected text comes from a reading of the papers in this script alone: refusals 1 to 4 in order, the verdicts in order, the walk.
 Each sample also names the first words that it is meant to give, so that a slip in a sample's bytes is seen here."""
 import os, struct, sys
 
@@ -43,7 +44,7 @@ def area_of(options, size=8, ocs=None):
     return pad + struct.pack(">H", ocs) + options
 
 
-# ---- the reading of document 01
+# ---- the reading of document 01, and of R-2 in document 02
 
 FIXED = {2: 6, 4: 4, 5: 5, 6: 6, 7: 6, 8: 10}
 
@@ -80,6 +81,8 @@ def walk(payload, at, size):
     while at < end:
         kind = payload[at]
         if kind == 0:
+            if payload[at + 1:end].strip(b"\0"):
+                raise Fault("tail")
             return (None, 0) if frag else (found, end - at)
         if kind == 1:
             at += 1
@@ -199,12 +202,28 @@ SAMPLES = {
     "piece_last": (SRC + DST + udp(area_of(FRAG(22, struct.pack(">H", 11)) + b"end")), "piece"),
     "piece_31_others": (SRC + DST + udp(area_of(FRAG(82) + opt(9, b"") * 31 + b"xyz")), "piece"),
     "crowded_behind_frag": (SRC + DST + udp(area_of(FRAG(84) + opt(9, b"") * 32 + b"xyz")), "crowded"),
+    "piece_behind_eol": (SRC + DST + udp(area_of(FRAG(21) + b"\0" + b"first")), "piece"),
+    "piece_behind_fill": (SRC + DST + udp(area_of(FRAG(26) + b"\0" * 6 + b"\xc0\x03")), "piece"),
+    "tail_right_behind_eol": (SRC + DST + udp(area_of(TOKEN + b"\0\xff\0\0", size=10), user=b"ab"), "tail"),
+    "tail_last_byte": (SRC + DST + udp(area_of(TOKEN + b"\0" * 9 + b"\x01", size=9), user=b"x"), "tail"),
+    "tail_last_byte_longest": (SRC + DST + udp(area_of(TOKEN + b"\0" * 65498 + b"\x80")), "tail"),
+    "tail_option_behind_eol": (SRC + DST + udp(area_of(b"\0" + TOKEN)), "tail"),
+    "tail_unsafe_behind_eol": (SRC + DST + udp(area_of(TOKEN + b"\0\xc0", size=10), user=b"ab"), "tail"),
+    "tail_frag_behind_eol": (SRC + DST + udp(area_of(b"\0" + FRAG(21) + b"first")), "tail"),
+    "tail_behind_32_options": (SRC + DST + udp(area_of(opt(9, b"") * 32 + b"\0" + opt(9, b""))), "tail"),
+    "tail_in_piece": (SRC + DST + udp(area_of(FRAG(22) + b"\0\x01" + b"first")), "tail"),
+    "tail_in_piece_last_byte": (SRC + DST + udp(area_of(FRAG(30) + TOKEN + b"\0\0\0\x80" + b"first")), "tail"),
+    "malformed_before_tail": (SRC + DST + udp(area_of(b"\x06\x05\0\0\0" + b"\0\xff")), "malformed"),
+    "unsafe_before_tail": (SRC + DST + udp(area_of(b"\xc0\0\xff")), "unsafe"),
+    "crowded_before_tail": (SRC + DST + udp(area_of(opt(9, b"") * 33 + b"\0\xff")), "crowded"),
+    "fragdata_before_tail": (SRC + DST + udp(area_of(FRAG(24) + b"\0\x01", size=10), user=b"ab"), "fragdata"),
     "malformed_across_frag_start": (SRC + DST + udp(area_of(FRAG(22) + opt(9, b"ab"))), "malformed"),
     "read_line1": (SRC + DST + udp(bytes.fromhex("f8c506060000012c")), "read"),
     "read_line2": (SRC + DST + udp(bytes.fromhex("00f8c406060000012c"), user=b"x"), "read"),
     "read_empty": (SRC + DST + udp(bytes.fromhex("fffd")), "read"),
     "read_no_sums": (SRC + DST + udp(area_of(TOKEN, ocs=0), checksum=0), "read"),
-    "read_fill": (SRC + DST + udp(area_of(TOKEN + b"\0\xff\x06")), "read"),
+    "read_fill": (SRC + DST + udp(area_of(TOKEN + b"\0\0\0")), "read"),
+    "read_fill_longest": (SRC + DST + udp(area_of(TOKEN + b"\0" * 65499)), "read"),
     "read_mixed": (SRC + DST + udp(area_of(MIXED, size=40), user=b"\0" * 32), "read"),
     "read_apc_wrong": (SRC + DST + udp(area_of(opt(2, b"\0\0\0\1"), size=10), user=b"ab"), "read"),
     "read_extended": (SRC + DST + udp(area_of(opt(10, bytes(range(256))) + opt(11, b"\xde\xad" * 200))), "read"),

@@ -72,6 +72,9 @@ static const uint8_t read_list[] = {HEAD(8), 0, 0};
 static const uint8_t apc_right[] = {HEAD(8), 0, 0, 2, 6, 0, 0, 0, 0};
 static const uint8_t apc_wrong[] = {HEAD(8), 0, 0, 2, 6, 0, 0, 0, 1};
 static const uint8_t piece[] = {HEAD(8), 0, 0, 3, 10, 0, 20, 0, 0, 0, 7, 0, 8, 'a', 'b'};
+static const uint8_t tail[] = {HEAD(8), 0, 0, 6, 6, 0, 0, 1, 44, 0, 0, 1};
+static const uint8_t tail_in_piece[] = {HEAD(8), 0, 0, 3, 10, 0, 22, 0, 0, 0, 7, 0, 8, 0, 1, 'a', 'b'};
+static const uint8_t piece_behind_eol[] = {HEAD(8), 0, 0, 3, 10, 0, 21, 0, 0, 0, 9, 0, 8, 0, 1, 'a', 'b'};
 
 #define READ(payload) wuraketozo_read(payload, sizeof(payload), here, there)
 
@@ -98,12 +101,20 @@ static void verdicts_and_apc(void)
     CHECK(READ(fragdata).verdict == WURAKETOZO_FRAGDATA);
     CHECK(READ(crowded).verdict == WURAKETOZO_CROWDED);
     CHECK(READ(piece).verdict == WURAKETOZO_PIECE);
+    CHECK(READ(tail).verdict == WURAKETOZO_TAIL);
+    CHECK(READ(tail).options.from == 0 && READ(tail).options.to == 0 && READ(tail).count == 0 && READ(tail).fill == 0);
+    CHECK(wuraketozo_read(tail, sizeof tail - 1, here, there).verdict == WURAKETOZO_READ);
+    CHECK(wuraketozo_read(tail, sizeof tail - 1, here, there).fill == 2);
+    CHECK(READ(tail_in_piece).verdict == WURAKETOZO_TAIL && READ(tail_in_piece).part.to == 0);
+    CHECK(READ(piece_behind_eol).verdict == WURAKETOZO_PIECE && READ(piece_behind_eol).part.from == 21);
     CHECK(READ(read_list).apc == WURAKETOZO_APC_NONE);
     CHECK(READ(apc_right).apc == WURAKETOZO_APC_RIGHT);
     CHECK(READ(apc_wrong).apc == WURAKETOZO_APC_WRONG);
     /* of an original: its bytes are the payload's behind the header */
     CHECK(wuraketozo_reread(read_list + 8, 2, 0).verdict == WURAKETOZO_READ);
     CHECK(wuraketozo_reread(unsafe_kind + 8, 3, 0).refusal == 5);
+    CHECK(wuraketozo_reread(tail + 8, sizeof tail - 8, 0).refusal == 0);
+    CHECK(wuraketozo_reread(tail + 8, sizeof tail - 8, 0).verdict == WURAKETOZO_TAIL);
     CHECK(wuraketozo_reread(apc_wrong + 8, 8, 0).apc == WURAKETOZO_APC_WRONG);
     CHECK(READ(piece).part.from == 20 && READ(piece).part.to == sizeof piece && READ(piece).place == 0);
     CHECK(READ(apc_right).user.from == 8 && READ(apc_right).options.from == 10);
@@ -145,6 +156,9 @@ static void outcomes(void)
     CHECK(wuraketozo_reset(records, 1, store, sizeof store).outcome == WURAKETOZO_RESET);
     CHECK(RECEIVE(apc_right).what == WURAKETOZO_DATAGRAM);
     CHECK(RECEIVE(piece).what == WURAKETOZO_FRAGMENT);
+    CHECK(RECEIVE(tail_in_piece).what == WURAKETOZO_DATAGRAM && RECEIVE(tail_in_piece).reading.verdict == WURAKETOZO_TAIL);
+    CHECK(RECEIVE(piece_behind_eol).what == WURAKETOZO_FRAGMENT);
+    CHECK(wuraketozo_account(records, 1, store, sizeof store, 0).figures.offered == 5);
     CHECK(wuraketozo_receive(records, 1, store, sizeof store, 0, 0, here, there, none, 7, out, sizeof out).what == WURAKETOZO_UNREAD);
 }
 
@@ -167,7 +181,7 @@ static void nothing_at_all(void)
     CHECK(wuraketozo_reread(NULL, 0, 0).refusal == 0 && wuraketozo_reread(NULL, 0, 0).verdict == WURAKETOZO_NONE);
     CHECK(same_rereading(wuraketozo_reread(NULL, 0, 1), wuraketozo_reread(some, 0, 1)));
 
-    for (uint32_t verdict = WURAKETOZO_NONE; verdict <= WURAKETOZO_PIECE; verdict++) {
+    for (uint32_t verdict = WURAKETOZO_NONE; verdict <= WURAKETOZO_TAIL; verdict++) {
         CHECK(same_listing(wuraketozo_list(NULL, 0, verdict, whole, buffer, sizeof buffer),
                            wuraketozo_list(some, 0, verdict, whole, left, sizeof left)));
         CHECK(memcmp(buffer, left, sizeof left) == 0);

@@ -1,6 +1,5 @@
-"""A reader of UDP payloads with RFC 9868 options, written from document 01 and the RFC alone."""
+"""A reader of UDP payloads with RFC 9868 options, written from document 01, R-2 of document 02 and the RFC alone."""
 
-WORDS_WITHOUT_OPTIONS = "none short pad unsummed badsum malformed unsafe fragdata crowded".split()
 FIXED = {2: (6,), 3: (10, 12), 4: (4,), 5: (5,), 6: (6,), 7: (6,), 8: (10,)}
 
 
@@ -89,6 +88,8 @@ def walk(b, at, frag_allowed, user_empty):
     while at < end:
         kind = b[at]
         if kind == 0:
+            if any(b[at + 1:end]):
+                raise Verdict("tail")
             return count, end - at, apcs, piece
         if kind == 1:
             at += 1

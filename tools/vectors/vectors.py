@@ -1,4 +1,4 @@
-"""The vectors: groups of packets and originals, each with what document 01 says of it."""
+"""The vectors: groups of packets and originals, each with what document 01 and R-2 of document 02 say of it."""
 import reader
 from parts import *
 from reader import crc32c
@@ -43,6 +43,11 @@ def mixed(size):
 def long_option(whole):
     """An option of so many bytes, 255 or more, with a body of no pattern."""
     return Part(f"kind 9 of {whole} bytes", b"\x09\xff" + n(whole, 2) + mixed(whole - 4))
+
+
+def bad_fill(size, at, value):
+    """So many zeros, but for one byte."""
+    return Part(f"{size} zeros, but byte {at} is {value:02x}", bytes(at) + bytes([value]) + bytes(size - at - 1))
 
 
 GROUPS = {}
@@ -226,6 +231,11 @@ group("large", "largest", "The largest payload.",
 group("large", "long_lists", "Long fills, NOPs without end, and unsafe bytes.",
       P("fill-300", "read 1 fill 300", [REQ(1)], AB, fill=(0, 10 + 2 + 6 + 300)),
       P("largest-fill", "read 0 fill 65505", [], fill=(0, 65515)),
+      P("largest-fill-of-ones", "tail", [EOL], fill=(1, 65515)),
+      P("largest-fill-first-byte", "tail", [REQ(1), EOL, raw("a byte", "80")], AB, fill=(0, 65515)),
+      P("largest-fill-before-the-start", "piece 0 65515-65515", [FRAG(65515, 7, 8)], fill=(0, 65515)),
+      P("largest-fill-byte-before-the-start", "tail", [FRAG(65515, 7, 8), EOL, raw("a byte", "01")], fill=(0, 65515)),
+      P("largest-piece-behind-eol", "piece 0 21-65515", [FRAG(21, 7, 8), EOL], fill=(0xC0, 65515)),
       P("largest-nops", "read 0", [], fill=(1, 65515)),
       P("largest-unsafe", "unsafe", [], fill=(0xC0, 65515)))
 
@@ -240,20 +250,50 @@ group("large", "refused", "One byte more than the largest payload: refusal 2 com
 group("lists", "eol", "EOL at each position, and what stands behind it.",
       P("eol-alone", "read 0 fill 1", [EOL]),
       P("eol-and-zeros", "read 0 fill 4", [EOL, raw("zeros", "000000")], AB),
-      P("eol-and-bytes", "read 0 fill 4", [EOL, raw("bytes that are not looked at", "0906c0")], AB),
-      P("eol-between", "read 1 fill 7", [REQ(1), EOL, RES(2)], AB),
+      P("eol-and-bytes", "tail", [EOL, raw("bytes that are not zero", "0906c0")], AB),
+      P("eol-between", "tail", [REQ(1), EOL, RES(2)], AB),
       P("eol-last", "read 2 fill 1", [REQ(1), RES(2), EOL], A),
-      P("eol-behind-nop", "read 0 fill 3", [NOP, NOP, EOL, NOP, NOP]),
-      P("eol-before-malformed", "read 1 fill 3", [REQ(1), EOL, raw("kind 9, length byte 0", "0900")]),
-      P("eol-before-unsafe", "read 1 fill 3", [REQ(1), EOL, K(192)], AB))
+      P("eol-behind-nop", "read 0 fill 3", [NOP, NOP, EOL, raw("zeros", "0000")]),
+      P("eol-before-nops", "tail", [NOP, NOP, EOL, NOP, NOP]),
+      P("eol-before-malformed", "tail", [REQ(1), EOL, raw("kind 9, length byte 0", "0900")]),
+      P("eol-before-unsafe", "tail", [REQ(1), EOL, K(192)], AB, note="Not unsafe: the walk has ended."))
 
 group("lists", "eol_order", "EOL and faults: the first met decides.",
       P("eol-behind-malformed", "malformed", [raw("kind 9, length byte 0", "0900"), EOL]),
       P("eol-behind-unsafe", "unsafe", [K(192), EOL, EOL]),
       P("eol-in-a-body", "read 2", [K(9, "0000"), REQ(1)]),
-      P("eol-before-frag", "read 0 fill 15", [EOL, FRAG(21, 7, 8), fragment("aabbccdd")]),
-      P("eol-behind-nop-before-frag", "read 0 fill 15", [NOP, EOL, FRAG(22, 7, 8), fragment("aabbccdd")]),
-      P("eol-odd", "read 1 fill 2", [REQ(1), EOL, raw("a byte that is not looked at", "ff")], A))
+      P("eol-before-frag", "tail", [EOL, FRAG(21, 7, 8), fragment("aabbccdd")]),
+      P("eol-before-frag-with-data", "tail", [EOL, FRAG(23, 7, 8), fragment("aabbccdd")], AB),
+      P("eol-behind-nop-before-frag", "tail", [NOP, EOL, FRAG(22, 7, 8), fragment("aabbccdd")]))
+
+group("lists", "tails", "Bytes behind EOL, up to the end: one that is not zero gives tail.",
+      P("tail-right-behind-eol", "tail", [REQ(1), EOL, raw("a byte", "01")], AB),
+      P("tail-right-behind-eol-odd", "tail", [REQ(1), EOL, raw("a byte", "ff")], A),
+      P("tail-no-option", "tail", [EOL, raw("a byte", "80")]),
+      P("tail-last-byte", "tail", [REQ(1), EOL, raw("zeros and a last byte", "0000000001")], AB),
+      P("tail-last-byte-odd", "tail", [REQ(1), EOL, raw("zeros and a last byte", "0000000080")], A),
+      P("tail-first-of-zeros", "tail", [REQ(1), EOL, raw("a byte and zeros", "0100000000000000000000")], AB),
+      P("tail-a-second-eol", "tail", [REQ(1), EOL, EOL, EOL, NOP], AB),
+      P("tail-no-sums", "tail", [REQ(1), EOL, raw("a byte", "01")], AB, udp=0, ocs=0),
+      P("fill-odd", "read 1 fill 2", [REQ(1), EOL, raw("a zero", "00")], A),
+      P("fill-no-sums", "read 1 fill 2", [REQ(1), EOL, raw("a zero", "00")], AB, udp=0, ocs=0))
+
+group("lists", "long_tails", "A byte in each part of a long fill.",
+      *(P(f"tail-byte-{at}-of-{size}", "tail", [REQ(1), EOL, bad_fill(size, at, 1 << at % 8)], AB)
+        for size, at in ((8, 7), (9, 8), (16, 8), (31, 15), (64, 31), (64, 63), (65, 64), (300, 0), (300, 150), (300, 299), (1400, 701))),
+      *(P(f"tail-byte-{at}-of-{size}-odd", "tail", [REQ(1), EOL, bad_fill(size, at, 1 << at % 8)], A)
+        for size, at in ((8, 7), (63, 62), (300, 150), (300, 299))),
+      P("fill-of-64", "read 1 fill 65", [REQ(1), EOL, raw("64 zeros", "00" * 64)], AB))
+
+group("lists", "tail_order", "Tail and the tests before it: it is tested when EOL is met.",
+      P("tail-behind-malformed", "malformed", [raw("kind 9, length byte 1", "0901"), EOL, raw("a byte", "01")], AB),
+      P("tail-behind-a-cut-option", "malformed", [raw("kind 6 of 5 bytes", "0605000000"), EOL, raw("a byte", "01")], AB),
+      P("tail-behind-frag-in-the-wrong-place", "malformed", [MDS(1500), FRAG(24, 7, 8), EOL, raw("a byte", "01")]),
+      P("tail-behind-unsafe", "unsafe", [K(192), EOL, raw("a byte", "01")], AB),
+      P("tail-with-apc", "tail", [APC(crc32c(AB)), EOL, raw("a byte", "01")], AB, note="The APC is not reported."),
+      P("tail-unsummed", "unsummed", [REQ(1), EOL, raw("a byte", "01")], AB, ocs=0),
+      P("tail-badsum", "badsum", [REQ(1), EOL, raw("a byte", "01")], AB, ocs=0x1234),
+      P("tail-bad-pad", "pad", [REQ(1), EOL, raw("a byte", "01")], A, pad=7))
 
 group("lists", "counts", "The 33rd option.",
       P("32-options", "read 32", [many(32)]),
@@ -267,7 +307,11 @@ group("lists", "other_counts", "The 33rd option of other kinds, and what does no
       P("33rd-frag", "malformed", [many(32), FRAG(86, 7, 8)]),
       P("33rd-apc", "crowded", [many(32), APC(0)]),
       P("34th-unsafe", "crowded", [many(33), K(192)]),
-      P("32-and-nops", "read 32 fill 3", [NOP, many(32), NOP, EOL, many(1)]),
+      P("32-and-nops", "read 32 fill 3", [NOP, many(32), NOP, EOL, raw("zeros", "0000")]),
+      P("32-eol-and-option", "tail", [NOP, many(32), NOP, EOL, many(1)], note="The 33rd stands behind EOL."),
+      P("32-eol-and-unsafe", "tail", [many(32), EOL, K(192)], AB),
+      P("33-eol-and-bytes", "crowded", [many(33), EOL, raw("a byte", "01")], AB),
+      P("33rd-malformed-eol-and-bytes", "malformed", [many(32), raw("kind 9, length byte 1", "0901"), EOL, raw("a byte", "01")], AB),
       P("31-and-req", "read 32", [many(31), REQ(1)], AB))
 
 group("lists", "apcs", "APC options.",
@@ -296,7 +340,7 @@ group("lists", "several_apcs", "Several APC options: wrong if any differs.",
       P("apc-two-that-differ", "read 2 wrong", [APC(1), APC(2)], AB),
       P("apc-two-wrong", "read 2 wrong", [APC(1), APC(1)], AB),
       P("apc-third-wrong", "read 3 wrong", [APC(crc32c(AB)), APC(crc32c(AB)), APC(1)], AB),
-      P("apc-right-behind-eol", "read 0 fill 7", [EOL, APC(crc32c(AB))], AB))
+      P("apc-right-behind-eol", "tail", [EOL, APC(crc32c(AB))], AB))
 
 group("lists", "silent_apcs", "APC options that are not reported.",
       P("apc-before-malformed", "malformed", [APC(crc32c(AB)), raw("kind 9, length byte 1", "0901")], AB),
@@ -321,7 +365,7 @@ group("fragments", "positions", "FRAG elsewhere.",
       P("frag-twice", "malformed", [FRAG(30, 7, 8), FRAG(30, 7, 8), fragment("aabb")]),
       P("frag-behind-frag-cut", "malformed", [FRAG(21, 7, 8), raw("kind 3", "03"), fragment("aabb")]),
       P("frag-in-the-fragment", "piece 0 20-30", [FRAG(20, 7, 8), FRAG(30, 7, 8)], note="The second FRAG is the fragment's bytes."),
-      P("frag-behind-eol-on-a-piece", "piece 0 31-33", [FRAG(31, 7, 8), EOL, FRAG(31, 7, 8), fragment("aabb")]),
+      P("frag-behind-eol-on-a-piece", "tail", [FRAG(31, 7, 8), EOL, FRAG(31, 7, 8), fragment("aabb")]),
       P("frag-behind-apc-with-data", "malformed", [APC(crc32c(AB)), FRAG(28, 7, 8)], AB))
 
 group("fragments", "lengths", "FRAG's length byte.",
@@ -372,11 +416,34 @@ group("fragments", "others", "Other options on a piece.",
 
 group("fragments", "piece_ends", "EOL and counts on a piece.",
       P("piece-eol", "piece 0 24-26", [FRAG(24, 9, 8), EOL, raw("zeros", "000000"), fragment("aabb")]),
-      P("piece-eol-and-bytes", "piece 0 24-26", [FRAG(24, 9, 8), EOL, raw("bytes that are not looked at", "c00600"), fragment("aabb")]),
+      P("piece-eol-and-bytes", "tail", [FRAG(24, 9, 8), EOL, raw("bytes that are not zero", "c00600"), fragment("aabb")]),
       P("piece-eol-behind-malformed", "malformed", [FRAG(23, 9, 8), raw("kind 9, length byte 0", "0900"), EOL, fragment("aabb")]),
       P("frag-and-31", "piece 0 82-84", [FRAG(82, 9, 8), many(31), fragment("aabb")]),
       P("frag-and-32", "crowded", [FRAG(84, 9, 8), many(32), fragment("aabb")]),
-      P("frag-and-31-eol", "piece 0 85-87", [FRAG(85, 9, 8), many(31), EOL, many(1), fragment("aabb")]))
+      P("frag-and-31-eol", "piece 0 85-87", [FRAG(85, 9, 8), many(31), EOL, raw("zeros", "0000"), fragment("aabb")]),
+      P("frag-and-31-eol-and-option", "tail", [FRAG(85, 9, 8), many(31), EOL, many(1), fragment("aabb")]),
+      P("frag-and-32-eol-and-bytes", "crowded", [FRAG(86, 9, 8), many(32), EOL, raw("a byte", "01"), fragment("aabb")]))
+
+group("fragments", "piece_tails", "Bytes behind EOL on a piece count up to Frag. Start; one that is not zero gives tail, and no piece.",
+      P("piece-eol-right-before-the-start", "piece 0 21-24", [FRAG(21, 9, 8), EOL, fragment("aabbcc")]),
+      P("piece-eol-zero-start", "piece 0 22-24", [FRAG(22, 9, 8), EOL, raw("a zero", "00"), fragment("aabb")]),
+      P("piece-eol-byte-start", "tail", [FRAG(22, 9, 8), EOL, raw("a byte", "01"), fragment("aabb")]),
+      P("piece-eol-last-byte-before-the-start", "tail", [FRAG(31, 9, 8), EOL, bad_fill(10, 9, 128), fragment("aabb")]),
+      P("piece-eol-last-byte-behind-the-start", "piece 0 30-33", [FRAG(30, 9, 8), EOL, bad_fill(10, 9, 128), fragment("aabb")]),
+      P("piece-eol-and-long-zeros", "piece 0 321-323", [FRAG(321, 9, 8), EOL, raw("300 zeros", "00" * 300), fragment("aabb")]),
+      P("piece-eol-byte-in-long-zeros", "tail", [FRAG(321, 9, 8), EOL, bad_fill(300, 150, 64), fragment("aabb")]),
+      P("piece-eol-no-bytes-behind-the-start", "tail", [FRAG(22, 9, 8), EOL, raw("a byte", "01")]),
+      P("last-piece-eol-right-before-the-start", "piece 0 23-25 last 2", [FRAG(23, 9, 8, 10), EOL, fragment("aabb")]),
+      P("last-piece-eol-byte-start", "tail", [FRAG(24, 9, 8, 10), EOL, raw("a byte", "01"), fragment("aabb")]))
+
+group("fragments", "more_piece_tails", "Tail on a piece beside other options and faults.",
+      P("piece-option-eol-zero", "piece 0 26-28", [FRAG(26, 9, 8), MDS(1500), EOL, raw("a zero", "00"), fragment("aabb")]),
+      P("piece-option-eol-byte", "tail", [FRAG(26, 9, 8), MDS(1500), EOL, raw("a byte", "01"), fragment("aabb")]),
+      P("piece-nop-eol-unsafe", "tail", [NOP, FRAG(25, 9, 8), NOP, EOL, K(192), fragment("aabb")], note="Not unsafe: the walk has ended."),
+      P("piece-malformed-eol-byte", "malformed", [FRAG(24, 9, 8), raw("kind 9, length byte 1", "0901"), EOL, raw("a byte", "01"), fragment("aabb")]),
+      P("piece-unsafe-eol-byte", "unsafe", [FRAG(24, 9, 8), K(192), EOL, raw("a byte", "01"), fragment("aabb")]),
+      P("frag-offset-7-eol-byte", "malformed", [FRAG(22, 9, 7), EOL, raw("a byte", "01"), fragment("aabb")]),
+      P("piece-no-sums-eol-byte", "tail", [FRAG(22, 9, 8), EOL, raw("a byte", "01"), fragment("aabb")], udp=0, ocs=0))
 
 group("fragments", "piece_counts", "More counts on a piece.",
       P("frag-31-and-options-behind", "piece 0 82-86", [FRAG(82, 9, 8), many(31), many(2)], note="The last four bytes are the fragment."),
@@ -391,6 +458,8 @@ group("fragments", "with_data", "FRAG in a datagram with user data.",
       P("fragdata-behind-nop", "fragdata", [NOP, FRAG(23, 9, 8), fragment("aabb")], AB),
       P("fragdata-before-malformed", "fragdata", [FRAG(24, 9, 8), raw("kind 9, length byte 1", "0901"), fragment("aabb")], AB),
       P("fragdata-before-unsafe", "fragdata", [FRAG(24, 9, 8), K(192), fragment("aabb")], AB),
+      P("fragdata-before-tail", "fragdata", [FRAG(24, 9, 8), EOL, raw("a byte", "01"), fragment("aabb")], AB),
+      P("fragdata-before-tail-odd", "fragdata", [FRAG(24, 9, 8), EOL, raw("a byte", "01"), fragment("aabb")], A),
       P("fragdata-twice", "fragdata", [FRAG(32, 9, 8), FRAG(32, 9, 8)], AB),
       P("fragdata-no-sums", "fragdata", [FRAG(22, 9, 8)], AB, udp=0, ocs=0))
 
@@ -419,7 +488,7 @@ group("rereads", "unsafe_kinds", "Refusal 5 is for the verdict unsafe alone.",
       O("reread-unsafe-summed", "refused 5", [K(192)], A),
       O("reread-unsafe-behind-option", "refused 5", [REQ(1), raw("kind 255", "ff")], AB, ocs=0),
       O("reread-unsafe-behind-malformed", "malformed", [raw("kind 9, length byte 1", "0901"), K(192)], AB, ocs=0),
-      O("reread-unsafe-behind-eol", "read 0 fill 3", [EOL, K(192)], AB, ocs=0),
+      O("reread-unsafe-behind-eol", "tail", [EOL, K(192)], AB, ocs=0, note="The user data is delivered."),
       O("reread-unsafe-badsum", "badsum", [K(192)], AB, ocs=0x1234),
       O("reread-unsafe-bad-pad", "pad", [K(192)], A, ocs=0, pad=1),
       O("reread-33rd-unsafe", "refused 5", [many(32), K(192)], AB, ocs=0))
@@ -450,7 +519,7 @@ group("rereads", "frags", "FRAG in an original is malformed.",
       O("reread-frag-behind-option", "malformed", [REQ(1), FRAG(20, 7, 8)], AB, ocs=0),
       O("reread-frag-kind-byte", "malformed", [raw("kind 3", "03")], AB, ocs=0),
       O("reread-frag-behind-nop", "malformed", [NOP, FRAG(15, 7, 8)], AB, ocs=0),
-      O("reread-frag-behind-eol", "read 0 fill 11", [EOL, FRAG(15, 7, 8)], AB, ocs=0))
+      O("reread-frag-behind-eol", "tail", [EOL, FRAG(15, 7, 8)], AB, ocs=0))
 
 group("rereads", "lists", "Lists in an original.",
       O("reread-malformed", "malformed", [raw("kind 6 of 5 bytes", "0605000000")], AB),
@@ -461,10 +530,32 @@ group("rereads", "lists", "Lists in an original.",
       O("reread-32", "read 32", [many(32)], AB, ocs=0),
       O("reread-33", "crowded", [many(33)], AB, ocs=0))
 
+group("rereads", "tails", "Bytes behind EOL in an original, up to its end.",
+      O("reread-tail-first", "tail", [REQ(1), EOL, bad_fill(9, 0, 1)], AB),
+      O("reread-tail-first-odd", "tail", [REQ(1), EOL, bad_fill(9, 0, 1)], A),
+      O("reread-tail-last", "tail", [REQ(1), EOL, bad_fill(9, 8, 1)], AB),
+      O("reread-tail-last-odd", "tail", [REQ(1), EOL, bad_fill(9, 8, 1)], A),
+      O("reread-tail-between", "tail", [EOL, bad_fill(300, 150, 64)], AB, ocs=0),
+      O("reread-tail-r-0", "tail", [EOL, raw("a byte", "01")], ocs=0),
+      O("reread-tail-with-apc", "tail", [APC(0x839206E3), EOL, raw("a byte", "01")], b"123456789", note="The APC is not reported."),
+      O("reread-fill-odd", "read 1 fill 10", [REQ(1), EOL, raw("zeros", "00" * 9)], A),
+      O("reread-eol-last", "read 1 fill 1", [REQ(1), EOL], A))
+
+group("rereads", "tail_order", "Tail and other faults in an original.",
+      O("reread-32-eol-and-option", "tail", [many(32), EOL, many(1)], AB, ocs=0),
+      O("reread-33-eol-and-bytes", "crowded", [many(33), EOL, raw("a byte", "01")], AB, ocs=0),
+      O("reread-malformed-eol-and-bytes", "malformed", [raw("kind 9, length byte 1", "0901"), EOL, raw("a byte", "01")], AB, ocs=0),
+      O("reread-unsafe-eol-and-bytes", "refused 5", [K(192), EOL, raw("a byte", "01")], AB, ocs=0),
+      O("reread-unsafe-behind-option-and-eol", "tail", [REQ(1), EOL, K(192)], A, ocs=0),
+      O("reread-frag-eol-and-bytes", "malformed", [FRAG(14, 7, 8), EOL, raw("a byte", "01")], AB, ocs=0),
+      O("reread-tail-badsum", "badsum", [REQ(1), EOL, raw("a byte", "01")], AB, ocs=0x1234))
+
 group("rereads", "largest", "The largest original.",
       O("largest-original", "none", r=65507, fill=(0xA5, 65507)),
       O("largest-original-odd", "short", r=65505, fill=(0xA5, 65507)),
       O("largest-original-list", "read 1", [raw("kind 9 of 65,505 bytes", "09ffffe1")], fill=(0xA5, 65507)),
+      O("largest-original-fill", "read 1 fill 65499", [REQ(1)], ocs=0, fill=(0, 65507)),
+      O("largest-original-tail", "tail", [REQ(1), EOL], ocs=0, fill=(0xA5, 65507)),
       O("largest-original-r-past", "refused 6", r=65508, fill=(0, 65507)))
 
 group("rereads", "too_long", "One byte more: 2 comes before 6 and 5.",

@@ -204,6 +204,26 @@ impl Payload {
         Payload::new(words, 1_472, bytes(1), list, 4 + body)
     }
 
+    /// Eight bytes of user data, REQ 300 and so much fill, EOL counted. It is
+    /// more than the writer adds, so that the option checksum is set here.
+    fn filled(fill: usize) -> Payload {
+        let (list, wire) = (vec![1, 6, 0xAC, 2], 6);
+        let user = bytes(8);
+        let size = 8 + user.len() + 2 + wire;
+        let words = format!(
+            "{} bytes, a fill of {}, even L",
+            shown(size + fill),
+            shown(fill)
+        );
+        let mut payload = Payload::new(words, size, user, list, wire);
+        payload.bytes.resize(size + fill, 0);
+        let area = &mut payload.bytes[16..];
+        area[..2].fill(0);
+        let sum = plain::checksum::sent(plain::checksum::area_sum(area, false));
+        area[..2].copy_from_slice(&sum.to_be_bytes());
+        payload
+    }
+
     fn write(&mut self) -> Result<usize, wuraketozo::Refusal> {
         let (user, list) = (black_box(&self.user), &self.list);
         wuraketozo::write(&FLOW, user, list, self.fill, &mut self.bytes)
@@ -287,6 +307,7 @@ fn write(payload: Payload) -> Case {
 }
 
 const SIZES: [usize; 3] = [64, 1_472, 65_515];
+const FILLS: [usize; 2] = [1_400, 65_000];
 
 fn payloads() -> Vec<Payload> {
     let mut payloads = Vec::new();
@@ -310,6 +331,7 @@ pub fn all() -> Vec<Case> {
     }
     cases.extend(SIZES.map(crc32c));
     cases.extend(payloads().into_iter().map(read));
+    cases.extend(FILLS.map(|fill| read(Payload::filled(fill))));
     cases.extend(payloads().into_iter().map(write));
     cases.extend(tables::all());
     cases

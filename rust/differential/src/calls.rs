@@ -392,7 +392,11 @@ fn as_datagram(random: &mut Random, call: &Call) -> Option<(Datagram, usize, u64
     };
     // What may stand between FRAG and its bytes, and before FRAG.
     let nops = random.pick(&[0, 0, 0, 1, 2]);
-    let others: &[u8] = random.pick(&[&[], &[], &[6, 6, 1, 2, 3, 4], &[9, 3, 7, 1, 0, 200]]);
+    let others: &[u8] = if random.one_in(12) {
+        random.pick(&[&[0, 200], &[6, 6, 1, 2, 3, 4, 0, 0, 0, 1]])
+    } else {
+        random.pick(&[&[], &[], &[6, 6, 1, 2, 3, 4], &[9, 3, 7, 1, 0], &[0, 0, 0]])
+    };
     let mut payload = Vec::new();
     payload.extend(flow.source_port.to_be_bytes());
     payload.extend(flow.destination_port.to_be_bytes());
@@ -476,7 +480,7 @@ fn receive(
         }
         other => {
             match other {
-                Ok(_) => counts.add("receive", "datagram"),
+                Ok(reading) => count_datagram(counts, payload, reading),
                 Err(number) => counts.add("receive", &number.to_string()),
             }
             raw::Received {
@@ -527,4 +531,15 @@ fn receive(
     }
     pair.compare(&shown)?;
     same_bytes(&left, &right, &|| format!("{}\n  out", shown()))
+}
+
+/// Counts a payload that is no fragment.
+fn count_datagram(counts: &mut Counts, payload: &[u8], reading: &plain::Reading) {
+    counts.add("receive", "datagram");
+    if reading.verdict == plain::Verdict::Tail {
+        counts.add("receive", "tail");
+        if generate::led_by_frag(payload, reading) {
+            counts.add("receive", "tail led by FRAG");
+        }
+    }
 }

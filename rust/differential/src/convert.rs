@@ -26,6 +26,7 @@ fn verdict_number(verdict: &plain::Verdict) -> u32 {
         plain::Verdict::Crowded => 8,
         plain::Verdict::Read => 9,
         plain::Verdict::Piece(_) => 10,
+        plain::Verdict::Tail => 11,
     }
 }
 
@@ -152,6 +153,7 @@ fn wrapped_verdict(verdict: plain::Verdict) -> wuraketozo::Verdict {
             last: fragment.last,
             option_start: Place(fragment.option_start),
         }),
+        plain::Verdict::Tail => wuraketozo::Verdict::Tail,
     }
 }
 

@@ -11,14 +11,16 @@ fn wanted() -> Vec<String> {
     add("read", &["1", "2", "3", "4"]);
     add("read", &["none", "short", "pad", "unsummed", "badsum"]);
     add("read", &["malformed", "unsafe", "fragdata", "crowded"]);
-    add("read", &["read", "piece"]);
+    add("read", &["read", "read with fill", "piece"]);
+    add("read", &["tail", "tail led by FRAG"]);
     add("read", &["APC none", "APC right", "APC wrong"]);
     add("reread", &["2", "5", "6"]);
     add("reread", &["none", "short", "pad", "badsum", "malformed"]);
-    add("reread", &["crowded", "read"]);
+    add("reread", &["crowded", "read", "read with fill", "tail"]);
     add("reread", &["APC none", "APC right", "APC wrong"]);
     add("list", &["taken", "8"]);
-    add("list of a made-up reading", &["no option", "options", "8"]);
+    let word = "list of a made-up reading";
+    add(word, &["no option", "tail", "options", "8"]);
     add("write", &["taken", "7", "8", "9"]);
     add("reset", &["taken", "20"]);
     add("offer", &["stored", "repeated", "conflict", "delivered"]);
@@ -28,6 +30,7 @@ fn wanted() -> Vec<String> {
     add("advance", &["taken", "20", "21", "22", "27"]);
     add("account", &["taken", "20", "21", "22"]);
     add("receive", &["datagram", "1", "2", "3", "4"]);
+    add("receive", &["tail", "tail led by FRAG"]);
     add("receive", &["stored", "repeated", "conflict", "delivered"]);
     add("receive", &numbers);
     add("forged record", &["sound", "damaged"]);

@@ -80,6 +80,7 @@ fn run(plan: &Plan, counts: &mut Counts) -> Result<(), String> {
     let told = |text: String| format!("--seed {seed}, sweep\n{text}");
     let swept = if whole {
         payloads::sweep(&mut random(seed, 0, 0), counts).map_err(told)?
+            + payloads::fills(&mut random(seed, 0, 4), counts).map_err(told)?
     } else {
         0
     };

@@ -143,7 +143,15 @@ fn read(random: &mut Random, counts: &mut Counts, datagram: &Datagram) -> Check 
         payload,
     } = datagram;
     let expected = plain::read(payload, *source, *destination);
-    count_reading(counts, "read", &expected);
+    match &expected {
+        Err(number) => counts.add("read", &number.to_string()),
+        Ok(found) => {
+            count_said(counts, "read", &found.verdict, found.fill, found.apc);
+            if found.verdict == plain::Verdict::Tail && generate::led_by_frag(payload, found) {
+                counts.add("read", "tail led by FRAG");
+            }
+        }
+    }
     let shown = || {
         format!(
             "read, source {}, destination {}, payload {}",
@@ -186,7 +194,10 @@ fn read(random: &mut Random, counts: &mut Counts, datagram: &Datagram) -> Check 
 /// The same for an original.
 fn reread(random: &mut Random, counts: &mut Counts, original: &[u8], option_start: usize) -> Check {
     let expected = plain::reread(original, option_start);
-    count_rereading(counts, &expected);
+    match &expected {
+        Err(number) => counts.add("reread", &number.to_string()),
+        Ok(found) => count_said(counts, "reread", &found.verdict, found.fill, found.apc),
+    }
     let shown = || {
         format!(
             "reread, option start {option_start}, original {}",
@@ -224,22 +235,17 @@ fn reread(random: &mut Random, counts: &mut Counts, original: &[u8], option_star
     listed(random, counts, &ways, &shown)
 }
 
-fn count_reading(counts: &mut Counts, call: &str, expected: &Result<plain::Reading, u32>) {
-    match expected {
-        Err(number) => counts.add(call, &number.to_string()),
-        Ok(reading) => count_said(counts, call, &reading.verdict, reading.apc),
-    }
-}
-
-fn count_rereading(counts: &mut Counts, expected: &Result<plain::Rereading, u32>) {
-    match expected {
-        Err(number) => counts.add("reread", &number.to_string()),
-        Ok(rereading) => count_said(counts, "reread", &rereading.verdict, rereading.apc),
-    }
-}
-
-fn count_said(counts: &mut Counts, call: &str, verdict: &plain::Verdict, apc: plain::Apc) {
+fn count_said(
+    counts: &mut Counts,
+    call: &str,
+    verdict: &plain::Verdict,
+    fill: usize,
+    apc: plain::Apc,
+) {
     counts.add(call, verdict.word());
+    if fill != 0 {
+        counts.add(call, "read with fill");
+    }
     counts.add(
         call,
         match apc {
@@ -338,7 +344,7 @@ fn made_up(random: &mut Random, counts: &mut Counts, bytes: &[u8]) -> Check {
     // Longer ones would be too long for an original.
     let bytes = bytes.get(..65_505).unwrap_or(bytes);
     let length = bytes.len();
-    let verdict = random.pick(&[9, 9, 9, 9, 0, 5, 8, 10, 11, u32::MAX]);
+    let verdict = random.pick(&[9, 9, 9, 9, 0, 5, 8, 10, 11, 12, u32::MAX]);
     let mut ends = [random.below(length + 1), random.below(length + 1)];
     ends.sort_unstable();
     let [mut from, mut to] = ends;
@@ -364,15 +370,20 @@ fn made_up(random: &mut Random, counts: &mut Counts, bytes: &[u8]) -> Check {
         fill: 0,
         apc: plain::Apc::None,
     };
+    let call = "list of a made-up reading";
     let found = match plain::reread(&original, 0) {
         Ok(found) if found.verdict == plain::Verdict::Read => found,
-        _ => none,
+        other => {
+            if other.is_ok_and(|found| found.verdict == plain::Verdict::Tail) {
+                counts.add(call, "tail");
+            }
+            none
+        }
     };
     let room = random.pick(&[0, 1, 2, 8, 200, length + 8, length + 8, length + 8]);
     let mut left = vec![0x77; room];
     let mut right = left.clone();
     let expected = plain::list_reread(&original, &found, &mut left);
-    let call = "list of a made-up reading";
     match expected {
         Ok(_) if found.count == 0 => counts.add(call, "no option"),
         Ok(_) => counts.add(call, "options"),
@@ -469,8 +480,11 @@ fn written_raw(result: Result<usize, u32>) -> raw::Written {
     }
 }
 
-/// Every kind with every length byte, alone and behind another option, and
-/// every short payload with every short UDP length. Counts the payloads.
+/// A payload without checksums and user data.
+const HEAD: [u8; 10] = [1, 2, 3, 4, 0, 8, 0, 0, 0, 0];
+
+/// Every kind with every length byte, and every short payload with every
+/// short UDP length. Counts the payloads.
 pub fn sweep(random: &mut Random, counts: &mut Counts) -> Result<u64, String> {
     let mut payloads = 0;
     let mut look = |random: &mut Random, payload: Vec<u8>| {
@@ -482,15 +496,18 @@ pub fn sweep(random: &mut Random, counts: &mut Counts) -> Result<u64, String> {
         };
         read(random, counts, &datagram)
     };
+    // Behind a length byte stand NOPs; zeros, which are a fill; or, where it
+    // may be FRAG's, its fields: the start is 22 and the offsets are 9.
+    let fields = [0, 22, 0, 0, 0, 5, 0, 9, 0, 9, 1, 1];
     for kind in 0..=255 {
         for length in 0..=255 {
-            // Without checksums; FRAG's start is 22 and its offsets are 9.
-            let mut payload = vec![1, 2, 3, 4, 0, 8, 0, 0, 0, 0, kind, length, 0, 22];
-            payload.extend([0, 0, 0, 5, 0, 9, 0, 9, 1, 1]);
-            if length > 100 {
-                payload.extend([9, 2].repeat(140));
+            for behind in [[1; 12], [0; 12], fields] {
+                let mut payload = [&HEAD[..], &[kind, length], &behind].concat();
+                if length > 100 {
+                    payload.extend([9, 2].repeat(140));
+                }
+                look(random, payload)?;
             }
-            look(random, payload)?;
         }
     }
     for size in 0..24 {
@@ -505,6 +522,42 @@ pub fn sweep(random: &mut Random, counts: &mut Counts) -> Result<u64, String> {
         }
     }
     Ok(payloads)
+}
+
+/// Every fill of up to 70 bytes behind EOL, all zero or but for one bit in
+/// each of its bytes, with 0 to 7 NOPs in front: of a datagram, of an original,
+/// and of a fragment with other bytes behind Frag. Start. Counts the fills.
+pub fn fills(random: &mut Random, counts: &mut Counts) -> Result<u64, String> {
+    let mut fills = 0;
+    for size in 0..=70 {
+        for bad in 0..=size {
+            for nops in 0..8 {
+                fills += 1;
+                let mut list = [1].repeat(nops);
+                list.resize(nops + 1 + size, 0);
+                // Past the end: all stay zero.
+                if let Some(byte) = list.get_mut(nops + 1 + bad) {
+                    *byte = 1 << random.below(8);
+                }
+                reread(random, counts, &[&[0, 0], &list[..]].concat(), 0)?;
+                let start = (HEAD.len() + 10 + list.len()) as u8;
+                let frag = [3, 10, 0, start, 0, 0, 0, 5, 0, 9];
+                let part = random.bytes(3);
+                for payload in [
+                    [&HEAD[..], &list].concat(),
+                    [&HEAD, &frag, &list[..], &part].concat(),
+                ] {
+                    let datagram = Datagram {
+                        source: [192, 0, 2, 1],
+                        destination: [198, 51, 100, 7],
+                        payload,
+                    };
+                    read(random, counts, &datagram)?;
+                }
+            }
+        }
+    }
+    Ok(fills)
 }
 
 /// Compares two answers.

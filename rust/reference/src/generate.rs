@@ -5,7 +5,7 @@ use crate::book::{Book, OpenPiece};
 use crate::checksum;
 use crate::crc::crc32c;
 use crate::docket::{encode, list_options, list_reread};
-use crate::reader::{read, reread, Apc, Fields, ReadOption, Verdict};
+use crate::reader::{read, reread, Apc, Fields, ReadOption, Reading, Verdict};
 use crate::table::{
     bill, clock, fresh, piece, record_test, set_up, Answer, Assembly, Flow, PieceCall, Record,
     Slot, ASSEMBLIES, LIFE, OFFERED_MOST, PIECES, PLACE, SHARE,
@@ -231,15 +231,30 @@ fn fault(random: &mut Random, list: &mut Vec<u8>) {
     }
 }
 
-/// Appends EOL and bytes behind it, zero or not.
+/// Appends EOL and bytes behind it: mostly zeros, else zeros but for one bit
+/// of the first, the last or any of them, or bytes of any value.
 fn end_list(random: &mut Random, list: &mut Vec<u8>) {
     list.push(0);
-    let count = random.pick(&[0, 1, 2, 5, 255, 300]);
-    if random.one_in(2) {
-        list.extend(vec![0; count]);
+    let count = if random.one_in(40) {
+        random.pick(&[1_400, 9_000, 65_000])
     } else {
-        list.extend(random.bytes(count));
+        random.pick(&[0, 1, 2, 5, 8, 17, 63, 64, 65, 255, 300])
+    };
+    let mut behind = vec![0; count];
+    let spot = match random.below(8) {
+        0 => 0,
+        1 => count.saturating_sub(1),
+        2 => random.below(count),
+        3 => {
+            behind = random.bytes(count);
+            count
+        }
+        _ => count,
+    };
+    if let Some(byte) = behind.get_mut(spot) {
+        *byte = 1 << random.below(8);
     }
+    list.extend(behind);
 }
 
 fn user_data(random: &mut Random) -> Vec<u8> {
@@ -254,23 +269,35 @@ fn sound_list(random: &mut Random, user: &[u8]) -> Vec<u8> {
     for _ in 0..count {
         sound_option(random, &mut list, user);
     }
-    if random.one_in(3) {
+    if random.one_in(2) {
         end_list(random, &mut list);
     }
     list
 }
 
-/// A list with more than the options allowed, or with a fault as the 33rd.
+/// A list with more than the options allowed, or with a fault or an end as
+/// the 33rd.
 fn crowded_list(random: &mut Random, user: &[u8]) -> Vec<u8> {
     let mut list = Vec::new();
     let count = random.pick(&[32, 33, 33, 34, 60]);
     for _ in 0..count {
         sound_option(random, &mut list, user);
     }
-    if random.one_in(2) {
-        fault(random, &mut list);
+    match random.below(4) {
+        0 | 1 => fault(random, &mut list),
+        2 => end_list(random, &mut list),
+        _ => {}
     }
     list
+}
+
+/// Appends something that ends the walk with a fault, and behind it now and
+/// then an end of the list that the walk does not come to.
+fn fault_and_end(random: &mut Random, list: &mut Vec<u8>) {
+    fault(random, list);
+    if random.one_in(3) {
+        end_list(random, list);
+    }
 }
 
 /// A fragment's list and bytes; `from` is the list's packet offset. The
@@ -304,7 +331,7 @@ fn fragment_list(random: &mut Random, from: usize) -> Vec<u8> {
     if random.one_in(8) {
         fault(random, &mut list);
     }
-    if random.one_in(8) {
+    if random.one_in(3) {
         end_list(random, &mut list);
     }
     let options_end = list.len();
@@ -316,6 +343,7 @@ fn fragment_list(random: &mut Random, from: usize) -> Vec<u8> {
         2 => list.len(),
         3 => list.len() + 1,
         4 => options_end.saturating_sub(1),
+        5 => frag_end + random.below(list.len() - frag_end + 1),
         _ => options_end,
     };
     let field = ((from + start) as u16).to_be_bytes();
@@ -369,7 +397,7 @@ pub fn datagram(random: &mut Random) -> Datagram {
             for _ in 0..count {
                 sound_option(random, &mut area, &user);
             }
-            fault(random, &mut area);
+            fault_and_end(random, &mut area);
             build(random, &user, &area, udp, option)
         }
         11..=13 => {
@@ -461,7 +489,7 @@ pub fn original(random: &mut Random) -> (Vec<u8>, usize) {
             let from = user.len() + area.len();
             area.extend(fragment_list(random, from));
         }
-        5 => fault(random, &mut area),
+        5 => fault_and_end(random, &mut area),
         _ => area.extend(sound_list(random, &user)),
     }
     let pad = user.len() % 2;
@@ -1484,6 +1512,14 @@ fn count_answer(coverage: &mut Coverage, call: &Call, answer: &Answer) {
     count(coverage, format!("{}: {name}", call.word()));
 }
 
+/// Whether FRAG is the first option that is no NOP: of a payload whose list
+/// is walked.
+pub fn led_by_frag(payload: &[u8], reading: &Reading) -> bool {
+    let from = reading.user.to + reading.user.to % 2 + 2;
+    let list = payload.get(from..).unwrap_or(&[]);
+    list.iter().find(|byte| **byte != 1) == Some(&3)
+}
+
 /// Runs `rounds` inputs of each sort and counts what came of them.
 pub fn coverage(seed: u64, rounds: usize) -> Coverage {
     let mut random = Random::new(seed);
@@ -1498,6 +1534,9 @@ pub fn coverage(seed: u64, rounds: usize) -> Coverage {
             Err(number) => count(&mut seen, format!("read: refused {number}")),
             Ok(reading) => {
                 count_result(&mut seen, "read", &reading.verdict, reading.apc);
+                if reading.verdict == Verdict::Tail && led_by_frag(&payload, &reading) {
+                    count(&mut seen, "read: tail led by FRAG".into());
+                }
                 let mut buffer = vec![0; random.below(200)];
                 match list_options(&payload, &reading, &mut buffer) {
                     Ok(_) => count(&mut seen, "list: taken".into()),
@@ -1570,6 +1609,7 @@ pub fn wanted() -> Vec<String> {
         "badsum",
         "malformed",
         "crowded",
+        "tail",
         "read",
     ] {
         add("read", &[&format!("verdict {word}")]);
@@ -1578,6 +1618,7 @@ pub fn wanted() -> Vec<String> {
     for word in ["unsummed", "unsafe", "fragdata", "piece"] {
         add("read", &[&format!("verdict {word}")]);
     }
+    add("read", &["tail led by FRAG"]);
     add("list", &["taken", "refused 8"]);
     add("list reread", &["taken", "refused 8"]);
     add("write", &["taken", "refused 7", "refused 8", "refused 9"]);

@@ -43,6 +43,7 @@ pub enum Verdict {
     Unsafe,
     FragData,
     Crowded,
+    Tail,
     Read,
     Piece(Fragment),
 }
@@ -60,6 +61,7 @@ impl Verdict {
             Verdict::Unsafe => "unsafe",
             Verdict::FragData => "fragdata",
             Verdict::Crowded => "crowded",
+            Verdict::Tail => "tail",
             Verdict::Read => "read",
             Verdict::Piece(_) => "piece",
         }
@@ -320,6 +322,10 @@ fn walk_list(list: &[u8], mut at: usize, mut count: usize) -> Result<List, Verdi
         match step(list, at) {
             Step::End => break,
             Step::Eol => {
+                // Document 02, R-2: what stands behind EOL must be zero.
+                if !all_zero(&list[at + 1..]) {
+                    return Err(Verdict::Tail);
+                }
                 fill = list.len() - at;
                 break;
             }
@@ -345,6 +351,27 @@ fn walk_list(list: &[u8], mut at: usize, mut count: usize) -> Result<List, Verdi
         crc,
         crcs_differ,
     })
+}
+
+/// Whether all bytes are 0: 64 bytes at a step, then eight, and the last eight
+/// whatever came before them.
+#[inline(never)]
+fn all_zero(bytes: &[u8]) -> bool {
+    let Some(last) = bytes.last_chunk() else {
+        return bytes.iter().fold(0, |any, byte| any | byte) == 0;
+    };
+    let (blocks, rest) = bytes.as_chunks::<64>();
+    let mut lanes = [0; 8];
+    for block in blocks {
+        let (eights, _) = block.as_chunks();
+        for (lane, eight) in lanes.iter_mut().zip(eights) {
+            *lane |= u64::from_ne_bytes(*eight);
+        }
+    }
+    let (eights, _) = rest.as_chunks();
+    let words = eights.iter().map(|eight| u64::from_ne_bytes(*eight));
+    let words = words.chain(lanes);
+    words.fold(u64::from_ne_bytes(*last), |any, word| any | word) == 0
 }
 
 /// FRAG's fields (RFC section 11.4) at `at`, ending at `end`; none where one

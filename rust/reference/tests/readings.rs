@@ -5,6 +5,7 @@ use reference::checksum;
 use reference::crc::crc32c;
 use reference::generate::{datagram, original, Random};
 use reference::*;
+use std::collections::BTreeMap;
 
 fn payload(user: &[u8], area: &[u8]) -> Vec<u8> {
     let mut payload = vec![0, 1, 0, 2];
@@ -126,8 +127,10 @@ fn the_33rd() {
     let full = [9, 2].repeat(32);
     let with = |more: &[u8]| of_list(&[&full, more].concat());
     assert_eq!(with(&[]), Verdict::Read);
-    assert_eq!(with(&[1, 1, 0, 9, 2]), Verdict::Read);
+    assert_eq!(with(&[1, 1, 0, 0, 0]), Verdict::Read);
+    assert_eq!(with(&[1, 1, 0, 9, 2]), Verdict::Tail);
     assert_eq!(with(&[9, 2]), Verdict::Crowded);
+    assert_eq!(with(&[9, 2, 0, 5]), Verdict::Crowded);
     assert_eq!(with(&[9, 2, 192]), Verdict::Crowded);
     assert_eq!(with(&[9, 3]), Verdict::Malformed);
     assert_eq!(with(&[192]), Verdict::Unsafe);
@@ -179,9 +182,14 @@ fn pieces() {
     // Options on a piece: faults, EOL, one that crosses Frag. Start.
     assert_eq!(of_list(&frag(21, 8, None, &[192])), Verdict::Unsafe);
     assert_eq!(
-        of_list(&frag(22, 8, None, &[0, 192, 7])),
+        of_list(&frag(22, 8, None, &[0, 0, 7])),
         piece(0, 22, 23, None)
     );
+    assert_eq!(
+        of_list(&frag(21, 8, None, &[0, 192, 7])),
+        piece(0, 21, 23, None)
+    );
+    assert_eq!(of_list(&frag(22, 8, None, &[0, 192, 7])), Verdict::Tail);
     assert_eq!(of_list(&frag(21, 8, None, &[9, 2])), Verdict::Malformed);
     assert_eq!(
         of_list(&frag(22, 8, None, &[9, 2, 9])),
@@ -199,11 +207,13 @@ fn pieces() {
     let after_nop = [&[1][..], &frag(21, 8, None, &[5])].concat();
     assert_eq!(of_list(&after_nop), piece(0, 21, 22, None));
     let after_eol = [&[0][..], &frag(21, 8, None, &[5])].concat();
-    assert_eq!(of_list(&after_eol), Verdict::Read);
+    assert_eq!(of_list(&after_eol), Verdict::Tail);
     let after_other = [&[9, 2][..], &frag(22, 8, None, &[5])].concat();
     assert_eq!(of_list(&after_other), Verdict::Malformed);
     // With user data: at once, whatever follows, if it is sound.
     let area = [&[0, 0][..], &frag(22, 8, None, &[192, 3])].concat();
+    assert_eq!(verdict(&[1, 2], &area), Verdict::FragData);
+    let area = [&[0, 0][..], &frag(25, 8, None, &[0, 0, 9])].concat();
     assert_eq!(verdict(&[1, 2], &area), Verdict::FragData);
     let area = [&[0, 0][..], &frag(21, 8, None, &[192, 3])].concat();
     assert_eq!(verdict(&[1, 2], &area), Verdict::Malformed);
@@ -211,6 +221,80 @@ fn pieces() {
     let reading = read(&whole, [0; 4], [0; 4]).unwrap();
     assert_eq!(reading.user, Range { from: 8, to: 8 });
     assert_eq!((reading.options_from, reading.options_to), (0, 0));
+}
+
+/// Document 02, R-2.
+#[test]
+fn tails() {
+    assert_eq!(of_list(&[0]), Verdict::Read);
+    assert_eq!(of_list(&[0, 0, 0]), Verdict::Read);
+    assert_eq!(of_list(&[0, 1, 0]), Verdict::Tail);
+    assert_eq!(of_list(&[0, 0, 128]), Verdict::Tail);
+    assert_eq!(of_list(&[1, 9, 2, 0, 0, 1]), Verdict::Tail);
+    // What would be a fault in front of EOL is none behind it.
+    assert_eq!(of_list(&[0, 192]), Verdict::Tail);
+    assert_eq!(of_list(&[0, 9, 1]), Verdict::Tail);
+    assert_eq!(of_list(&[0, 3, 10]), Verdict::Tail);
+    // A fault in front of EOL is met first.
+    assert_eq!(of_list(&[192, 0, 1]), Verdict::Unsafe);
+    assert_eq!(of_list(&[9, 1, 0, 1]), Verdict::Malformed);
+    assert_eq!(of_list(&[9, 2, 3, 10, 0, 1]), Verdict::Malformed);
+    // User data is delivered, and no option: the APC would be right.
+    let mut area = vec![0, 0, 2, 6];
+    area.extend(crc32c(b"ab").to_be_bytes());
+    area.extend([0, 0]);
+    let right = payload(b"ab", &area);
+    area.push(4);
+    let bad = payload(b"ab", &area);
+    let reading = read(&right, [0; 4], [0; 4]).unwrap();
+    assert_eq!((reading.count, reading.fill), (1, 2));
+    assert_eq!(reading.apc, Apc::Right);
+    let nothing = Reading {
+        user: Range { from: 8, to: 10 },
+        verdict: Verdict::Tail,
+        options_from: 0,
+        options_to: 0,
+        count: 0,
+        fill: 0,
+        apc: Apc::None,
+    };
+    assert_eq!(read(&bad, [0; 4], [0; 4]), Ok(nothing));
+    assert_eq!(nothing.options(&bad).count(), 0);
+    let rereading = reread(&bad[8..], 2).unwrap();
+    assert_eq!(rereading.user, Range { from: 0, to: 2 });
+    assert_eq!(rereading.verdict, Verdict::Tail);
+    assert_eq!((rereading.options_from, rereading.options_to), (0, 0));
+    assert_eq!((rereading.count, rereading.fill), (0, 0));
+    assert_eq!(rereading.apc, Apc::None);
+}
+
+/// Fills of every length to 150, zero but for one bit in each of their bytes:
+/// of a datagram, of a piece with others behind Frag. Start, and of an original.
+#[test]
+fn fills() {
+    let frag_end = 20;
+    for count in 0..=150 {
+        let area = vec![0; 2 + 1 + count];
+        let start = (frag_end + 1 + count) as u16;
+        let list = frag(start, 8, None, &area[2..]);
+        let packet = payload(b"ab", &area);
+        let reading = read(&packet, [0; 4], [0; 4]).unwrap();
+        assert_eq!((reading.verdict, reading.fill), (Verdict::Read, 1 + count));
+        let piece = of_list(&[&list, &[255; 9][..]].concat());
+        assert!(matches!(piece, Verdict::Piece(_)), "{count}");
+        assert_eq!(reread(&area, 0).unwrap().fill, 1 + count);
+        for at in 0..count {
+            let bit = 1 << (at % 8);
+            let mut area = area.clone();
+            area[3 + at] = bit;
+            assert_eq!(verdict(b"ab", &area), Verdict::Tail, "{at} of {count}");
+            let again = reread(&area, 0).unwrap().verdict;
+            assert_eq!(again, Verdict::Tail, "{at} of {count}");
+            let mut list = list.clone();
+            list[frag_end - 10 + 1 + at] = bit;
+            assert_eq!(of_list(&list), Verdict::Tail, "{at} of {count}");
+        }
+    }
 }
 
 #[test]
@@ -227,12 +311,15 @@ fn rereadings() {
     assert_eq!(of(&[1, 0, 0, 0], 1), Ok(Verdict::Read));
     assert_eq!(of(&[0, 1, 255], 0), Ok(Verdict::BadSum));
     assert_eq!(of(&[0, 0, 192], 0), Err(5));
+    assert_eq!(of(&[0, 0, 0, 192], 0), Ok(Verdict::Tail));
+    assert_eq!(of(&[7, 0, 0, 0, 0, 0, 192], 1), Ok(Verdict::Tail));
+    assert_eq!(of(&[0, 0, 192, 0, 1], 0), Err(5));
     assert_eq!(of(&[0, 0, 9, 192], 0), Ok(Verdict::Malformed));
     assert_eq!(of(&[0, 0, 3], 0), Ok(Verdict::Malformed));
     let first = [&[0, 0][..], &frag(12, 8, None, &[5])].concat();
     assert_eq!(of(&first, 0), Ok(Verdict::Malformed));
     let mut whole = vec![0; 32];
-    whole.extend([0, 0, 2, 6, 0xAA, 0x36, 0x91, 0x8A, 0, 5]);
+    whole.extend([0, 0, 2, 6, 0xAA, 0x36, 0x91, 0x8A, 0, 0]);
     let reading = reread(&whole, 32).unwrap();
     assert_eq!(reading.user, Range { from: 0, to: 32 });
     assert_eq!((reading.options_from, reading.options_to), (34, 42));
@@ -254,13 +341,15 @@ fn program_texts() {
     let mut area = vec![0, 0, 2, 6, 0xAA, 0x36, 0x91, 0x8A];
     area.extend([4, 4, 255, 255, 5, 5, 1, 0, 9, 1, 7, 6, 255, 255, 255, 255]);
     area.extend([
-        8, 10, 0, 0, 0, 1, 0, 0, 1, 0, 9, 2, 191, 4, 0x0A, 0xFF, 0, 1,
+        8, 10, 0, 0, 0, 1, 0, 0, 1, 0, 9, 2, 191, 4, 0x0A, 0xFF, 0, 0,
     ]);
     assert_eq!(
         text(&[0; 32], &area),
         "user 32\nverdict read\nkind 2 2855702922\nkind 4 65535\nkind 5 256 9\n\
          kind 7 4294967295\nkind 8 1 256\nkind 9\nkind 191 0aff\nfill 2\n"
     );
+    area.push(1);
+    assert_eq!(text(&[0; 32], &area), "user 32\nverdict tail\n");
     let piece = [&[0, 0][..], &frag(20, 8, None, &[5])].concat();
     assert_eq!(text(&[], &piece), "user 0\nverdict piece\n");
 }
@@ -269,7 +358,7 @@ fn program_texts() {
 #[derive(Debug, PartialEq)]
 enum Word {
     Nop,
-    Eol,
+    Eol { behind: Vec<u8> },
     Unsafe,
     Broken,
     Sound { kind: u8, at: usize, body: Vec<u8> },
@@ -282,7 +371,9 @@ fn words(bytes: &[u8], mut at: usize, end: usize) -> Vec<Word> {
         let kind = bytes[at];
         let rest = &bytes[at..end];
         let word = if kind == 0 {
-            Word::Eol
+            Word::Eol {
+                behind: rest[1..].to_vec(),
+            }
         } else if kind == 1 {
             Word::Nop
         } else if kind >= 192 {
@@ -313,7 +404,7 @@ fn words(bytes: &[u8], mut at: usize, end: usize) -> Vec<Word> {
             }
         };
         at += 1;
-        let over = matches!(word, Word::Eol | Word::Unsafe | Word::Broken);
+        let over = matches!(word, Word::Eol { .. } | Word::Unsafe | Word::Broken);
         words.push(word);
         if over {
             break;
@@ -341,7 +432,9 @@ fn judge(words: &[Word], sound_before: usize) -> Verdict {
     let mut count = sound_before;
     for word in words {
         match word {
-            Word::Nop | Word::Eol => {}
+            Word::Nop => {}
+            Word::Eol { behind } if *behind != vec![0; behind.len()] => return Verdict::Tail,
+            Word::Eol { .. } => {}
             Word::Unsafe => return Verdict::Unsafe,
             Word::Broken => return Verdict::Malformed,
             Word::Sound { kind: 3, .. } => return Verdict::Malformed,
@@ -352,11 +445,54 @@ fn judge(words: &[Word], sound_before: usize) -> Verdict {
     Verdict::Read
 }
 
+/// What stands behind EOL, told in words.
+fn ending(words: &[Word]) -> String {
+    let Some(Word::Eol { behind }) = words.last() else {
+        return "no EOL".into();
+    };
+    let bad: Vec<usize> = (0..behind.len()).filter(|&at| behind[at] != 0).collect();
+    let told = match bad[..] {
+        [] if behind.is_empty() => "EOL",
+        [] => "EOL and zeros",
+        [0] => "EOL and the first",
+        [at] if at + 1 == behind.len() => "EOL and the last",
+        [_] => "EOL and one",
+        _ => "EOL and some",
+    };
+    let long = if behind.len() > 1_000 { "long " } else { "" };
+    let full = if options_of(words).len() == 32 {
+        "32, "
+    } else {
+        ""
+    };
+    format!("{full}{long}{told}")
+}
+
+/// Counts how often each verdict came with each ending.
+#[derive(Default)]
+struct Endings(BTreeMap<String, usize>);
+
+impl Endings {
+    fn count(&mut self, second: &Second) {
+        let name = format!("{}: {}", second.verdict.word(), second.ending);
+        *self.0.entry(name).or_default() += 1;
+    }
+
+    /// Each of these has to come often.
+    fn hold(&self, names: &[&str]) {
+        for name in names {
+            let count = self.0.get(*name).copied().unwrap_or(0);
+            assert!(count >= 10, "{name}: {count}");
+        }
+    }
+}
+
 struct Second {
     verdict: Verdict,
     options: Vec<(u8, Vec<u8>)>,
     fill: usize,
     apc: Apc,
+    ending: String,
 }
 
 /// The second reader, of an area at `start` (a packet offset).
@@ -366,6 +502,7 @@ fn second(packet: &[u8], start: usize, again: bool) -> Second {
         options: Vec::new(),
         fill: 0,
         apc: Apc::None,
+        ending: String::new(),
     };
     let area = &packet[start..];
     if area.is_empty() {
@@ -412,7 +549,8 @@ fn second(packet: &[u8], start: usize, again: bool) -> Second {
             if start > 8 {
                 return only(Verdict::FragData);
             }
-            return only(match judge(&words(packet, end, frag_start), 1) {
+            let others = words(packet, end, frag_start);
+            let verdict = match judge(&others, 1) {
                 Verdict::Read => Verdict::Piece(Fragment {
                     identification: number(&body[2..6]) as u32,
                     place: offset - 8,
@@ -422,7 +560,13 @@ fn second(packet: &[u8], start: usize, again: bool) -> Second {
                     option_start: option_start - 8,
                 }),
                 fault => fault,
-            });
+            };
+            let part = number(&packet[frag_start..packet.len().min(frag_start + 8)]);
+            let part = if part == 0 { "" } else { ", then its part" };
+            return Second {
+                ending: format!("FRAG, {}{part}", ending(&others)),
+                ..only(verdict)
+            };
         }
     }
     match judge(&list, 0) {
@@ -430,7 +574,7 @@ fn second(packet: &[u8], start: usize, again: bool) -> Second {
             let options = options_of(&list);
             let used: usize = list
                 .iter()
-                .filter(|word| **word != Word::Eol)
+                .filter(|word| !matches!(word, Word::Eol { .. }))
                 .map(|word| match word {
                     Word::Sound { body, .. } if body.len() > 252 => body.len() + 4,
                     // 251 and 252 fit both forms: look at the length byte.
@@ -453,9 +597,13 @@ fn second(packet: &[u8], start: usize, again: bool) -> Second {
                 options,
                 fill: packet.len() - from - used,
                 apc,
+                ending: ending(&list),
             }
         }
-        fault => only(fault),
+        fault => Second {
+            ending: ending(&list),
+            ..only(fault)
+        },
     }
 }
 
@@ -475,6 +623,7 @@ fn wire(option: &ReadOption) -> (u8, Vec<u8>) {
 #[test]
 fn against_the_second_reader() {
     let mut random = Random::new(2);
+    let mut endings = Endings::default();
     let mut reads = 0;
     for _ in 0..200_000 {
         let input = datagram(&mut random);
@@ -483,6 +632,7 @@ fn against_the_second_reader() {
             continue;
         };
         let second = second(payload, reading.user.to, false);
+        endings.count(&second);
         assert_eq!(reading.verdict, second.verdict, "{payload:02x?}");
         let options: Vec<_> = reading.options(payload).map(|o| wire(&o)).collect();
         assert_eq!(options, second.options, "{payload:02x?}");
@@ -500,11 +650,35 @@ fn against_the_second_reader() {
         }
     }
     assert!(reads > 10_000);
+    endings.hold(&[
+        "read: EOL",
+        "read: EOL and zeros",
+        "read: long EOL and zeros",
+        "read: 32, EOL and zeros",
+        "tail: EOL and the first",
+        "tail: EOL and the last",
+        "tail: EOL and one",
+        "tail: EOL and some",
+        "tail: long EOL and the first",
+        "tail: long EOL and the last",
+        "tail: long EOL and one",
+        "tail: 32, EOL and the first",
+        "tail: 32, EOL and some",
+        "crowded: EOL and the last",
+        "crowded: EOL and some",
+        "piece: FRAG, EOL, then its part",
+        "piece: FRAG, EOL and zeros, then its part",
+        "tail: FRAG, EOL and the first, then its part",
+        "tail: FRAG, EOL and the last, then its part",
+        "tail: FRAG, EOL and one, then its part",
+        "tail: FRAG, EOL and some, then its part",
+    ]);
 }
 
 #[test]
 fn rereadings_against_the_second_reader() {
     let mut random = Random::new(3);
+    let mut endings = Endings::default();
     for _ in 0..100_000 {
         let (whole, r) = original(&mut random);
         let packet = [&[0; 8], &whole[..]].concat();
@@ -522,6 +696,7 @@ fn rereadings_against_the_second_reader() {
         match (reread(&whole, r), expected) {
             (Err(number), Err(expected)) => assert_eq!(number, expected),
             (Ok(reading), Ok(second)) => {
+                endings.count(&second);
                 assert_eq!(reading.verdict, second.verdict, "{r} {whole:02x?}");
                 let options: Vec<_> = reading.options(&whole).map(|o| wire(&o)).collect();
                 assert_eq!(options, second.options);
@@ -534,4 +709,17 @@ fn rereadings_against_the_second_reader() {
             (Ok(_), Err(number)) => panic!("not refused {number}: {r} {whole:02x?}"),
         }
     }
+    endings.hold(&[
+        "read: EOL",
+        "read: EOL and zeros",
+        "read: long EOL and zeros",
+        "tail: EOL and the first",
+        "tail: EOL and the last",
+        "tail: EOL and one",
+        "tail: EOL and some",
+        "tail: long EOL and the last",
+        "tail: 32, EOL and the first",
+        "tail: 32, EOL and some",
+        "crowded: EOL and some",
+    ]);
 }

@@ -488,10 +488,12 @@ layouts! {
 #[cfg(test)]
 mod tests {
     use super::LAYOUTS;
+    use crate::reading::tests::verdicts;
     use std::io::Write;
     use std::process::{Command, Stdio};
 
-    /// The header has these layouts too: gcc is asked, where there is one.
+    /// The header has these layouts and numbers too: gcc is asked, where there
+    /// is one.
     #[test]
     fn the_header_agrees() {
         let mut text = String::from("#include \"wuraketozo.h\"\n");
@@ -502,6 +504,11 @@ mod tests {
                     "_Static_assert(offsetof({name}, {field}) == {at}, \"{name}.{field}\");\n"
                 );
             }
+        }
+        for verdict in verdicts() {
+            let (word, number) = (verdict.word(), verdict.number());
+            let name = format!("WURAKETOZO_{}", word.to_uppercase());
+            text += &format!("_Static_assert({name} == {number}, \"{word}\");\n");
         }
         let include = concat!(env!("CARGO_MANIFEST_DIR"), "/../../include");
         let spawned = Command::new("gcc")

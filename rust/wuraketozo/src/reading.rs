@@ -46,6 +46,9 @@ pub enum Verdict {
     Read,
     /// A fragment of a larger original.
     Piece(Fragment),
+    /// A byte behind EOL is not zero. A datagram led by a fragment's option is
+    /// no fragment then.
+    Tail,
 }
 
 impl Verdict {
@@ -63,6 +66,7 @@ impl Verdict {
             Verdict::Crowded => "crowded",
             Verdict::Read => "read",
             Verdict::Piece(_) => "piece",
+            Verdict::Tail => "tail",
         }
     }
 
@@ -80,6 +84,7 @@ impl Verdict {
             Verdict::Crowded => 8,
             Verdict::Read => 9,
             Verdict::Piece(_) => 10,
+            Verdict::Tail => 11,
         }
     }
 
@@ -98,6 +103,7 @@ impl Verdict {
             8 => Verdict::Crowded,
             9 => Verdict::Read,
             10 => Verdict::Piece(fragment().ok_or(Refusal::Unknown)?),
+            11 => Verdict::Tail,
             _ => return Err(Refusal::Unknown),
         })
     }
@@ -252,4 +258,38 @@ pub fn read(payload: &[u8], source: [u8; 4], destination: [u8; 4]) -> Result<Rea
 #[inline]
 pub fn reread(original: &[u8], option_start: Place) -> Result<Rereading, Refusal> {
     Rereading::of(ffi::reread(original, option_start))
+}
+
+#[cfg(test)]
+pub(crate) mod tests {
+    use super::{Fragment, Verdict};
+    use crate::{Place, Refusal};
+
+    /// The verdict of each number, from 0 on until there is none.
+    pub(crate) fn verdicts() -> Vec<Verdict> {
+        let fragment = || {
+            Some(Fragment {
+                identification: 7,
+                place: Place(0),
+                bytes: 20..22,
+                last: false,
+                option_start: Place(0),
+            })
+        };
+        let verdict = |number| Verdict::of(number, fragment).ok();
+        (0..).map_while(verdict).collect()
+    }
+
+    #[test]
+    fn numbers_and_words() {
+        let verdicts = verdicts();
+        let numbers: Vec<u32> = verdicts.iter().map(Verdict::number).collect();
+        let words: Vec<&str> = verdicts.iter().map(Verdict::word).collect();
+        assert_eq!(numbers, [0, 1, 2, 3, 4, 5, 6, 7, 8, 9, 10, 11]);
+        assert_eq!(
+            words.join(" "),
+            "none short pad unsummed badsum malformed unsafe fragdata crowded read piece tail"
+        );
+        assert_eq!(Verdict::of(10, || None), Err(Refusal::Unknown));
+    }
 }

@@ -97,6 +97,40 @@ fn figures_5_to_7_verdicts() {
     assert_eq!(verdict(&[], &malformed), Verdict::Malformed);
 }
 
+/// Document 02, R-2: bytes behind EOL.
+#[test]
+fn tails() {
+    assert_eq!(verdict(&[], &[0, 0, 0]), Verdict::Read);
+    assert_eq!(verdict(&[7], &[0, 0, 0, 0, 0, 0]), Verdict::Read);
+    assert_eq!(verdict(&[], &[0, 0, 0, 1]), Verdict::Tail);
+    assert_eq!(verdict(&[7], &[0, 0, 0, 0, 0, 1]), Verdict::Tail);
+    // A fault in front of EOL is met first; one behind it is none.
+    assert_eq!(verdict(&[], &[0, 0, 192, 0, 1]), Verdict::Unsafe);
+    assert_eq!(verdict(&[], &[0, 0, 0, 192]), Verdict::Tail);
+    // User data and REQ 300, a byte of fill and a bad one: no option is listed.
+    let payload = [
+        0, 1, 0, 2, 0, 10, 0, 0, b'o', b'k', 0, 0, 6, 6, 0, 0, 1, 0x2C, 0, 0, 5,
+    ];
+    let reading = read(&payload, FLOW.source, FLOW.destination).unwrap();
+    assert_eq!(reading.user_data(&payload), b"ok");
+    assert_eq!(reading.verdict, Verdict::Tail);
+    assert_eq!(reading.options, 0..0);
+    assert_eq!((reading.count, reading.fill), (0, 0));
+    assert_eq!(reading.apc, Apc::None);
+    let mut buffer = [0xEE; 8];
+    let listing = list(&payload, &reading, &mut buffer).unwrap();
+    assert_eq!((listing.size, listing.fill, buffer[0]), (1, 0, 0));
+    // The same as an original: delivered, and no refusal.
+    let original = &payload[8..];
+    let rereading = reread(original, Place(2)).unwrap();
+    assert_eq!(rereading.user_data(original), b"ok");
+    assert_eq!(rereading.verdict, Verdict::Tail);
+    assert_eq!(rereading.options, Place(0)..Place(0));
+    assert_eq!((rereading.count, rereading.fill), (0, 0));
+    let listing = relist(original, &rereading, &mut buffer).unwrap();
+    assert_eq!((listing.size, listing.fill, buffer[0]), (1, 0, 0));
+}
+
 #[test]
 fn figure_8_list_not_in_shortest_form() {
     let mut buffer = [0xEE; 64];
@@ -236,7 +270,19 @@ fn one_call_for_each_datagram() {
         panic!("no datagram");
     };
     assert_eq!(reading.verdict, Verdict::Bare);
+    // FRAG, EOL and another byte before the part, which starts at 22: no
+    // fragment. With the part right behind EOL, at 21, it is one.
+    let mut tail = [&head[..], &[3, 10, 0, 22, 0, 0, 0, 8, 0, 8], &[0, 5, 6]].concat();
+    let Received::Datagram(reading) = receive(&tail) else {
+        panic!("no datagram");
+    };
+    assert_eq!(reading.verdict, Verdict::Tail);
+    assert_eq!(reading.user, 8..8);
+    tail[13] = 21;
+    assert_eq!(receive(&tail), Received::Fragment(Ok(Answer::Stored)));
     assert_eq!(&out[..12], b"level 412 cm");
+    let account = one.account();
+    assert_eq!((account.offered, account.held), (20, 2));
 }
 
 #[test]
