@@ -9,7 +9,7 @@ use lib.Dec.{lit<}
 use lib.ListN.{length, take, getD}
 use lib.Seq.{take-add}
 use Rattle.number_octets.specs.Octets.{Octets, number, octets, part}
-use Rattle.number_octets.proofs.Laws.{number-append, part-append, part-one, part-two, part-bytes, length-part}
+use Rattle.number_octets.proofs.Laws.{number-append, part-append, part-one, part-bytes, length-part}
 use Rattle.number_crc_steps.specs.Steps.{steps}
 use Rattle.number_crc_steps.proofs.Xor.{xor-assoc}
 use Rattle.number_crc_steps.proofs.Steps.{steps-add, steps-digit, steps-high, steps-split, steps-xor}

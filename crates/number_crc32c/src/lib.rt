@@ -3,7 +3,6 @@ ghost use mathlib.Core.Path.{_≡_};
 ghost use Prim.Native.Nat.{_+_, _*_, _/_, _%_, _≤_};
 ghost use lib.Bits.{bitXor};
 ghost use lib.ListN.{length, take};
-ghost use Rattle.number_octets.specs.Octets.{number, part};
 ghost use Rattle.number_crc_steps.specs.Steps.{steps};
 ghost use Rattle.number_crc32c.specs.Crc.{ones, byteStep, register, swapped, crcOf};
 ghost use Rattle.number_crc32c.specs.Words.{joined, Holds};

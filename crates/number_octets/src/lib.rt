@@ -1,5 +1,6 @@
 // Numbers in byte slices, in network byte order (big-endian) where the name says nothing else, and copying bytes from one slice into another.
 pub mod zeros;
+
 ghost use mathlib.Core.Path.{_≡_};
 ghost use mathlib.Core.List.{reverse};
 ghost use Prim.Native.Nat.{_+_, _≤_};

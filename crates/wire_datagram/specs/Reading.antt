@@ -3,7 +3,7 @@ use mathlib.Core.Bool.{Bool, true, false, cond, not, _&&_, _||_}
 use mathlib.Core.List.{List, [], _∷_, _++_}
 use mathlib.Core.Option.{Option, none, some}
 use Prim.Native.Nat.{ℕ, _+_, _-_, _%_}
-use lib.Dec.{eqb, leb, ltb}
+use lib.Dec.{eqb, ltb}
 use lib.ListN.{length, take, drop}
 use Rattle.number_octets.specs.Octets.{number, octets, part}
 use Rattle.number_offsets.specs.Offsets.{udpHeader}
@@ -11,8 +11,8 @@ use Rattle.number_tests.specs.Tests.{firstOf}
 use Rattle.number_checksum.specs.Checksum.{wordSum, folded, allOnes}
 use Rattle.number_crc32c.specs.Crc.{crcOf}
 use Rattle.wire_options.specs.Kinds.{apc}
-use Rattle.wire_options.specs.Walk.{Item, walkFrom, optionLimit}
-use Rattle.wire_area.specs.Area.{AreaWalk, plain, piece, fault, plainly, areaOf}
+use Rattle.wire_options.specs.Walk.{Item}
+use Rattle.wire_area.specs.Area.{AreaWalk, plain, piece, fault, areaOf}
 use Rattle.wire_options.specs.declared.walk.Fault.{Fault}
 use Rattle.wire_options.specs.declared.walk.Fault.the-variants.{Malformed as malformedList, Unsafe as unsafeList, FragData as fragData, Crowded as crowdedList, Tail as tailed}
 use Rattle.wire_surplus.specs.Surplus.{startOf}

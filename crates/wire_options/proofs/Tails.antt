@@ -1,15 +1,14 @@
 -- Where a walk comes to "tail" (document 02, R-2): at an EOL with a byte behind it that is not zero, where with zeros in their place the walk
 -- would list its options. So no other fault is called tail, and a fault in front of EOL is met first.
 -- Assumes nothing.
-use mathlib.Core.Path.{_≡_, refl, sym, ap, ap₂, _∙_}
+use mathlib.Core.Path.{_≡_, refl, sym, ap, _∙_}
 use mathlib.Core.Bool.{Bool, true, false, cond, _&&_, _||_}
 use mathlib.Core.List.{List, [], _∷_, _++_}
-use Prim.Native.Nat.{ℕ, zero, suc, _+_, _-_, _≤_, _<_}
+use Prim.Native.Nat.{ℕ, zero, suc, _+_, _-_, _≤_}
 use native.Mathlib.Omega.{arith}
 use lib.Dec.{eqb}
 use lib.ListN.{length, take, getD, replicate, length-append, length-replicate}
 use lib.Seq.{take-at}
-use Rattle.number_octets.specs.Octets.{part}
 use Rattle.number_octets.specs.Zeros.{allZero}
 use Rattle.number_octets.proofs.Blanks.{zero-alike}
 use Rattle.wire_options.specs.Kinds.{classOf, eol, frag}
@@ -24,7 +23,7 @@ use Rattle.wire_options.specs.declared.step.Step.the-variants.{End, Eol,
 use Rattle.wire_options.specs.declared.walk.Fault.the-variants.{Malformed, Tail}
 use Rattle.wire_options.proofs.Classes.{class-end}
 use Rattle.wire_options.proofs.Steps.{step-found}
-use Rattle.wire_options.proofs.Locality.{ending, behind-eol, nop-local, part-same, step-local}
+use Rattle.wire_options.proofs.Locality.{behind-eol, nop-local, step-local}
 
 -- an EOL that the walk comes to, with a byte behind it that is not zero
 pub record Tailed (room skip : ℕ) (l : List ℕ) : Type 0 where

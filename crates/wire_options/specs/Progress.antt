@@ -13,8 +13,6 @@ use Rattle.wire_options.specs.declared.step.Step.the-variants.{End, Eol,
 use Rattle.wire_options.specs.declared.walk.Fault.the-variants.{Malformed, Unsafe, Crowded, Tail}
 use Rattle.wire_options.specs.declared.walk.Apcs.{Apcs}
 use Rattle.wire_options.specs.declared.walk.Apcs.the-variants.{Absent}
-use Rattle.wire_options.specs.declared.walk.Walk.{Walk}
-use Rattle.wire_options.specs.declared.walk.Walk.the-variants.{Listed, Faulty}
 use Rattle.wire_options.specs.declared.walk.Progress.{Progress}
 use Rattle.wire_options.specs.declared.walk.Progress.the-variants.{On, Ended, Failed}
 

@@ -1,7 +1,5 @@
 // One step of the walk: what stands at the front of the list that remains.
 ghost use mathlib.Core.Path.{_≡_};
-ghost use Prim.Native.Nat.{_≤_};
-ghost use lib.ListN.{length};
 ghost use Rattle.wire_options.specs.Kinds.{classOf};
 ghost use Rattle.wire_options.specs.Step.{headerOf, extended, within, fixedStep, varyingStep, stepOf};
 

@@ -4,7 +4,6 @@ use crate::step::Step;
 use number_octets::zeros;
 ghost use mathlib.Core.Path.{_≡_};
 ghost use Prim.Native.Nat.{_<_};
-ghost use lib.ListN.{length};
 ghost use Rattle.wire_options.specs.Walk.{joined, walkAnswer, walkFrom};
 ghost use Rattle.wire_options.specs.Progress.{endProgress, progressOf};
 

@@ -1,5 +1,5 @@
 -- Rereading a reassembled original (document 01, end of "Walking the list").
-use mathlib.Core.Bool.{Bool, true, cond}
+use mathlib.Core.Bool.{Bool, true}
 use mathlib.Core.List.{List, [], _∷_}
 use mathlib.Core.Option.{Option, none, some}
 use Prim.Native.Nat.{ℕ, _+_}
@@ -7,11 +7,11 @@ use lib.Dec.{ltb}
 use lib.ListN.{length, take, drop}
 use Rattle.number_tests.specs.Tests.{firstOf}
 use Rattle.number_offsets.specs.Offsets.{udpHeader}
-use Rattle.wire_options.specs.Walk.{Item, Walked, listed, faulty, walkFrom, optionLimit}
+use Rattle.wire_options.specs.Walk.{Walked, listed, faulty, walkFrom, optionLimit}
 use Rattle.wire_options.specs.declared.walk.Fault.{Fault}
 use Rattle.wire_options.specs.declared.walk.Fault.the-variants.{Malformed as malformedList, Unsafe as unsafeList, FragData as fragData, Crowded as crowdedList, Tail as tailed}
 use Rattle.wire_surplus.specs.Surplus.{startOf}
-use Rattle.wire_datagram.specs.Reading.{apcValues, apcOf, verdictOf, isOdd}
+use Rattle.wire_datagram.specs.Reading.{apcValues, apcOf, isOdd}
 use Rattle.wire_surplus.specs.declared.Start.{Start}
 use Rattle.wire_surplus.specs.declared.Start.the-variants.{
   Empty,

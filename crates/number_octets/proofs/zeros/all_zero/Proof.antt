@@ -1,11 +1,11 @@
 -- `number_octets::zeros::all_zero` meets its contract: the words and the rest are the whole (`zero-split`).
 -- Assumes nothing.
-use mathlib.Core.Path.{_≡_, sym, ap, _∙_}
-use mathlib.Core.Bool.{Bool, true, false, _&&_}
+use mathlib.Core.Path.{_≡_, sym, _∙_}
+use mathlib.Core.Bool.{true, false}
 use Prim.Native.Nat.{_*_, _/_}
 use borrow.Author.Needs.{needs}
 use borrow.Author.Tests.{eq-eqb, ne-eqb}
-use lib.ListN.{length, take, drop}
+use lib.ListN.{length, take}
 use Rattle.number_octets.specs.Zeros.{allZero}
 use Rattle.number_octets.proofs.Blanks.{zero-split}
 use Rattle.number_octets.proofs.zeros.all_zero.Statement.{statement}

@@ -1,9 +1,8 @@
 -- `wire_options::walk::end_at` meets its contract: the test of the bytes is the definition's.
 -- Assumes nothing.
-use mathlib.Core.Path.{_≡_, sym, ap, _∙_}
+use mathlib.Core.Path.{sym, ap, _∙_}
 use mathlib.Core.Bool.{Bool, cond}
 use lib.ListN.{length}
-use Rattle.number_octets.specs.Zeros.{allZero}
 use Rattle.wire_options.specs.declared.walk.Fault.the-variants.{Tail}
 use Rattle.wire_options.specs.declared.walk.Progress.the-variants.{Ended, Failed}
 use borrow.Author.Needs.{needs}
