@@ -9,11 +9,10 @@ use borrow.Author.Tests.{eqb-false}
 use lib.Dec.{eqb}
 use lib.ListN.{length, drop, replicate, length-drop, drop-of-length-le}
 use lib.Seq.{drop-drop}
-use Rattle.number_octets.specs.Zeros.{allZero}
 use Rattle.number_octets.proofs.Blanks.{zero-only}
 use Rattle.wire_options.specs.Kinds.{frag}
 use Rattle.wire_options.specs.Step.{stepOf}
-use Rattle.wire_options.specs.Walk.{Item, Walked, listed, faulty, before, itemOf, sound, walkAt, walkFrom, itemsOf}
+use Rattle.wire_options.specs.Walk.{Item, Walked, listed, faulty, before, itemOf, sound, fillIsZero, walkAt, walkFrom, itemsOf}
 use Rattle.wire_options.specs.declared.step.Step.{Step}
 use Rattle.wire_options.specs.declared.step.Step.the-variants.{End, Eol, Nop, Found, Malformed as Unsound, Outlawed}
 use Rattle.wire_options.specs.declared.walk.Fault.{Fault}
@@ -35,7 +34,7 @@ pub record First (room : ℕ) (l : List ℕ) (items : List Item) (fill kind head
 -- what a walk of `l` that lists `items` has at its front, by the step there
 abbrev pub ListsBy : ℕ → List ℕ → List Item → ℕ → Step → Type 0
 ListsBy room l items fill End = ([] ≡ items) × (0 ≡ fill)
-ListsBy room l items fill Eol = ([] ≡ items) × (length l ≡ fill) × (allZero l ≡ true)
+ListsBy room l items fill Eol = ([] ≡ items) × (length l ≡ fill) × (fillIsZero l ≡ true)
 ListsBy room l items fill Nop = walkFrom room 1 l ≡ listed items fill
 ListsBy room l items fill (Found kind header size) = First room l items fill kind header size
 ListsBy room l items fill Unsound = ⊥
@@ -70,14 +69,14 @@ lists-by room (b ∷ bs) items fill step h e q = go step (sym (ap (λ (s : Step)
         let n = behind (itemOf kind header size l) (rest r (size - 1)) items fill q in
         record { left = r; one = refl; other = c; later = n .0; splits = n .1; walks = n .2 }
 
-    ended : (t : Bool) → allZero l ≡ t → cond t (listed [] (length l)) (faulty Tail) ≡ listed items fill
-        → ([] ≡ items) × (length l ≡ fill) × (allZero l ≡ true)
+    ended : (t : Bool) → fillIsZero l ≡ t → cond t (listed [] (length l)) (faulty Tail) ≡ listed items fill
+        → ([] ≡ items) × (length l ≡ fill) × (fillIsZero l ≡ true)
     ended true z q = (cc, cc, z)
     ended false z q = absurd (faultless _ items fill q)
 
     go : (step : Step) → walkAt room l step rest ≡ listed items fill → ListsBy room l items fill step
     go End q = (cc, cc)
-    go Eol q = ended (allZero l) refl q
+    go Eol q = ended (fillIsZero l) refl q
     go Nop q = q
     go (Found kind header size) q = found kind header size (eqb kind frag) room refl q
     go Unsound q = faultless _ items fill q
@@ -93,7 +92,7 @@ pub record Filled (l : List ℕ) (fill : ℕ) : Type 0 where
 filled-none : (l : List ℕ) → Filled l 0
 filled-none l = record { within = omega arith; zeros = drop-of-length-le l {i = length l - 0} (omega arith) }
 
-filled-whole : (l : List ℕ) → allZero l ≡ true → Filled l (length l)
+filled-whole : (l : List ℕ) → fillIsZero l ≡ true → Filled l (length l)
 filled-whole l z =
     let none : length l - length l ≡ 0 = omega arith in
     record { within = omega arith; zeros = ap (λ (n : ℕ). drop n l) none ∙ zero-only l z }

@@ -10,11 +10,10 @@ use borrow.Author.Tests.{eq-eqb, ne-eqb, eqb-true, eqb-false}
 use lib.Dec.{eqb}
 use lib.ListN.{length, drop}
 use lib.Seq.{drop-drop}
-use Rattle.number_octets.specs.Zeros.{allZero}
 use Rattle.wire_options.specs.Kinds.{frag}
 use Rattle.wire_options.specs.Step.{stepOf}
 use Rattle.wire_options.specs.Progress.{roomProgress, progressIn, progressOf}
-use Rattle.wire_options.specs.Walk.{Item, Walked, listed, faulty, before, itemOf, sound, walkAt, walkFrom, joined, apcOf, apcsOf, walkAnswer}
+use Rattle.wire_options.specs.Walk.{Item, Walked, listed, faulty, before, itemOf, sound, fillIsZero, walkAt, walkFrom, joined, apcOf, apcsOf, walkAnswer}
 use Rattle.wire_options.specs.declared.step.Step.{Step}
 use Rattle.wire_options.specs.declared.step.Step.the-variants.{End, Eol, Nop, Found, Malformed as Unsound, Outlawed}
 use Rattle.wire_options.specs.declared.walk.Fault.the-variants.{Malformed, Tail}
@@ -113,7 +112,7 @@ module _ (b : ℕ) (bs : List ℕ) where
   tells-step : (room : ℕ) (step : Step) → stepOf l ≡ step → walkFrom room 0 l ≡ walkAt room l step rest → Tells room l (progressIn room l step)
   unfolding apcsOf
   tells-step room End e w = ap walkAnswer w
-  tells-step room Eol e w = go (allZero l) w
+  tells-step room Eol e w = go (fillIsZero l) w
     where
       go : (t : Bool) → walkFrom room 0 l ≡ cond t (listed [] (length l)) (faulty Tail) → Tells room l (cond t (Ended (length l)) (Failed Tail))
       go true w = ap walkAnswer w

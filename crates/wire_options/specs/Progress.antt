@@ -4,10 +4,9 @@ use mathlib.Core.List.{List}
 use Prim.Native.Nat.{ℕ, zero, suc}
 use lib.Dec.{eqb}
 use lib.ListN.{length}
-use Rattle.number_octets.specs.Zeros.{allZero}
 use Rattle.wire_options.specs.Kinds.{frag}
 use Rattle.wire_options.specs.Step.{stepOf}
-use Rattle.wire_options.specs.Walk.{itemOf, apcOf}
+use Rattle.wire_options.specs.Walk.{itemOf, fillIsZero, apcOf}
 use Rattle.wire_options.specs.declared.step.Step.{Step}
 use Rattle.wire_options.specs.declared.step.Step.the-variants.{End, Eol, Nop, Found, Malformed as Unsound, Outlawed}
 use Rattle.wire_options.specs.declared.walk.Fault.the-variants.{Malformed, Unsafe, Crowded, Tail}
@@ -23,7 +22,7 @@ roomProgress (suc room) size apcs = On room size apcs
 
 -- EOL: the fill, or a tail
 abbrev pub endProgress : List ℕ → Progress
-endProgress l = cond (allZero l) (Ended (length l)) (Failed Tail)
+endProgress l = cond (fillIsZero l) (Ended (length l)) (Failed Tail)
 
 abbrev pub progressIn : ℕ → List ℕ → Step → Progress
 progressIn room l End = Ended 0

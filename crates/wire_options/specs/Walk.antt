@@ -1,5 +1,5 @@
 -- The walk over a list of options (document 01, "Walking the list").
-use mathlib.Core.Bool.{cond}
+use mathlib.Core.Bool.{Bool, cond}
 use mathlib.Core.List.{List, [], _∷_}
 use Prim.Native.Nat.{ℕ, zero, suc, _-_}
 use lib.Dec.{eqb}
@@ -48,9 +48,13 @@ abbrev pub sound : ℕ → Item → (ℕ → Walked) → Walked
 sound zero item rest = faulty Crowded
 sound (suc room) item rest = before item (rest room)
 
--- EOL, at the front of `l`. With all behind it up to the end of the list it is the fill, "set to zero" (section 11.1); else "tail" (document 02, R-2).
+-- EOL, at the front of `l`, and all behind it up to the end of the list are the fill: "All bytes after EOL .. MUST be set to zero" (section 11.1).
+abbrev pub fillIsZero : List ℕ → Bool
+fillIsZero l = allZero l
+
+-- the list ends at EOL; with another byte in the fill it is "tail" (document 02, R-2)
 abbrev pub endsAt : List ℕ → Walked
-endsAt l = cond (allZero l) (listed [] (length l)) (faulty Tail)
+endsAt l = cond (fillIsZero l) (listed [] (length l)) (faulty Tail)
 
 -- What follows from the step at the front of `l`. `rest room skip` is the walk behind its first byte, `skip` bytes further on.
 -- The walk ends at the end or at EOL; NOPs are skipped.
