@@ -1,3 +1,4 @@
 pub mod Areas
+pub mod Examples
 pub mod Fills
 pub mod Locality

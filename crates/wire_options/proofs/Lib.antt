@@ -1,4 +1,5 @@
 pub mod Classes
+pub mod Examples
 pub mod Fills
 pub mod Locality
 pub mod Rests

@@ -1,0 +1,53 @@
+-- The walk of a list that FRAG leads computes: EOL in a piece's options, up to Frag. Start. The list stands at packet offset 10, behind the option
+-- checksum of a datagram without user data.
+-- Assumes nothing.
+use mathlib.Core.Path.{_≡_, refl}
+use mathlib.Core.Bool.{true, false}
+use mathlib.Core.List.{List, [], _∷_}
+use Prim.Native.Nat.{ℕ}
+use Rattle.number_octets.specs.Octets.{number}
+use Rattle.number_octets.specs.Zeros.{allZero}
+use Rattle.number_offsets.specs.Offsets.{udpHeader, placeOf}
+use Rattle.wire_options.specs.Kinds.{classOf}
+use Rattle.wire_options.specs.Step.{headerOf, stepOf}
+use Rattle.wire_options.specs.Walk.{walkFrom, optionLimit}
+use Rattle.wire_options.specs.declared.walk.Fault.the-variants.{FragData, Tail}
+use Rattle.wire_area.specs.Area.{nopsOf, fieldsOf, fragmentOf, AreaWalk, piece, fault, areaOf}
+
+-- FRAG with this Frag. Start, identification 7, place 0, and what stands behind it
+abbrev led : ℕ → List ℕ → List ℕ
+led start rest = 0x03 ∷ 0x0A ∷ 0x00 ∷ start ∷ 0x00 ∷ 0x00 ∷ 0x00 ∷ 0x07 ∷ 0x00 ∷ 0x08 ∷ rest
+
+-- the bytes of a fragment that starts and ends there
+abbrev fragment : ℕ → ℕ → AreaWalk
+fragment start end = piece (record {
+  identification = 7;
+  place = record { 0 = 0 };
+  start = record { 0 = start };
+  end = record { 0 = end };
+  last = false;
+  «option_start» = record { 0 = 0 };
+})
+
+-- EOL right before Frag. Start, at 21: what stands behind is the piece's
+eol-last : areaOf true 10 (led 21 (0x00 ∷ 0xAA ∷ 0xBB ∷ [])) ≡ fragment 21 23
+unfolding number allZero placeOf udpHeader classOf headerOf stepOf walkFrom optionLimit nopsOf fieldsOf fragmentOf areaOf
+eol-last = refl
+
+-- a zero between them, and another byte
+zero-between : areaOf true 10 (led 22 (0x00 ∷ 0x00 ∷ 0xBB ∷ [])) ≡ fragment 22 23
+unfolding number allZero placeOf udpHeader classOf headerOf stepOf walkFrom optionLimit nopsOf fieldsOf fragmentOf areaOf
+zero-between = refl
+
+other-between : areaOf true 10 (led 22 (0x00 ∷ 0xAA ∷ 0xBB ∷ [])) ≡ fault Tail
+unfolding number allZero placeOf udpHeader classOf headerOf stepOf walkFrom optionLimit nopsOf fieldsOf fragmentOf areaOf
+other-between = refl
+
+-- with user data FRAG is met first; behind EOL it is not met
+with-data : areaOf false 10 (led 22 (0x00 ∷ 0xAA ∷ 0xBB ∷ [])) ≡ fault FragData
+unfolding number allZero placeOf udpHeader classOf headerOf stepOf walkFrom optionLimit nopsOf fieldsOf fragmentOf areaOf
+with-data = refl
+
+behind-eol : areaOf true 10 (0x00 ∷ led 22 (0xAA ∷ [])) ≡ fault Tail
+unfolding number allZero placeOf udpHeader classOf headerOf stepOf walkFrom optionLimit nopsOf fieldsOf fragmentOf areaOf
+behind-eol = refl
