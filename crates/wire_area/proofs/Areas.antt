@@ -139,7 +139,7 @@ led-area empty base l f led =
 
 with-same : (f g : Fragment) (w : Walked) → pieceWith g w ≡ piece f → g ≡ f
 with-same f g (listed items fill) q = cc
-with-same f g (faulty x) q = absurd (let z : _≡_ {A = ℕ} 0 1 = cc in omega arith)
+with-same f g (faulty x) q = cc
 
 behind-same : (empty : Bool) (l : List ℕ) (base behind : ℕ) (f g : Fragment) → behindFrag empty l base behind (Sound g) ≡ piece f → g ≡ f
 behind-same true l base behind f g q = with-same f g (walkFrom (optionLimit - 1) 0 (upToStart g base behind l)) q
