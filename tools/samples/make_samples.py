@@ -207,6 +207,7 @@ SAMPLES = {
     "tail_right_behind_eol": (SRC + DST + udp(area_of(TOKEN + b"\0\xff\0\0", size=10), user=b"ab"), "tail"),
     "tail_last_byte": (SRC + DST + udp(area_of(TOKEN + b"\0" * 9 + b"\x01", size=9), user=b"x"), "tail"),
     "tail_last_byte_longest": (SRC + DST + udp(area_of(TOKEN + b"\0" * 65498 + b"\x80")), "tail"),
+    "tail_no_sums": (SRC + DST + udp(area_of(TOKEN + b"\0\0\x01", size=9, ocs=0), user=b"x", checksum=0), "tail"),
     "tail_option_behind_eol": (SRC + DST + udp(area_of(b"\0" + TOKEN)), "tail"),
     "tail_unsafe_behind_eol": (SRC + DST + udp(area_of(TOKEN + b"\0\xc0", size=10), user=b"ab"), "tail"),
     "tail_frag_behind_eol": (SRC + DST + udp(area_of(b"\0" + FRAG(21) + b"first")), "tail"),

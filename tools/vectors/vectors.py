@@ -275,6 +275,9 @@ group("lists", "tails", "Bytes behind EOL, up to the end: one that is not zero g
       P("tail-first-of-zeros", "tail", [REQ(1), EOL, raw("a byte and zeros", "0100000000000000000000")], AB),
       P("tail-a-second-eol", "tail", [REQ(1), EOL, EOL, EOL, NOP], AB),
       P("tail-no-sums", "tail", [REQ(1), EOL, raw("a byte", "01")], AB, udp=0, ocs=0),
+      P("tail-no-sums-odd", "tail", [REQ(1), EOL, raw("a byte", "01")], A, udp=0, ocs=0),
+      P("tail-no-udp-sum", "tail", [REQ(1), EOL, raw("a byte", "01")], AB, udp=0),
+      P("tail-no-udp-sum-odd", "tail", [REQ(1), EOL, raw("a byte", "01")], A, udp=0),
       P("fill-odd", "read 1 fill 2", [REQ(1), EOL, raw("a zero", "00")], A),
       P("fill-no-sums", "read 1 fill 2", [REQ(1), EOL, raw("a zero", "00")], AB, udp=0, ocs=0))
 

@@ -48,8 +48,8 @@ written-fill d =
     let area : List ℕ = areaOf (isOdd (sizeOf d)) (listOf (d .user) (d .items) (d .fill)) in
     ends-zeros (front ++ area) (d .fill) (behind front area (d .fill) (area-ends (isOdd (sizeOf d)) (d .user) (d .items) (d .fill)))
 
--- What is read with "read" ends, behind its options, in what a writer with the same fill writes there, whatever else it writes. The writer's fill
--- is a byte: so this is said of every fill that was read up to 255.
+-- What is read with "read" ends, behind its options, in what a writer with the same fill writes there, whatever else it writes. `payloadOf` takes any
+-- fill, and the call `write` one up to 255: for those it is what the call writes.
 pub fill-as-written : (p s t : List ℕ) (r : Reading) → reading p s t ≡ reads r → r .verdict ≡ Read → (d : Datagram) → d .fill ≡ r .fill
     → drop (length p - r .fill) p ≡ drop (length (payloadOf d) - d .fill) (payloadOf d)
 fill-as-written p s t r e v d same = reading-fill p s t r e v .zeros ∙ ap (λ (n : ℕ). replicate n 0) (sym same) ∙ sym (written-fill d)

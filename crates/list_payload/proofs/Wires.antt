@@ -12,7 +12,7 @@ use lib.ListN.{length, take, drop, replicate, length-append, length-replicate}
 use lib.Seq.{drop-append-seam, take-at, drop-at, drop-drop}
 use Rattle.number_octets.specs.Octets.{number, octets, part}
 use Rattle.number_octets.specs.Zeros.{allZero}
-use Rattle.number_octets.proofs.Blanks.{zero-alike}
+use Rattle.number_octets.proofs.ZeroBytes.{zero-alike}
 use Rattle.number_octets.proofs.Laws.{length-octets, number-octets}
 use Rattle.wire_options.specs.Kinds.{classOf, frag}
 use Rattle.wire_options.specs.Step.{headerOf, stepOf, stepIn, fixedStep, varyingStep}

@@ -30,7 +30,7 @@ fn set_in_words(bytes: &[u8], count: usize) -> u32
     set
 }
 
-// The bytes from `at` on, fewer than four, are zero.
+// The bytes from `at` on are zero. Behind the words there are fewer than four.
 fn rest_zero(bytes: &[u8], at: usize) -> bool
     requires { ⌜ at ≤ length (now bytes) ⌝ }
     ensures { λ r. ⌜ r ≡ allZero (drop at (now (bytes .entry))) ⌝ }

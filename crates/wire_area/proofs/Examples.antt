@@ -48,6 +48,6 @@ with-data : areaOf false 10 (led 22 (0x00 ∷ 0xAA ∷ 0xBB ∷ [])) ≡ fault F
 unfolding number allZero placeOf udpHeader classOf headerOf stepOf walkFrom optionLimit nopsOf fieldsOf fragmentOf areaOf
 with-data = refl
 
-behind-eol : areaOf true 10 (0x00 ∷ led 22 (0xAA ∷ [])) ≡ fault Tail
+frag-behind-eol : areaOf true 10 (0x00 ∷ led 22 (0xAA ∷ [])) ≡ fault Tail
 unfolding number allZero placeOf udpHeader classOf headerOf stepOf walkFrom optionLimit nopsOf fieldsOf fragmentOf areaOf
-behind-eol = refl
+frag-behind-eol = refl

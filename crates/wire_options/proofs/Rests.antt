@@ -9,7 +9,7 @@ use borrow.Author.Tests.{eqb-false}
 use lib.Dec.{eqb}
 use lib.ListN.{length, drop, replicate, length-drop, drop-of-length-le}
 use lib.Seq.{drop-drop}
-use Rattle.number_octets.proofs.Blanks.{zero-only}
+use Rattle.number_octets.proofs.ZeroBytes.{zero-only}
 use Rattle.wire_options.specs.Kinds.{frag}
 use Rattle.wire_options.specs.Step.{stepOf}
 use Rattle.wire_options.specs.Walk.{Item, Walked, listed, faulty, before, itemOf, sound, fillIsZero, walkAt, walkFrom, itemsOf}

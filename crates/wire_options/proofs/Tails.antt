@@ -1,5 +1,5 @@
--- Where a walk comes to "tail" (document 02, R-2): at an EOL with a byte behind it that is not zero, where with zeros in their place the walk
--- would list its options. So no other fault is called tail, and a fault in front of EOL is met first.
+-- Where a walk comes to "tail" (document 02, R-2): at an EOL with a byte behind it that is not zero, where with zeros behind it the walk would list
+-- its options. So no other fault is called tail, and a fault in front of EOL is met first.
 -- Assumes nothing.
 use mathlib.Core.Path.{_≡_, refl, sym, ap, _∙_}
 use mathlib.Core.Bool.{Bool, true, false, cond, _&&_, _||_}
@@ -10,7 +10,7 @@ use lib.Dec.{eqb}
 use lib.ListN.{length, take, getD, replicate, length-append, length-replicate}
 use lib.Seq.{take-at}
 use Rattle.number_octets.specs.Zeros.{allZero}
-use Rattle.number_octets.proofs.Blanks.{zero-alike}
+use Rattle.number_octets.proofs.ZeroBytes.{zero-alike}
 use Rattle.wire_options.specs.Kinds.{classOf, eol, frag}
 use Rattle.wire_options.specs.Step.{headerOf, fixedStep, varyingStep, stepIn, stepOf}
 use Rattle.wire_options.specs.Walk.{Item, Walked, listed, faulty, before, itemOf, sound, walkAt, walkFrom}

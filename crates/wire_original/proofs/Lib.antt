@@ -1,3 +1,4 @@
+pub mod Causes
 pub mod Lists
 pub mod Refusals
 pub mod Rereadings

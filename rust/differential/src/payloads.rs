@@ -483,6 +483,9 @@ fn written_raw(result: Result<usize, u32>) -> raw::Written {
 /// A payload without checksums and user data.
 const HEAD: [u8; 10] = [1, 2, 3, 4, 0, 8, 0, 0, 0, 0];
 
+/// The UDP header of one with a byte of user data.
+const ODD_HEAD: [u8; 8] = [1, 2, 3, 4, 0, 9, 0, 0];
+
 /// Every kind with every length byte, and every short payload with every
 /// short UDP length. Counts the payloads.
 pub fn sweep(random: &mut Random, counts: &mut Counts) -> Result<u64, String> {
@@ -496,8 +499,8 @@ pub fn sweep(random: &mut Random, counts: &mut Counts) -> Result<u64, String> {
         };
         read(random, counts, &datagram)
     };
-    // Behind a length byte stand NOPs; zeros, which are a fill; or, where it
-    // may be FRAG's, its fields: the start is 22 and the offsets are 9.
+    // Behind a length byte stand NOPs; zeros, which are a fill; or what would
+    // be FRAG's fields: the start is 22 and the offsets are 9.
     let fields = [0, 22, 0, 0, 0, 5, 0, 9, 0, 9, 1, 1];
     for kind in 0..=255 {
         for length in 0..=255 {
@@ -524,9 +527,10 @@ pub fn sweep(random: &mut Random, counts: &mut Counts) -> Result<u64, String> {
     Ok(payloads)
 }
 
-/// Every fill of up to 70 bytes behind EOL, all zero or but for one bit in
-/// each of its bytes, with 0 to 7 NOPs in front: of a datagram, of an original,
-/// and of a fragment with other bytes behind Frag. Start. Counts the fills.
+/// Every fill of up to 70 bytes behind EOL, all zero, or with one bit set in
+/// one byte, each byte in turn, with 0 to 7 NOPs in front: of a datagram and an
+/// original at either parity, without checksums, and of a fragment with other
+/// bytes behind Frag. Start. Counts the fills.
 pub fn fills(random: &mut Random, counts: &mut Counts) -> Result<u64, String> {
     let mut fills = 0;
     for size in 0..=70 {
@@ -540,11 +544,15 @@ pub fn fills(random: &mut Random, counts: &mut Counts) -> Result<u64, String> {
                     *byte = 1 << random.below(8);
                 }
                 reread(random, counts, &[&[0, 0], &list[..]].concat(), 0)?;
+                // One byte of user data, the pad, no option checksum.
+                let odd = [&[7, 0, 0, 0], &list[..]].concat();
+                reread(random, counts, &odd, 1)?;
                 let start = (HEAD.len() + 10 + list.len()) as u8;
                 let frag = [3, 10, 0, start, 0, 0, 0, 5, 0, 9];
                 let part = random.bytes(3);
                 for payload in [
                     [&HEAD[..], &list].concat(),
+                    [&ODD_HEAD[..], &odd].concat(),
                     [&HEAD, &frag, &list[..], &part].concat(),
                 ] {
                     let datagram = Datagram {

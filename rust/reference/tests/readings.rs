@@ -268,8 +268,9 @@ fn tails() {
     assert_eq!(rereading.apc, Apc::None);
 }
 
-/// Fills of every length to 150, zero but for one bit in each of their bytes:
-/// of a datagram, of a piece with others behind Frag. Start, and of an original.
+/// Fills of every length to 150, all zero, and with one bit set in one byte,
+/// each byte in turn: of a datagram, of a piece with other bytes behind Frag.
+/// Start, and of an original.
 #[test]
 fn fills() {
     let frag_end = 20;

@@ -7,7 +7,7 @@ use borrow.Author.Needs.{needs}
 use borrow.Author.Tests.{eq-eqb, ne-eqb}
 use lib.ListN.{length, take}
 use Rattle.number_octets.specs.Zeros.{allZero}
-use Rattle.number_octets.proofs.Blanks.{zero-split}
+use Rattle.number_octets.proofs.ZeroBytes.{zero-split}
 use Rattle.number_octets.proofs.zeros.all_zero.Statement.{statement}
 use Rattle.number_octets.proofs.zeros.all_zero.Tie as tie
 

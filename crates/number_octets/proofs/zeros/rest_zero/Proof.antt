@@ -9,7 +9,7 @@ use borrow.Author.Tests.{eq-eqb, ne-eqb}
 use lib.Dec.{eqb}
 use lib.ListN.{length, drop, getD, drop-of-length-le}
 use Rattle.number_octets.specs.Zeros.{allZero}
-use Rattle.number_octets.proofs.Blanks.{zero-at}
+use Rattle.number_octets.proofs.ZeroBytes.{zero-at}
 use Rattle.number_octets.proofs.zeros.rest_zero.Statement.{statement}
 use Rattle.number_octets.proofs.zeros.rest_zero.Tie as tie
 

@@ -8,7 +8,7 @@ use borrow.Author.Needs.{needs}
 use lib.Dec.{eqb}
 use lib.ListN.{take}
 use Rattle.number_octets.specs.Zeros.{allZero}
-use Rattle.number_octets.proofs.Blanks.{zero-more, or-zero, word-zero}
+use Rattle.number_octets.proofs.ZeroBytes.{zero-more, or-zero, word-zero}
 use Rattle.number_octets.proofs.zeros.set_in_words.Statement.{statement}
 use Rattle.number_octets.proofs.zeros.set_in_words.Tie as tie
 
