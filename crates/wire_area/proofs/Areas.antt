@@ -18,9 +18,10 @@ use Rattle.number_offsets.specs.declared.Origin.the-variants.{At, BeforeData}
 use Rattle.wire_options.specs.Kinds.{classOf, eol, nop, frag}
 use Rattle.wire_options.specs.Step.{stepOf}
 use Rattle.wire_options.specs.Walk.{Item, Walked, listed, faulty, walkFrom, optionLimit}
-use Rattle.wire_area.specs.Area.{plain, piece, nopsOf, fieldsOf, placedAt, fragmentOf, plainly, pieceWith, upToStart, behindFrag, ledBy, areaOf}
+use Rattle.wire_area.specs.Area.{plain, piece, fault, nopsOf, fieldsOf, placedAt, fragmentOf, plainly, pieceWith, upToStart, behindFrag, ledBy, areaOf}
 use Rattle.wire_options.specs.declared.step.Step.{Step}
 use Rattle.wire_options.specs.declared.step.Step.the-variants.{End, Eol, Nop, Found, Malformed as Unsound, Outlawed}
+use Rattle.wire_options.specs.declared.walk.Fault.the-variants.{FragData}
 use Rattle.wire_area.specs.declared.Fields.{Fields}
 use Rattle.wire_area.specs.declared.Fragment.{Fragment}
 use Rattle.wire_area.specs.declared.Placed.{Placed}
@@ -136,6 +137,10 @@ unfolding areaOf
 led-area empty base l f led =
     ap (λ (t : Bool). cond t (ledBy empty l base (nopsOf l) (stepOf (drop (nopsOf l) l))) (plainly (walkFrom optionLimit 0 l))) (led .first)
     ∙ ap (ledBy empty l base (nopsOf l)) (led .found) ∙ ap (behindFrag empty l base (nopsOf l + led .size)) (led .sound)
+
+-- with user data a FRAG that passes its tests is "fragdata" at once, whatever stands behind it
+pub data-at-once : (base : ℕ) (l : List ℕ) (f : Fragment) → Leads base l f → areaOf false base l ≡ fault FragData
+data-at-once base l f led = led-area false base l f led
 
 with-same : (f g : Fragment) (w : Walked) → pieceWith g w ≡ piece f → g ≡ f
 with-same f g (listed items fill) q = cc

@@ -7,3 +7,4 @@ pub mod Readings
 pub mod Refusals
 pub mod Sums
 pub mod Survival
+pub mod Tails
