@@ -39,7 +39,7 @@ pub enum Apc {
     Wrong,
 }
 
-// The verdict on the surplus area, in document 01's words; `Bare` is its "none".
+// The verdict on the surplus area, in document 01's words; `Bare` is its "none". In the order of the numbers that hosts get.
 pub enum Verdict {
     Bare,
     Short,
@@ -50,9 +50,9 @@ pub enum Verdict {
     Unsafe,
     FragData,
     Crowded,
-    Tail,
     Read,
     Piece(Fragment),
+    Tail,
 }
 
 pub struct Reading {
