@@ -75,7 +75,7 @@ typedef struct {
     wuraketozo_extent user;    /* the user data */
     wuraketozo_extent options; /* the option list with its fill, 0 and 0 unless the verdict is READ */
     size_t count;              /* options in it, NOP and EOL not counted */
-    size_t fill;               /* bytes from EOL to the end */
+    size_t fill;               /* zero bytes from EOL to the end */
     uint32_t apc;              /* WURAKETOZO_APC_NONE .. WURAKETOZO_APC_WRONG */
     uint32_t identification;   /* from here on: PIECE only, else 0 */
     size_t place;              /* where the fragment stands in the original */
@@ -94,7 +94,7 @@ typedef struct {
     wuraketozo_original_extent user;    /* the user data */
     wuraketozo_original_extent options; /* the option list with its fill, 0 and 0 unless the verdict is READ */
     size_t count;                       /* options in it, NOP and EOL not counted */
-    size_t fill;                        /* bytes from EOL to the end */
+    size_t fill;                        /* zero bytes from EOL to the end */
     uint32_t apc;                       /* WURAKETOZO_APC_NONE .. WURAKETOZO_APC_WRONG */
 } wuraketozo_rereading;
 

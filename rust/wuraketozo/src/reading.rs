@@ -143,7 +143,7 @@ pub struct Reading {
     pub options: Range<usize>,
     /// Options in it.
     pub count: usize,
-    /// Bytes from EOL to the end.
+    /// Zero bytes from EOL to the end.
     pub fill: usize,
     /// What the APC options say.
     pub apc: Apc,
@@ -192,7 +192,7 @@ pub struct Rereading {
     pub options: Range<Place>,
     /// Options in it.
     pub count: usize,
-    /// Bytes from EOL to the end.
+    /// Zero bytes from EOL to the end.
     pub fill: usize,
     /// What the APC options say.
     pub apc: Apc,
