@@ -7,7 +7,8 @@ use mathlib.Core.List.{List}
 use Prim.Native.Nat.{ℕ, _+_, _-_}
 use native.Mathlib.Omega.{arith}
 use Rattle.wire_options.specs.Walk.{Item, Walked, listed, faulty, walkFrom, optionLimit}
-use Rattle.wire_options.proofs.Fills.{Fills, walk-fills}
+use Rattle.wire_options.proofs.Rests.{Fills}
+use Rattle.wire_options.proofs.Fills.{walk-fills}
 use Rattle.wire_area.specs.Area.{nopsOf, piece, pieceWith, upToStart, behindFrag, areaOf}
 use Rattle.wire_area.specs.declared.Fragment.{Fragment}
 use Rattle.wire_area.specs.declared.Placed.the-variants.{Sound}

@@ -6,11 +6,12 @@ use mathlib.Core.Bool.{true, false}
 use mathlib.Core.List.{List}
 use Prim.Native.Nat.{ℕ, _+_, _-_, _≤_}
 use native.Mathlib.Omega.{arith}
-use lib.ListN.{length, drop, replicate, length-drop}
+use lib.ListN.{length, drop, length-drop}
 use lib.Seq.{drop-drop}
 use Rattle.number_octets.specs.Octets.{part}
 use Rattle.number_octets.proofs.Laws.{part-rest}
 use Rattle.wire_options.specs.Walk.{Item, listed, walkFrom, optionLimit}
+use Rattle.wire_options.proofs.Rests.{Fills}
 use Rattle.wire_options.proofs.Fills.{walk-fills}
 use Rattle.wire_datagram.specs.Reading.{reads, reading, isRead}
 use Rattle.wire_datagram.specs.declared.reading.Verdict.{Verdict}
@@ -32,15 +33,11 @@ pub lists-part : (bytes : List ℕ) (from to count fill : ℕ) → Lists bytes f
 lists-part bytes from to count fill l = ap (λ (n : ℕ). part from (n - from) bytes) (l .ends) ∙ part-rest from bytes
 
 -- the last `fill` bytes are zero, and stand within the option list
-pub record ZeroFill (bytes : List ℕ) (from fill : ℕ) : Type 0 where
-  pub within : from + fill ≤ length bytes
-  pub zeros : drop (length bytes - fill) bytes ≡ replicate fill 0
-
-pub lists-fill : (bytes : List ℕ) (from to count fill : ℕ) → Lists bytes from to count fill → ZeroFill bytes from fill
+pub lists-fill : (bytes : List ℕ) (from to count fill : ℕ) → Lists bytes from to count fill → Fills from bytes fill
 lists-fill bytes from to count fill l =
     let f = walk-fills optionLimit 0 (drop from bytes) (l .items) fill (omega arith) (l .walks) in
     let left : length (drop from bytes) ≡ length bytes - from = length-drop from bytes in
-    let within : from + fill ≤ length bytes = omega (arith, f .within, l .ordered, l .ends) in
+    let within : fill + from ≤ length bytes = omega (arith, f .within, l .ordered, l .ends) in
     let place : from + (length (drop from bytes) - fill) ≡ length bytes - fill = omega arith in
     record { within = within; zeros = ap (λ (n : ℕ). drop n bytes) (sym place) ∙ sym (drop-drop (length (drop from bytes) - fill) from bytes) ∙ f .zeros }
 
@@ -73,5 +70,5 @@ reading-lists p s d r e =
     (λ from f h a v. absurd (not-read (Piece f) refl v))
 
 -- Document 02, R-2: with "read" the fill is zero bytes throughout.
-pub reading-fill : (p s d : List ℕ) (r : Reading) → reading p s d ≡ reads r → r .verdict ≡ Read → ZeroFill p (r .options .from .0) (r .fill)
+pub reading-fill : (p s d : List ℕ) (r : Reading) → reading p s d ≡ reads r → r .verdict ≡ Read → Fills (r .options .from .0) p (r .fill)
 reading-fill p s d r e v = lists-fill p (r .options .from .0) (r .options .to .0) (r .count) (r .fill) (reading-lists p s d r e v)

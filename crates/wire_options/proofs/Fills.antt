@@ -2,23 +2,19 @@
 -- Assumes nothing.
 use mathlib.Core.Path.{_≡_, refl, ap, _∙_}
 use mathlib.Core.List.{List, _∷_}
-use Prim.Native.Nat.{ℕ, suc, _+_, _-_, _≤_}
+use Prim.Native.Nat.{ℕ, suc, _-_, _≤_}
 use native.Mathlib.Omega.{arith}
-use lib.ListN.{length, drop, replicate}
+use lib.ListN.{length, drop}
 use Rattle.wire_options.specs.Walk.{Item, listed, walkFrom}
 use Rattle.wire_options.proofs.Steps.{step-found}
-use Rattle.wire_options.proofs.Rests.{walk-all}
-
-pub record Fills (skip : ℕ) (l : List ℕ) (fill : ℕ) : Type 0 where
-  pub within : fill + skip ≤ length l
-  pub zeros : drop (length l - fill) l ≡ replicate fill 0
+use Rattle.wire_options.proofs.Rests.{Fills, walk-all}
 
 pub walk-fills : (room skip : ℕ) (l : List ℕ) (items : List Item) (fill : ℕ) → skip ≤ length l → walkFrom room skip l ≡ listed items fill
     → Fills skip l fill
 walk-fills room skip l items fill h q =
     walk-all (λ room skip l items fill. skip ≤ length l → Fills skip l fill)
     (λ room skip h. record { within = omega arith; zeros = refl })
-    (λ room fill l f h. record { within = omega (arith, f .within); zeros = f .zeros })
+    (λ room fill l f h. f)
     (λ room skip b bs items fill ih h.
     let i = ih (omega arith) in
     let one : suc (length bs) - fill ≡ suc (length bs - fill) = omega (arith, i .within) in

@@ -2,7 +2,7 @@
 -- that EOL count only as zero or not (document 02, R-2).
 -- Assumes nothing.
 use mathlib.Core.Path.{_≡_, refl, sym, ap, ap₂, _∙_}
-use mathlib.Core.Bool.{Bool, true, false, cond, _||_}
+use mathlib.Core.Bool.{Bool, true, false, cond}
 use mathlib.Core.List.{List, [], _∷_, _++_}
 use mathlib.Core.Logic.{⊎-elim}
 use Prim.Native.Nat.{ℕ, zero, suc, _+_, _-_, _≤_, _<_}
@@ -23,7 +23,7 @@ use Rattle.wire_options.specs.declared.step.Header.the-variants.{Sound, 
 use Rattle.wire_options.specs.declared.step.Step.{Step}
 use Rattle.wire_options.specs.declared.step.Step.the-variants.{End, Eol, Nop, Found, Malformed as Unsound, Outlawed}
 use Rattle.wire_options.specs.declared.walk.Fault.the-variants.{Malformed, Tail}
-use Rattle.wire_options.proofs.Steps.{Sized, header-sound, step-found}
+use Rattle.wire_options.proofs.Steps.{Sized, header-sound, step-found, class-alone}
 use Rattle.wire_options.proofs.Rests.{ListsBy, lists-by}
 use Rattle.wire_options.proofs.Fills.{walk-fills}
 
@@ -89,26 +89,7 @@ step-local n (b ∷ bs) (c ∷ cs) kind h s len same fits e =
 -- a NOP is known by its one byte
 pub nop-local : (b : ℕ) (bs cs : List ℕ) → stepOf (b ∷ bs) ≡ Nop → stepOf (b ∷ cs) ≡ Nop
 unfolding stepOf
-nop-local b bs cs = go (classOf b)
-  where
-    pick : (t : Bool) (x y : ℕ) → cond t (Found b x y) Unsound ≡ Nop → ⊥
-    pick true x y q = let z : _≡_ {A = ℕ} 0 1 = cc in omega arith
-    pick false x y q = let z : _≡_ {A = ℕ} 0 1 = cc in omega arith
-
-    fixed : (x y : ℕ) (header : Header) → fixedStep b x y header ≡ Nop → ⊥
-    fixed x y Broken q = let z : _≡_ {A = ℕ} 0 1 = cc in omega arith
-    fixed x y (Sound h s) q = pick (eqb s x || eqb s y) h s q
-
-    varying : (header : Header) → varyingStep b header ≡ Nop → ⊥
-    varying Broken q = let z : _≡_ {A = ℕ} 0 1 = cc in omega arith
-    varying (Sound h s) q = let z : _≡_ {A = ℕ} 0 1 = cc in omega arith
-
-    go : (class : Class) → stepIn class (b ∷ bs) ≡ Nop → stepIn class (b ∷ cs) ≡ Nop
-    go EndOfList q = q
-    go NoOperation q = q
-    go Unsafe q = q
-    go Varying q = absurd (varying (headerOf (b ∷ bs)) q)
-    go (Fixed x y) q = absurd (fixed x y (headerOf (b ∷ bs)) q)
+nop-local b bs cs e = class-alone (classOf b) (b ∷ bs) (b ∷ cs) Nop refl e
 
 -- ---- the walk
 

@@ -84,15 +84,15 @@ lists-by room (b ∷ bs) items fill step h e q = go step (sym (ap (λ (s : Step)
 
 -- ---- all steps
 
--- the fill stands at the end of the list, and is zero bytes
-pub record Filled (l : List ℕ) (fill : ℕ) : Type 0 where
-  pub within : fill ≤ length l
+-- the fill stands at the end of a list, behind its first `skip` bytes, and is zero bytes throughout
+pub record Fills (skip : ℕ) (l : List ℕ) (fill : ℕ) : Type 0 where
+  pub within : fill + skip ≤ length l
   pub zeros : drop (length l - fill) l ≡ replicate fill 0
 
-filled-none : (l : List ℕ) → Filled l 0
+filled-none : (l : List ℕ) → Fills 0 l 0
 filled-none l = record { within = omega arith; zeros = drop-of-length-le l {i = length l - 0} (omega arith) }
 
-filled-whole : (l : List ℕ) → fillIsZero l ≡ true → Filled l (length l)
+filled-whole : (l : List ℕ) → fillIsZero l ≡ true → Fills 0 l (length l)
 filled-whole l z =
     let none : length l - length l ≡ 0 = omega arith in
     record { within = omega arith; zeros = ap (λ (n : ℕ). drop n l) none ∙ zero-only l z }
@@ -101,7 +101,7 @@ filled-whole l z =
 module _
     (P : ℕ → ℕ → List ℕ → List Item → ℕ → Type 0)
     (over : (room skip : ℕ) → P room skip [] [] 0)
-    (ends : (room fill : ℕ) (l : List ℕ) → Filled l fill → P room 0 l [] fill)
+    (ends : (room fill : ℕ) (l : List ℕ) → Fills 0 l fill → P room 0 l [] fill)
     (skips : (room skip b : ℕ) (bs : List ℕ) (items : List Item) (fill : ℕ) → P room skip bs items fill → P room (suc skip) (b ∷ bs) items fill)
     (nop : (room : ℕ) (l : List ℕ) (items : List Item) (fill : ℕ) → 0 < length l → P room 1 l items fill → P room 0 l items fill)
     (found : (room : ℕ) (l : List ℕ) (items : List Item) (fill kind header size : ℕ) → stepOf l ≡ Found kind header size → (kind ≡ frag → ⊥)

@@ -10,13 +10,15 @@ use borrow.Author.Tests.{leb-true, eqb-true}
 use lib.Dec.{eqb, leb}
 use lib.ListN.{length, getD}
 use Rattle.number_octets.specs.Octets.{number, part}
+use Rattle.number_tests.proofs.Tests.{true-false}
 use Rattle.wire_options.specs.Kinds.{classOf, apc}
 use Rattle.wire_options.specs.Step.{within, extended, headerOf, fixedStep, varyingStep, stepIn, stepOf}
 use Rattle.wire_options.specs.declared.step.Class.{Class}
 use Rattle.wire_options.specs.declared.step.Class.the-variants.{EndOfList, NoOperation, Fixed, Varying, Unsafe}
 use Rattle.wire_options.specs.declared.step.Header.{Header}
 use Rattle.wire_options.specs.declared.step.Header.the-variants.{Sound, Broken}
-use Rattle.wire_options.specs.declared.step.Step.the-variants.{Found, Malformed}
+use Rattle.wire_options.specs.declared.step.Step.{Step}
+use Rattle.wire_options.specs.declared.step.Step.the-variants.{End, Eol, Nop, Found, Malformed, Outlawed}
 
 -- ---- headers
 
@@ -135,3 +137,36 @@ apc-found l h s e =
     let f = step-found l apc h s e in
     let six : s ≡ 6 = ⊎-elim (λ u. u) (λ u. u) (f .fixed 6 6 refl) in
     (f .sized .short (omega arith), six, omega (arith, f .sized .fits))
+
+-- ---- steps of one byte
+
+-- an option, sound or not, has a header; the other steps are told apart by their kind byte
+abbrev hasHeader : Step → Bool
+hasHeader (Found kind header size) = true
+hasHeader Malformed = true
+hasHeader End = false
+hasHeader Eol = false
+hasHeader Nop = false
+hasHeader Outlawed = false
+
+varying-header : (k : ℕ) (header : Header) → hasHeader (varyingStep k header) ≡ true
+varying-header k Broken = refl
+varying-header k (Sound h s) = refl
+
+fixed-header : (k a b : ℕ) (header : Header) → hasHeader (fixedStep k a b header) ≡ true
+fixed-header k a b Broken = refl
+fixed-header k a b (Sound h s) = go (eqb s a || eqb s b)
+  where
+    go : (t : Bool) → hasHeader (cond t (Found k h s) Malformed) ≡ true
+    go true = refl
+    go false = refl
+
+-- where there is no header, the class alone says the step
+pub class-alone : (class : Class) (l m : List ℕ) (step : Step) → hasHeader step ≡ false → stepIn class l ≡ step → stepIn class m ≡ step
+class-alone EndOfList l m step n e = e
+class-alone NoOperation l m step n e = e
+class-alone Unsafe l m step n e = e
+class-alone Varying l m step n e =
+    absurd (true-false (sym (varying-header (getD l 0 0) (headerOf l)) ∙ ap hasHeader e ∙ n))
+class-alone (Fixed a b) l m step n e =
+    absurd (true-false (sym (fixed-header (getD l 0 0) a b (headerOf l)) ∙ ap hasHeader e ∙ n))

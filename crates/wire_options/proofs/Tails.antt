@@ -2,27 +2,25 @@
 -- its options. So no other fault is called tail, and a fault in front of EOL is met first.
 -- Assumes nothing.
 use mathlib.Core.Path.{_≡_, refl, sym, ap, _∙_}
-use mathlib.Core.Bool.{Bool, true, false, cond, _&&_, _||_}
+use mathlib.Core.Bool.{Bool, true, false, cond, _&&_}
 use mathlib.Core.List.{List, [], _∷_, _++_}
 use Prim.Native.Nat.{ℕ, zero, suc, _+_, _-_, _≤_}
 use native.Mathlib.Omega.{arith}
 use lib.Dec.{eqb}
-use lib.ListN.{length, take, getD, replicate, length-append, length-replicate}
+use lib.ListN.{length, take, replicate, length-append, length-replicate}
 use lib.Seq.{take-at}
 use Rattle.number_octets.specs.Zeros.{allZero}
 use Rattle.number_octets.proofs.ZeroBytes.{zero-alike}
 use Rattle.wire_options.specs.Kinds.{classOf, eol, frag}
-use Rattle.wire_options.specs.Step.{headerOf, fixedStep, varyingStep, stepIn, stepOf}
+use Rattle.wire_options.specs.Step.{headerOf, stepIn, stepOf}
 use Rattle.wire_options.specs.Walk.{Item, Walked, listed, faulty, before, itemOf, sound, walkAt, walkFrom}
 use Rattle.wire_options.specs.declared.step.Class.{Class}
 use Rattle.wire_options.specs.declared.step.Class.the-variants.{EndOfList, NoOperation, Fixed, Varying, Unsafe}
-use Rattle.wire_options.specs.declared.step.Header.{Header}
-use Rattle.wire_options.specs.declared.step.Header.the-variants.{Sound, Broken}
 use Rattle.wire_options.specs.declared.step.Step.{Step}
 use Rattle.wire_options.specs.declared.step.Step.the-variants.{End, Eol, Nop, Found, Malformed as Unsound, Outlawed}
 use Rattle.wire_options.specs.declared.walk.Fault.the-variants.{Malformed, Tail}
 use Rattle.wire_options.proofs.Classes.{class-end}
-use Rattle.wire_options.proofs.Steps.{step-found}
+use Rattle.wire_options.proofs.Steps.{step-found, class-alone}
 use Rattle.wire_options.proofs.Locality.{behind-eol, nop-local, step-local}
 
 -- an EOL that the walk comes to, with a byte behind it that is not zero
@@ -37,28 +35,17 @@ pub record Tailed (room skip : ℕ) (l : List ℕ) : Type 0 where
 
 -- ---- the byte of an EOL
 
-eol-class : (class : Class) (l : List ℕ) → stepIn class l ≡ Eol → class ≡ EndOfList
-eol-class EndOfList l e = refl
-eol-class NoOperation l e = absurd (let z : _≡_ {A = ℕ} 0 1 = cc in omega arith)
-eol-class Unsafe l e = absurd (let z : _≡_ {A = ℕ} 0 1 = cc in omega arith)
-eol-class Varying l e = absurd (go (headerOf l) e)
-  where
-    go : (header : Header) → varyingStep (getD l 0 0) header ≡ Eol → ⊥
-    go Broken q = let z : _≡_ {A = ℕ} 0 1 = cc in omega arith
-    go (Sound h s) q = let z : _≡_ {A = ℕ} 0 1 = cc in omega arith
-eol-class (Fixed a b) l e = absurd (go (headerOf l) e)
-  where
-    pick : (t : Bool) (x y : ℕ) → cond t (Found (getD l 0 0) x y) Unsound ≡ Eol → ⊥
-    pick true x y q = let z : _≡_ {A = ℕ} 0 1 = cc in omega arith
-    pick false x y q = let z : _≡_ {A = ℕ} 0 1 = cc in omega arith
-
-    go : (header : Header) → fixedStep (getD l 0 0) a b header ≡ Eol → ⊥
-    go Broken q = let z : _≡_ {A = ℕ} 0 1 = cc in omega arith
-    go (Sound h s) q = pick (eqb s a || eqb s b) h s q
+eol-class : (class : Class) → stepIn class [] ≡ Eol → class ≡ EndOfList
+unfolding headerOf
+eol-class EndOfList e = refl
+eol-class NoOperation e = absurd (let z : _≡_ {A = ℕ} 0 1 = cc in omega arith)
+eol-class Unsafe e = absurd (let z : _≡_ {A = ℕ} 0 1 = cc in omega arith)
+eol-class Varying e = absurd (let z : _≡_ {A = ℕ} 0 1 = cc in omega arith)
+eol-class (Fixed a b) e = absurd (let z : _≡_ {A = ℕ} 0 1 = cc in omega arith)
 
 eol-byte : (b : ℕ) (bs : List ℕ) → stepOf (b ∷ bs) ≡ Eol → b ≡ eol
-unfolding stepOf
-eol-byte b bs e = class-end b (eol-class (classOf b) (b ∷ bs) e)
+unfolding stepOf headerOf
+eol-byte b bs e = class-end b (eol-class (classOf b) (class-alone (classOf b) (b ∷ bs) [] Eol refl e))
 
 -- ---- by the step at the front
 

@@ -48,7 +48,8 @@ abbrev pub sound : ℕ → Item → (ℕ → Walked) → Walked
 sound zero item rest = faulty Crowded
 sound (suc room) item rest = before item (rest room)
 
--- EOL, at the front of `l`, and all behind it up to the end of the list are the fill: "All bytes after EOL .. MUST be set to zero" (section 11.1).
+-- EOL, at the front of `l`, and all behind it up to the end of the list are the fill. "If a receiver elects to check the bytes following EOL and
+-- finds that they are not all set to zero, it MUST silently discard the options area" (section 11.1); EOL is a zero itself.
 abbrev pub fillIsZero : List ℕ → Bool
 fillIsZero l = allZero l
 

@@ -22,7 +22,8 @@ use Rattle.wire_datagram.specs.declared.reading.Verdict.{Verdict}
 use Rattle.wire_datagram.specs.declared.reading.Verdict.the-variants.{Bare, Short, Pad, Unsummed, BadSum, Malformed, FragData, Crowded, Tail, Read}
 use Rattle.wire_original.specs.declared.Rereading.{Rereading}
 use Rattle.wire_surplus.proofs.Starts.{start-list}
-use Rattle.wire_datagram.proofs.Lists.{Lists, ZeroFill, lists-fill, not-read}
+use Rattle.wire_options.proofs.Rests.{Fills}
+use Rattle.wire_datagram.proofs.Lists.{Lists, lists-fill, not-read}
 
 abbrev pub RelistsIn : List ℕ → Rereading → Type 0
 RelistsIn original r = Lists original (r .options .from .0) (r .options .to .0) (r .count) (r .fill)
@@ -76,5 +77,5 @@ rereading-lists original r x e v = go (firstOf (reTests original r)) refl e
 
 -- Document 02, R-2: with "read" the fill is zero bytes throughout.
 pub rereading-fill : (original : List ℕ) (r : ℕ) (x : Rereading) → rereading original r ≡ rereads x → x .verdict ≡ Read
-    → ZeroFill original (x .options .from .0) (x .fill)
+    → Fills (x .options .from .0) original (x .fill)
 rereading-fill original r x e v = lists-fill original (x .options .from .0) (x .options .to .0) (x .count) (x .fill) (rereading-lists original r x e v)
