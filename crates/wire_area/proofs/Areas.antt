@@ -1,4 +1,4 @@
--- Laws of the walk of an area: leading NOPs, what a fragment that was found keeps to, that options come from the walk of a plain list, and where
+-- Laws of the walk of an area: what a fragment that was found keeps to, that options come from the walk of a plain list, and where
 -- a fragment's bytes end.
 -- Assumes nothing.
 use mathlib.Core.Path.{_≡_, refl, sym, ap, _∙_}
@@ -6,43 +6,45 @@ use mathlib.Core.Bool.{Bool, true, false, cond, _&&_}
 use mathlib.Core.List.{List}
 use mathlib.Core.Logic.{⊎-elim}
 use Prim.Native.Nat.{ℕ, _+_, _-_, _≤_, _<_}
-use native.Mathlib.Numerals.{add-one}
 use native.Mathlib.Omega.{arith}
-use borrow.Author.Tests.{eq-eqb, ne-eqb, leb-true}
+use borrow.Author.Tests.{leb-true}
 use lib.Dec.{eqb, leb}
-use lib.ListN.{length, drop, getD, drop-of-length-le}
-use lib.Seq.{drop-cons}
+use lib.ListN.{length, drop, getD}
 use Rattle.number_offsets.specs.Offsets.{placeOf}
 use Rattle.number_offsets.specs.declared.Origin.{Origin}
 use Rattle.number_offsets.specs.declared.Origin.the-variants.{At, BeforeData}
-use Rattle.wire_options.specs.Kinds.{classOf, eol, nop, frag}
+use Rattle.wire_options.specs.Kinds.{classOf, eol, frag}
+use Rattle.wire_options.specs.Nops.{nopsOf, isPadding}
 use Rattle.wire_options.specs.Step.{stepOf}
 use Rattle.wire_options.specs.Walk.{Item, Walked, listed, faulty, walkFrom, optionLimit}
-use Rattle.wire_area.specs.Area.{plain, piece, fault, nopsOf, fieldsOf, placedAt, fragmentOf, plainly, pieceWith, upToStart, behindFrag, ledBy, areaOf}
+use Rattle.wire_options.specs.Strict.{walkBy}
+use Rattle.wire_options.specs.declared.nops.Strictness.{Strictness}
+use Rattle.wire_options.specs.declared.nops.Strictness.the-variants.{Plain, Strict}
+use Rattle.wire_area.specs.Area.{
+  AreaWalk,
+  plain,
+  piece,
+  fault,
+  fieldsOf,
+  placedAt,
+  fragmentOf,
+  plainly,
+  pieceWith,
+  upToStart,
+  behindFrag,
+  ledBy,
+  behindNops,
+  areaOf,
+}
 use Rattle.wire_options.specs.declared.step.Step.{Step}
 use Rattle.wire_options.specs.declared.step.Step.the-variants.{End, Eol, Nop, Found, Malformed as Unsound, Outlawed}
-use Rattle.wire_options.specs.declared.walk.Fault.the-variants.{FragData}
+use Rattle.wire_options.specs.declared.walk.Fault.the-variants.{FragData, Padded}
 use Rattle.wire_area.specs.declared.Fields.{Fields}
 use Rattle.wire_area.specs.declared.Fragment.{Fragment}
 use Rattle.wire_area.specs.declared.Placed.{Placed}
 use Rattle.wire_area.specs.declared.Placed.the-variants.{Sound, Refused}
 use Rattle.wire_options.proofs.Steps.{step-found}
-
--- ---- leading NOPs
-
-nops-front : (l : List ℕ) (i : ℕ) → i < length l → nopsOf (drop i l) ≡ cond (eqb (getD l i 0) nop) (1 + nopsOf (drop (i + 1) l)) 0
-unfolding nopsOf
-nops-front l i h = ap nopsOf (drop-cons l i 0 h) ∙ ap (λ (k : ℕ). cond (eqb (getD l i 0) nop) (1 + nopsOf (drop k l)) 0) (sym (add-one i))
-
-pub nops-one : (l : List ℕ) (i : ℕ) → i < length l → getD l i 0 ≡ nop → nopsOf (drop i l) ≡ 1 + nopsOf (drop (i + 1) l)
-nops-one l i h e = nops-front l i h ∙ simp (eq-eqb (getD l i 0) nop e)
-
-pub nops-other : (l : List ℕ) (i : ℕ) → i < length l → (getD l i 0 ≡ nop → ⊥) → nopsOf (drop i l) ≡ 0
-nops-other l i h d = nops-front l i h ∙ simp (ne-eqb (getD l i 0) nop d)
-
-pub nops-none : (l : List ℕ) (i : ℕ) → length l ≤ i → nopsOf (drop i l) ≡ 0
-unfolding nopsOf
-nops-none l i h = ap nopsOf (drop-of-length-le l h)
+use Rattle.wire_options.proofs.Stricts.{padded-or-plain, listed-plain}
 
 -- ---- FRAG
 
@@ -85,35 +87,48 @@ piece-not : (f : Fragment) (w : Walked) (items : List Item) (fill : ℕ) → pie
 piece-not f (listed others n) items fill e = let z : _≡_ {A = ℕ} 0 1 = cc in omega arith
 piece-not f (faulty x) items fill e = let z : _≡_ {A = ℕ} 0 1 = cc in omega arith
 
-behind-not : (empty : Bool) (l : List ℕ) (base n : ℕ) (p : Placed) (items : List Item) (fill : ℕ) → behindFrag empty l base n p ≡ plain items fill → ⊥
-behind-not empty l base n Refused items fill e = let z : _≡_ {A = ℕ} 0 1 = cc in omega arith
-behind-not false l base n (Sound f) items fill e = let z : _≡_ {A = ℕ} 0 1 = cc in omega arith
-behind-not true l base n (Sound f) items fill e = piece-not f (walkFrom (optionLimit - 1) 0 (upToStart f base n l)) items fill e
+behind-not : (how : Strictness) (empty : Bool) (l : List ℕ) (base n : ℕ) (p : Placed) (items : List Item) (fill : ℕ)
+    → behindFrag how empty l base n p ≡ plain items fill → ⊥
+behind-not how empty l base n Refused items fill e = let z : _≡_ {A = ℕ} 0 1 = cc in omega arith
+behind-not how false l base n (Sound f) items fill e = let z : _≡_ {A = ℕ} 0 1 = cc in omega arith
+behind-not how true l base n (Sound f) items fill e = piece-not f (walkBy how (optionLimit - 1) 0 (upToStart f base n l)) items fill e
 
 -- a list that FRAG leads gives none
-led-not : (empty : Bool) (l : List ℕ) (base nops : ℕ) (step : Step) (items : List Item) (fill : ℕ) → ledBy empty l base nops step ≡ plain items fill → ⊥
-led-not empty l base nops (Found kind header size) items fill e =
-    behind-not empty l base (nops + size) (fragmentOf (fieldsOf size (drop nops l)) base (nops + size) (length l)) items fill e
-led-not empty l base nops End items fill e = let z : _≡_ {A = ℕ} 0 1 = cc in omega arith
-led-not empty l base nops Eol items fill e = let z : _≡_ {A = ℕ} 0 1 = cc in omega arith
-led-not empty l base nops Nop items fill e = let z : _≡_ {A = ℕ} 0 1 = cc in omega arith
-led-not empty l base nops Unsound items fill e = let z : _≡_ {A = ℕ} 0 1 = cc in omega arith
-led-not empty l base nops Outlawed items fill e = let z : _≡_ {A = ℕ} 0 1 = cc in omega arith
+led-not : (how : Strictness) (empty : Bool) (l : List ℕ) (base nops : ℕ) (step : Step) (items : List Item) (fill : ℕ)
+    → ledBy how empty l base nops step ≡ plain items fill → ⊥
+led-not how empty l base nops (Found kind header size) items fill e =
+    behind-not how empty l base (nops + size) (fragmentOf (fieldsOf size (drop nops l)) base (nops + size) (length l)) items fill e
+led-not how empty l base nops End items fill e = let z : _≡_ {A = ℕ} 0 1 = cc in omega arith
+led-not how empty l base nops Eol items fill e = let z : _≡_ {A = ℕ} 0 1 = cc in omega arith
+led-not how empty l base nops Nop items fill e = let z : _≡_ {A = ℕ} 0 1 = cc in omega arith
+led-not how empty l base nops Unsound items fill e = let z : _≡_ {A = ℕ} 0 1 = cc in omega arith
+led-not how empty l base nops Outlawed items fill e = let z : _≡_ {A = ℕ} 0 1 = cc in omega arith
 
 plain-listed : (w : Walked) (items : List Item) (fill : ℕ) → plainly w ≡ plain items fill → w ≡ listed items fill
 plain-listed (listed others n) items fill e = cc
 plain-listed (faulty x) items fill e = absurd (let z : _≡_ {A = ℕ} 0 1 = cc in omega arith)
 
--- options and fill are those of the walk in which FRAG has no place
-pub area-plain : (empty : Bool) (base : ℕ) (l : List ℕ) (items : List Item) (fill : ℕ) → areaOf empty base l ≡ plain items fill
-    → walkFrom optionLimit 0 l ≡ listed items fill
+-- a list that comes to anything but "padded" has no padding at its front
+pub no-padding : (how : Strictness) (empty : Bool) (base : ℕ) (l : List ℕ) (w : AreaWalk) → areaOf how empty base l ≡ w → (w ≡ fault Padded → ⊥)
+    → (isPadding how (nopsOf l) ≡ false) × (behindNops how empty base l ≡ w)
 unfolding areaOf
-area-plain empty base l items fill = go (eqb (getD l (nopsOf l) eol) frag)
+no-padding how empty base l w e other = go (isPadding how (nopsOf l)) refl e
   where
-    go : (t : Bool) → cond t (ledBy empty l base (nopsOf l) (stepOf (drop (nopsOf l) l))) (plainly (walkFrom optionLimit 0 l)) ≡ plain items fill
+    go : (t : Bool) → isPadding how (nopsOf l) ≡ t → cond t (fault Padded) (behindNops how empty base l) ≡ w
+        → (isPadding how (nopsOf l) ≡ false) × (behindNops how empty base l ≡ w)
+    go true p q = absurd (other (sym q))
+    go false p q = (p, q)
+
+-- options and fill are those of the plain walk in which FRAG has no place
+pub area-plain : (how : Strictness) (empty : Bool) (base : ℕ) (l : List ℕ) (items : List Item) (fill : ℕ) → areaOf how empty base l ≡ plain items fill
+    → walkFrom optionLimit 0 l ≡ listed items fill
+area-plain how empty base l items fill e =
+    go (eqb (getD l (nopsOf l) eol) frag) (no-padding how empty base l (plain items fill) e (λ p. let z : _≡_ {A = ℕ} 0 1 = cc in omega arith) .1)
+  where
+    go : (t : Bool) → cond t (ledBy how empty l base (nopsOf l) (stepOf (drop (nopsOf l) l))) (plainly (walkBy how optionLimit 0 l)) ≡ plain items fill
         → walkFrom optionLimit 0 l ≡ listed items fill
-    go true e = absurd (led-not empty l base (nopsOf l) (stepOf (drop (nopsOf l) l)) items fill e)
-    go false e = plain-listed (walkFrom optionLimit 0 l) items fill e
+    go true e = absurd (led-not how empty l base (nopsOf l) (stepOf (drop (nopsOf l) l)) items fill e)
+    go false e = listed-plain how optionLimit l items fill (plain-listed (walkBy how optionLimit 0 l) items fill e)
 
 -- ---- a list that is a fragment's
 
@@ -130,36 +145,47 @@ pub record Leads (base : ℕ) (l : List ℕ) (f : Fragment) : Type 0 where
   pub found : stepOf (drop (nopsOf l) l) ≡ Found kind header size
   pub sound : fragmentOf (fieldsOf size (drop (nopsOf l) l)) base (nopsOf l + size) (length l) ≡ Sound f
 
--- what the walk comes to behind such a FRAG
-pub led-area : (empty : Bool) (base : ℕ) (l : List ℕ) (f : Fragment) (led : Leads base l f)
-    → areaOf empty base l ≡ behindFrag empty l base (nopsOf l + led .size) (Sound f)
+-- what the walk comes to behind such a FRAG, unless the NOPs in front are padding
+pub led-area : (how : Strictness) (empty : Bool) (base : ℕ) (l : List ℕ) (f : Fragment) (led : Leads base l f)
+    → areaOf how empty base l ≡ cond (isPadding how (nopsOf l)) (fault Padded) (behindFrag how empty l base (nopsOf l + led .size) (Sound f))
 unfolding areaOf
-led-area empty base l f led =
-    ap (λ (t : Bool). cond t (ledBy empty l base (nopsOf l) (stepOf (drop (nopsOf l) l))) (plainly (walkFrom optionLimit 0 l))) (led .first)
-    ∙ ap (ledBy empty l base (nopsOf l)) (led .found) ∙ ap (behindFrag empty l base (nopsOf l + led .size)) (led .sound)
+led-area how empty base l f led =
+    ap (cond (isPadding how (nopsOf l)) (fault Padded))
+    (ap (λ (t : Bool). cond t (ledBy how empty l base (nopsOf l) (stepOf (drop (nopsOf l) l))) (plainly (walkBy how optionLimit 0 l))) (led .first)
+    ∙ ap (ledBy how empty l base (nopsOf l)) (led .found) ∙ ap (behindFrag how empty l base (nopsOf l + led .size)) (led .sound))
+
+-- the same where the list comes to anything but "padded"
+pub led-behind : (how : Strictness) (empty : Bool) (base : ℕ) (l : List ℕ) (f : Fragment) (led : Leads base l f) (w : AreaWalk)
+    → areaOf how empty base l ≡ w → (w ≡ fault Padded → ⊥) → behindFrag how empty l base (nopsOf l + led .size) (Sound f) ≡ w
+led-behind how empty base l f led w e other =
+    let n = no-padding how empty base l w e other in
+    sym (ap (λ (t : Bool). cond t (fault Padded) (behindFrag how empty l base (nopsOf l + led .size) (Sound f))) (n .0))
+    ∙ sym (led-area how empty base l f led) ∙ e
 
 -- with user data a FRAG that passes its tests is "fragdata" at once, whatever stands behind it
-pub data-at-once : (base : ℕ) (l : List ℕ) (f : Fragment) → Leads base l f → areaOf false base l ≡ fault FragData
-data-at-once base l f led = led-area false base l f led
+pub data-at-once : (how : Strictness) (base : ℕ) (l : List ℕ) (f : Fragment) → isPadding how (nopsOf l) ≡ false → Leads base l f
+    → areaOf how false base l ≡ fault FragData
+data-at-once how base l f few led = led-area how false base l f led ∙ ap (λ (t : Bool). cond t (fault Padded) (fault FragData)) few
 
 with-same : (f g : Fragment) (w : Walked) → pieceWith g w ≡ piece f → g ≡ f
 with-same f g (listed items fill) q = cc
 with-same f g (faulty x) q = cc
 
-behind-same : (empty : Bool) (l : List ℕ) (base behind : ℕ) (f g : Fragment) → behindFrag empty l base behind (Sound g) ≡ piece f → g ≡ f
-behind-same true l base behind f g q = with-same f g (walkFrom (optionLimit - 1) 0 (upToStart g base behind l)) q
-behind-same false l base behind f g q = cc
+behind-same : (how : Strictness) (empty : Bool) (l : List ℕ) (base behind : ℕ) (f g : Fragment) → behindFrag how empty l base behind (Sound g) ≡ piece f
+    → g ≡ f
+behind-same how true l base behind f g q = with-same f g (walkBy how (optionLimit - 1) 0 (upToStart g base behind l)) q
+behind-same how false l base behind f g q = cc
 
 -- a piece is the fragment of the FRAG that leads its list
-pub piece-leads : (empty : Bool) (base : ℕ) (l : List ℕ) (f : Fragment) → areaOf empty base l ≡ piece f → Leads base l f
-unfolding areaOf
-piece-leads empty base l f = go (eqb (getD l nops eol) frag) refl
+pub piece-leads : (how : Strictness) (empty : Bool) (base : ℕ) (l : List ℕ) (f : Fragment) → areaOf how empty base l ≡ piece f → Leads base l f
+piece-leads how empty base l f q =
+    go (eqb (getD l nops eol) frag) refl (no-padding how empty base l (piece f) q (λ p. let z : _≡_ {A = ℕ} 0 1 = cc in omega arith) .1)
   where
     nops : ℕ
     nops = nopsOf l
 
     placed : (kind header size : ℕ) → eqb (getD l nops eol) frag ≡ true → stepOf (drop nops l) ≡ Found kind header size → (p : Placed)
-        → fragmentOf (fieldsOf size (drop nops l)) base (nops + size) (length l) ≡ p → behindFrag empty l base (nops + size) p ≡ piece f → Leads base l f
+        → fragmentOf (fieldsOf size (drop nops l)) base (nops + size) (length l) ≡ p → behindFrag how empty l base (nops + size) p ≡ piece f → Leads base l f
     placed kind header size c e Refused s q = absurd (let z : _≡_ {A = ℕ} 0 1 = cc in omega arith)
     placed kind header size c e (Sound g) s q = record {
       kind = kind;
@@ -167,10 +193,10 @@ piece-leads empty base l f = go (eqb (getD l nops eol) frag) refl
       size = size;
       first = c;
       found = e;
-      sound = s ∙ ap Sound (behind-same empty l base (nops + size) f g q);
+      sound = s ∙ ap Sound (behind-same how empty l base (nops + size) f g q);
     }
 
-    led : (step : Step) → eqb (getD l nops eol) frag ≡ true → stepOf (drop nops l) ≡ step → ledBy empty l base nops step ≡ piece f → Leads base l f
+    led : (step : Step) → eqb (getD l nops eol) frag ≡ true → stepOf (drop nops l) ≡ step → ledBy how empty l base nops step ≡ piece f → Leads base l f
     led End c e q = absurd (let z : _≡_ {A = ℕ} 0 1 = cc in omega arith)
     led Eol c e q = absurd (let z : _≡_ {A = ℕ} 0 1 = cc in omega arith)
     led Nop c e q = absurd (let z : _≡_ {A = ℕ} 0 1 = cc in omega arith)
@@ -180,14 +206,14 @@ piece-leads empty base l f = go (eqb (getD l nops eol) frag) refl
         placed kind header size c e (fragmentOf (fieldsOf size (drop nops l)) base (nops + size) (length l)) refl q
 
     go : (t : Bool) → eqb (getD l nops eol) frag ≡ t
-        → cond t (ledBy empty l base nops (stepOf (drop nops l))) (plainly (walkFrom optionLimit 0 l)) ≡ piece f → Leads base l f
+        → cond t (ledBy how empty l base nops (stepOf (drop nops l))) (plainly (walkBy how optionLimit 0 l)) ≡ piece f → Leads base l f
     go true c q = led (stepOf (drop nops l)) c refl q
-    go false c q = absurd (plain-not (walkFrom optionLimit 0 l) f q)
+    go false c q = absurd (plain-not (walkBy how optionLimit 0 l) f q)
 
 -- a datagram with user data is no piece
-pub data-not-piece : (base : ℕ) (l : List ℕ) (f : Fragment) → areaOf false base l ≡ piece f → ⊥
-data-not-piece base l f e =
-    let q = sym (led-area false base l f (piece-leads false base l f e)) ∙ e in
+pub data-not-piece : (how : Strictness) (base : ℕ) (l : List ℕ) (f : Fragment) → areaOf how false base l ≡ piece f → ⊥
+data-not-piece how base l f e =
+    let q = led-behind how false base l f (piece-leads how false base l f e) (piece f) e (λ p. let z : _≡_ {A = ℕ} 0 1 = cc in omega arith) in
     let z : _≡_ {A = ℕ} 0 1 = cc in omega arith
 
 -- its bytes start within the list, or right behind it, and end with it
@@ -195,8 +221,8 @@ pub record Ends (base : ℕ) (l : List ℕ) (f : Fragment) : Type 0 where
   pub starts : f .start .0 ≤ base + length l
   pub ends : f .end .0 ≡ base + length l
 
-pub area-piece : (empty : Bool) (base : ℕ) (l : List ℕ) (f : Fragment) → areaOf empty base l ≡ piece f → Ends base l f
-area-piece empty base l f e =
-    let led = piece-leads empty base l f e in
+pub area-piece : (how : Strictness) (empty : Bool) (base : ℕ) (l : List ℕ) (f : Fragment) → areaOf how empty base l ≡ piece f → Ends base l f
+area-piece how empty base l f e =
+    let led = piece-leads how empty base l f e in
     let w = fragment-within (fieldsOf (led .size) (drop (nopsOf l) l)) base (nopsOf l + led .size) (length l) f (led .sound) in
     record { starts = w .1; ends = w .2 }

@@ -10,9 +10,11 @@ use Rattle.number_octets.specs.Zeros.{allZero}
 use Rattle.number_offsets.specs.Offsets.{udpHeader, placeOf}
 use Rattle.wire_options.specs.Kinds.{classOf}
 use Rattle.wire_options.specs.Step.{headerOf, stepOf}
+use Rattle.wire_options.specs.Nops.{nopsOf}
 use Rattle.wire_options.specs.Walk.{walkFrom, optionLimit}
+use Rattle.wire_options.specs.declared.nops.Strictness.the-variants.{Plain}
 use Rattle.wire_options.specs.declared.walk.Fault.the-variants.{FragData, Tail}
-use Rattle.wire_area.specs.Area.{nopsOf, fieldsOf, fragmentOf, AreaWalk, piece, fault, areaOf}
+use Rattle.wire_area.specs.Area.{fieldsOf, fragmentOf, AreaWalk, piece, fault, areaOf}
 
 -- FRAG with this Frag. Start, identification 7, place 0, and what stands behind it
 abbrev led : ℕ → List ℕ → List ℕ
@@ -30,24 +32,24 @@ fragment start end = piece (record {
 })
 
 -- EOL right before Frag. Start, at 21: what stands behind is the piece's
-eol-last : areaOf true 10 (led 21 (0x00 ∷ 0xAA ∷ 0xBB ∷ [])) ≡ fragment 21 23
+eol-last : areaOf Plain true 10 (led 21 (0x00 ∷ 0xAA ∷ 0xBB ∷ [])) ≡ fragment 21 23
 unfolding number allZero placeOf udpHeader classOf headerOf stepOf walkFrom optionLimit nopsOf fieldsOf fragmentOf areaOf
 eol-last = refl
 
 -- a zero between them, and another byte
-zero-between : areaOf true 10 (led 22 (0x00 ∷ 0x00 ∷ 0xBB ∷ [])) ≡ fragment 22 23
+zero-between : areaOf Plain true 10 (led 22 (0x00 ∷ 0x00 ∷ 0xBB ∷ [])) ≡ fragment 22 23
 unfolding number allZero placeOf udpHeader classOf headerOf stepOf walkFrom optionLimit nopsOf fieldsOf fragmentOf areaOf
 zero-between = refl
 
-other-between : areaOf true 10 (led 22 (0x00 ∷ 0xAA ∷ 0xBB ∷ [])) ≡ fault Tail
+other-between : areaOf Plain true 10 (led 22 (0x00 ∷ 0xAA ∷ 0xBB ∷ [])) ≡ fault Tail
 unfolding number allZero placeOf udpHeader classOf headerOf stepOf walkFrom optionLimit nopsOf fieldsOf fragmentOf areaOf
 other-between = refl
 
 -- with user data FRAG is met first; behind EOL it is not met
-with-data : areaOf false 10 (led 22 (0x00 ∷ 0xAA ∷ 0xBB ∷ [])) ≡ fault FragData
+with-data : areaOf Plain false 10 (led 22 (0x00 ∷ 0xAA ∷ 0xBB ∷ [])) ≡ fault FragData
 unfolding number allZero placeOf udpHeader classOf headerOf stepOf walkFrom optionLimit nopsOf fieldsOf fragmentOf areaOf
 with-data = refl
 
-frag-behind-eol : areaOf true 10 (0x00 ∷ led 22 (0xAA ∷ [])) ≡ fault Tail
+frag-behind-eol : areaOf Plain true 10 (0x00 ∷ led 22 (0xAA ∷ [])) ≡ fault Tail
 unfolding number allZero placeOf udpHeader classOf headerOf stepOf walkFrom optionLimit nopsOf fieldsOf fragmentOf areaOf
 frag-behind-eol = refl

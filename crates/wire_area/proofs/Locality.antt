@@ -15,11 +15,15 @@ use Rattle.number_octets.specs.Octets.{number, part}
 use Rattle.number_offsets.specs.Offsets.{udpHeader}
 use Rattle.wire_options.specs.Kinds.{classOf, eol, nop, frag, lastFragSize}
 use Rattle.wire_options.specs.Step.{stepOf}
-use Rattle.wire_options.specs.Walk.{walkFrom, optionLimit}
+use Rattle.wire_options.specs.Nops.{nopsOf, isPadding}
+use Rattle.wire_options.specs.Walk.{optionLimit}
+use Rattle.wire_options.specs.Strict.{walkBy}
+use Rattle.wire_options.specs.declared.nops.Strictness.{Strictness}
+use Rattle.wire_options.specs.declared.walk.Fault.the-variants.{Padded}
 use Rattle.wire_options.specs.declared.step.Step.the-variants.{Found}
 use Rattle.wire_options.proofs.Steps.{step-found}
 use Rattle.wire_options.proofs.Locality.{byte-same, part-same, step-local}
-use Rattle.wire_area.specs.Area.{nopsOf, fieldsOf, fragmentOf, piece, pieceWith, behindFrag, areaOf}
+use Rattle.wire_area.specs.Area.{fieldsOf, fragmentOf, piece, fault, pieceWith, behindFrag, areaOf}
 use Rattle.wire_area.specs.declared.Fields.{Fields}
 use Rattle.wire_area.specs.declared.Fragment.{Fragment}
 use Rattle.wire_area.specs.declared.Placed.the-variants.{Sound as SoundPiece}
@@ -62,12 +66,12 @@ frag-long l kind h s e k =
     ⊎-elim (λ u. omega arith) (λ u. omega arith) (f .fixed 10 12 (ap classOf (f .front ∙ k)))
 
 -- the options behind FRAG are walked up to Frag. Start
-behind-local : (empty : Bool) (l m : List ℕ) (base behind : ℕ) (f : Fragment) → base + behind ≤ f .start .0
+behind-local : (how : Strictness) (empty : Bool) (l m : List ℕ) (base behind : ℕ) (f : Fragment) → base + behind ≤ f .start .0
     → take (f .start .0 - base) l ≡ take (f .start .0 - base) m
-    → behindFrag empty l base behind (SoundPiece f) ≡ behindFrag empty m base behind (SoundPiece f)
-behind-local false l m base behind f h same = refl
-behind-local true l m base behind f h same =
-    ap (λ (t : List ℕ). pieceWith f (walkFrom (optionLimit - 1) 0 t))
+    → behindFrag how empty l base behind (SoundPiece f) ≡ behindFrag how empty m base behind (SoundPiece f)
+behind-local how false l m base behind f h same = refl
+behind-local how true l m base behind f h same =
+    ap (λ (t : List ℕ). pieceWith f (walkBy how (optionLimit - 1) 0 t))
     (part-same behind (f .start .0 - (base + behind)) (f .start .0 - base) l m same (omega arith))
 
 module _
@@ -120,19 +124,20 @@ module _
             ∙ ap₂ (λ (x : Fields) (i : ℕ). fragmentOf x base (nops + size) i) (sym fields) (sym len) ∙ led .sound;
       }
 
-  area-local : (empty : Bool) → Leads base l f → areaOf empty base m ≡ areaOf empty base l
+  area-local : (how : Strictness) (empty : Bool) → Leads base l f → areaOf how empty base m ≡ areaOf how empty base l
   unfolding led-local
-  area-local empty led =
-      led-area empty base m f (led-local led)
-      ∙ ap (λ (i : ℕ). behindFrag empty m base (i + led .size) (SoundPiece f)) (nops-same led)
-      ∙ sym (behind-local empty l m base (nops + led .size) f (ahead led .0) same) ∙ sym (led-area empty base l f led)
+  area-local how empty led =
+      led-area how empty base m f (led-local led)
+      ∙ ap (λ (i : ℕ). cond (isPadding how i) (fault Padded) (behindFrag how empty m base (i + led .size) (SoundPiece f))) (nops-same led)
+      ∙ ap (cond (isPadding how nops) (fault Padded)) (sym (behind-local how empty l m base (nops + led .size) f (ahead led .0) same))
+      ∙ sym (led-area how empty base l f led)
 
 -- Where FRAG leads, the walk looks at no byte behind Frag. Start, whatever it comes to: a piece, or the fault met first.
-pub behind-frag-start : (empty : Bool) (base : ℕ) (l m : List ℕ) (f : Fragment) → Leads base l f → length l ≡ length m
-    → take (f .start .0 - base) l ≡ take (f .start .0 - base) m → areaOf empty base m ≡ areaOf empty base l
-behind-frag-start empty base l m f led len same = area-local base l m f len same empty led
+pub behind-frag-start : (how : Strictness) (empty : Bool) (base : ℕ) (l m : List ℕ) (f : Fragment) → Leads base l f → length l ≡ length m
+    → take (f .start .0 - base) l ≡ take (f .start .0 - base) m → areaOf how empty base m ≡ areaOf how empty base l
+behind-frag-start how empty base l m f led len same = area-local base l m f len same how empty led
 
 -- a piece is such a list, so its walk looks at no byte of the piece itself
-pub behind-piece : (empty : Bool) (base : ℕ) (l m : List ℕ) (f : Fragment) → areaOf empty base l ≡ piece f → length l ≡ length m
-    → take (f .start .0 - base) l ≡ take (f .start .0 - base) m → areaOf empty base m ≡ piece f
-behind-piece empty base l m f q len same = behind-frag-start empty base l m f (piece-leads empty base l f q) len same ∙ q
+pub behind-piece : (how : Strictness) (empty : Bool) (base : ℕ) (l m : List ℕ) (f : Fragment) → areaOf how empty base l ≡ piece f → length l ≡ length m
+    → take (f .start .0 - base) l ≡ take (f .start .0 - base) m → areaOf how empty base m ≡ piece f
+behind-piece how empty base l m f q len same = behind-frag-start how empty base l m f (piece-leads how empty base l f q) len same ∙ q

@@ -8,13 +8,16 @@ use Rattle.number_octets.specs.Octets.{number, part}
 use Rattle.number_offsets.specs.Offsets.{udpHeader, placeOf}
 use Rattle.number_offsets.specs.declared.Origin.{Origin}
 use Rattle.number_offsets.specs.declared.Origin.the-variants.{At, BeforeData}
-use Rattle.wire_options.specs.Kinds.{eol, nop, frag, lastFragSize}
+use Rattle.wire_options.specs.Kinds.{eol, frag, lastFragSize}
+use Rattle.wire_options.specs.Nops.{nopsOf, isPadding}
 use Rattle.wire_options.specs.Step.{stepOf}
-use Rattle.wire_options.specs.Walk.{Item, Walked, listed, faulty, walkFrom, optionLimit, apcsOf}
+use Rattle.wire_options.specs.Walk.{Item, Walked, listed, faulty, optionLimit, apcsOf}
+use Rattle.wire_options.specs.Strict.{walkBy}
+use Rattle.wire_options.specs.declared.nops.Strictness.{Strictness}
 use Rattle.wire_options.specs.declared.step.Step.{Step}
 use Rattle.wire_options.specs.declared.step.Step.the-variants.{End, Eol, Nop, Found, Malformed as Unsound, Outlawed}
 use Rattle.wire_options.specs.declared.walk.Fault.{Fault}
-use Rattle.wire_options.specs.declared.walk.Fault.the-variants.{Malformed, Unsafe, FragData, Crowded}
+use Rattle.wire_options.specs.declared.walk.Fault.the-variants.{Malformed, FragData, Padded}
 use Rattle.wire_options.specs.declared.walk.Walk.{Walk}
 use Rattle.wire_options.specs.declared.walk.Walk.the-variants.{Listed as WalkListed, Faulty as WalkFaulty}
 use Rattle.wire_area.specs.declared.Fields.{Fields}
@@ -23,11 +26,6 @@ use Rattle.wire_area.specs.declared.Placed.{Placed}
 use Rattle.wire_area.specs.declared.Placed.the-variants.{Sound, Refused}
 use Rattle.wire_area.specs.declared.Area.{Area}
 use Rattle.wire_area.specs.declared.Area.the-variants.{Listed, Piece, Faulty}
-
--- a list without the NOPs at its front, and how many those are
-unfoldable pub nopsOf : List ℕ → ℕ
-nopsOf [] = 0
-nopsOf (b ∷ bs) = cond (eqb b nop) (1 + nopsOf bs) 0
 
 -- The fields of a FRAG of `size` bytes at the front of a list: Frag. Start, Identification, Frag. Offset and, in the last piece, the
 -- reassembled option start. Where the piece is not the last, that start stands at the origin.
@@ -80,30 +78,35 @@ pieceWith f (faulty x) = fault x
 abbrev pub upToStart : Fragment → ℕ → ℕ → List ℕ → List ℕ
 upToStart f base behind l = part behind (f .start .0 - (base + behind)) l
 
--- With user data a FRAG that passes its tests is "fragdata" at once. Else the list is walked up to Frag. Start; FRAG counts as one option.
-abbrev pub behindFrag : Bool → List ℕ → ℕ → ℕ → Placed → AreaWalk
-behindFrag empty l base behind Refused = fault Malformed
-behindFrag false l base behind (Sound f) = fault FragData
-behindFrag true l base behind (Sound f) =
-    pieceWith f (walkFrom (optionLimit - 1) 0 (upToStart f base behind l))
+-- With user data a FRAG that passes its tests is "fragdata" at once. Else the list is walked up to Frag. Start, its NOPs counted anew; FRAG counts
+-- as one option.
+abbrev pub behindFrag : Strictness → Bool → List ℕ → ℕ → ℕ → Placed → AreaWalk
+behindFrag how empty l base behind Refused = fault Malformed
+behindFrag how false l base behind (Sound f) = fault FragData
+behindFrag how true l base behind (Sound f) =
+    pieceWith f (walkBy how (optionLimit - 1) 0 (upToStart f base behind l))
 
 -- a list whose first option, behind `nops` NOPs, has the kind of FRAG
-abbrev pub ledBy : Bool → List ℕ → ℕ → ℕ → Step → AreaWalk
-ledBy empty l base nops (Found kind header size) =
-    behindFrag empty l base (nops + size) (fragmentOf (fieldsOf size (drop nops l)) base (nops + size) (length l))
-ledBy empty l base nops End = fault Malformed
-ledBy empty l base nops Eol = fault Malformed
-ledBy empty l base nops Nop = fault Malformed
-ledBy empty l base nops Unsound = fault Malformed
-ledBy empty l base nops Outlawed = fault Malformed
+abbrev pub ledBy : Strictness → Bool → List ℕ → ℕ → ℕ → Step → AreaWalk
+ledBy how empty l base nops (Found kind header size) =
+    behindFrag how empty l base (nops + size) (fragmentOf (fieldsOf size (drop nops l)) base (nops + size) (length l))
+ledBy how empty l base nops End = fault Malformed
+ledBy how empty l base nops Eol = fault Malformed
+ledBy how empty l base nops Nop = fault Malformed
+ledBy how empty l base nops Unsound = fault Malformed
+ledBy how empty l base nops Outlawed = fault Malformed
 
--- The walk of the list that starts at packet offset `base`; `empty` says that there is no user data. FRAG must be the first option that
--- is no NOP: anywhere else the walk meets it as malformed.
-unfoldable pub areaOf : Bool → ℕ → List ℕ → AreaWalk
-areaOf empty base l =
+-- FRAG must be the first option that is no NOP: anywhere else the walk meets it as malformed.
+abbrev pub behindNops : Strictness → Bool → ℕ → List ℕ → AreaWalk
+behindNops how empty base l =
     cond (eqb (getD l (nopsOf l) eol) frag)
-    (ledBy empty l base (nopsOf l) (stepOf (drop (nopsOf l) l)))
-    (plainly (walkFrom optionLimit 0 l))
+    (ledBy how empty l base (nopsOf l) (stepOf (drop (nopsOf l) l)))
+    (plainly (walkBy how optionLimit 0 l))
+
+-- The walk of the list that starts at packet offset `base`, as the host chose it; `empty` says that there is no user data. The NOPs at the front are
+-- met before anything else, FRAG too.
+unfoldable pub areaOf : Strictness → Bool → ℕ → List ℕ → AreaWalk
+areaOf how empty base l = cond (isPadding how (nopsOf l)) (fault Padded) (behindNops how empty base l)
 
 -- what of it the answer tells
 abbrev pub areaAnswer : AreaWalk → Area

@@ -2,6 +2,8 @@
 use number_offsets::Origin;
 use number_offsets::OriginalOffset;
 use number_offsets::PacketOffset;
+use wire_options::nops;
+use wire_options::nops::Strictness;
 use wire_options::step;
 use wire_options::step::Step;
 use wire_options::walk;
@@ -13,10 +15,8 @@ ghost use Prim.Native.Nat.{_<_, _≤_};
 ghost use lib.ListN.{length, drop, getD};
 ghost use Rattle.wire_options.specs.Kinds.{frag};
 ghost use Rattle.wire_options.specs.Step.{stepOf};
-ghost use Rattle.wire_area.specs.Area.{nopsOf, fieldsOf, placedAt, fragmentOf, behindFrag, ledBy, areaOf, areaAnswer};
+ghost use Rattle.wire_area.specs.Area.{fieldsOf, placedAt, fragmentOf, behindFrag, ledBy, areaOf, areaAnswer};
 ghost use Rattle.wire_area.specs.Area.{asPiece, asArea};
-
-const NOP: u8 = 1;
 
 const FRAG: u8 = 3;
 
@@ -61,35 +61,31 @@ pub enum Area {
 }
 
 // Walks the list that stands at packet offset `base`. `empty` says that the datagram has no user data.
-pub fn walk_area(list: &[u8], base: PacketOffset, empty: bool) -> Area
-    ensures { λ r. ⌜ r ≡ areaAnswer (areaOf empty (base .0) (now (list .entry))) ⌝ }
+pub fn walk_area(list: &[u8], base: PacketOffset, empty: bool, strictness: Strictness) -> Area
+    ensures { λ r. ⌜ r ≡ areaAnswer (areaOf strictness empty (base .0) (now (list .entry))) ⌝ }
 {
-    let nops = leading_nops(list);
+    let nops = nops::leading_nops(list);
+    if nops::is_padding(strictness, nops) {
+        return Area::Faulty(Fault::Padded);
+    }
     if nops < list.len() {
         if list[nops] == FRAG {
-            return led(list, base, nops, empty);
+            return led(list, base, nops, empty, strictness);
         }
     }
-    as_area(walk::walk_list(list, walk::OPTION_LIMIT))
-}
-
-fn leading_nops(list: &[u8]) -> usize
-    ensures { λ r. ⌜ (r ≡ nopsOf (now (list .entry))) × (r ≤ length (now (list .entry))) ⌝ }
-{
-    let mut n = 0;
-    while n < list.len() {
-        if list[n] != NOP {
-            return n;
-        }
-        n += 1;
-    }
-    n
+    as_area(walk::walk_list(&list[nops..], walk::OPTION_LIMIT, strictness))
 }
 
 // A list whose first option behind the NOPs has the kind of FRAG.
-fn led(list: &[u8], base: PacketOffset, nops: usize, empty: bool) -> Area
+fn led(
+    list: &[u8],
+    base: PacketOffset,
+    nops: usize,
+    empty: bool,
+    strictness: Strictness,
+) -> Area
     requires { ⌜ (nops < length (now list)) × (getD (now list) nops 0 ≡ frag) ⌝ }
-    ensures { λ r. ⌜ r ≡ areaAnswer (ledBy empty (now (list .entry)) (base .0) nops (stepOf (drop nops (now (list .entry))))) ⌝ }
+    ensures { λ r. ⌜ r ≡ areaAnswer (ledBy strictness empty (now (list .entry)) (base .0) nops (stepOf (drop nops (now (list .entry))))) ⌝ }
 {
     let rest = &list[nops..];
     let step = step::next(rest);
@@ -100,7 +96,7 @@ fn led(list: &[u8], base: PacketOffset, nops: usize, empty: bool) -> Area
             size,
         } => {
             let fields = fields_of(rest, size);
-            behind_frag(list, base, nops + size, empty, fields)
+            behind_frag(list, base, nops + size, empty, fields, strictness)
         }
         Step::End => Area::Faulty(Fault::Malformed),
         Step::Eol => Area::Faulty(Fault::Malformed),
@@ -179,9 +175,16 @@ fn at_places(fields: Fields, end: PacketOffset, place: Origin, option_start: Ori
 }
 
 // What is behind FRAG, which ends `behind` bytes into the list.
-fn behind_frag(list: &[u8], base: PacketOffset, behind: usize, empty: bool, fields: Fields) -> Area
+fn behind_frag(
+    list: &[u8],
+    base: PacketOffset,
+    behind: usize,
+    empty: bool,
+    fields: Fields,
+    strictness: Strictness,
+) -> Area
     requires { ⌜ (behind ≤ length (now list)) × (fields .start .0 < 65536) ⌝ }
-    ensures { λ r. ⌜ r ≡ areaAnswer (behindFrag empty (now (list .entry)) (base .0) behind (fragmentOf fields (base .0) behind (length (now (list .entry))))) ⌝ }
+    ensures { λ r. ⌜ r ≡ areaAnswer (behindFrag strictness empty (now (list .entry)) (base .0) behind (fragmentOf fields (base .0) behind (length (now (list .entry))))) ⌝ }
 {
     let origin = base.0;
     let found = fragment_of(fields, base, behind, list.len());
@@ -195,7 +198,7 @@ fn behind_frag(list: &[u8], base: PacketOffset, behind: usize, empty: bool, fiel
             let end = start.0 - origin;
             as_piece(
                 fragment,
-                walk::walk_list(&list[behind..end], walk::OPTION_LIMIT - 1),
+                walk::walk_list(&list[behind..end], walk::OPTION_LIMIT - 1, strictness),
             )
         }
     }

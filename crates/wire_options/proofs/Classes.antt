@@ -6,7 +6,8 @@ use Prim.Native.Nat.{ℕ, _≤_}
 use native.Mathlib.Omega.{arith}
 use borrow.Author.Tests.{ne-eqb, le-leb, lt-leb, eqb-true, eqb-false}
 use lib.Dec.{eqb, leb}
-use Rattle.wire_options.specs.Kinds.{classOf, eol}
+use Rattle.number_tests.proofs.Tests.{true-false}
+use Rattle.wire_options.specs.Kinds.{classOf, eol, nop}
 use Rattle.wire_options.specs.declared.step.Class.{Class}
 use Rattle.wire_options.specs.declared.step.Class.the-variants.{EndOfList, NoOperation, Fixed, Varying, Unsafe}
 
@@ -41,49 +42,67 @@ class-token k h g = go (eqb k 6) (eqb k 7) refl refl
     go false true e f = ap classOf (eqb-true k 7 f)
     go false false e f = absurd (omega (arith, eqb-false k 6 e, eqb-false k 7 f))
 
--- whether a class ends the list
-abbrev ends : Class → Bool
-ends EndOfList = true
-ends NoOperation = false
-ends (Fixed a b) = false
-ends Varying = false
-ends Unsafe = false
+-- ---- EOL and NOP
 
-ends-not : (t : Bool) (x y : Class) → ends x ≡ false → ends y ≡ false → ends (cond t x y) ≡ false
-ends-not true x y p q = p
-ends-not false x y p q = q
+-- what holds of neither an option's class nor an unsafe one
+abbrev isEnd : Class → Bool
+isEnd EndOfList = true
+isEnd NoOperation = false
+isEnd (Fixed a b) = false
+isEnd Varying = false
+isEnd Unsafe = false
 
--- no other kind ends the list
-pub class-end : (k : ℕ) → classOf k ≡ EndOfList → k ≡ eol
-unfolding classOf
-class-end k e = go (eqb k eol) refl (sym (ap ends e))
-  where
-    upTo : ℕ → Class
-    upTo n = cond (leb n 191) Varying Unsafe
+abbrev isNop : Class → Bool
+isNop EndOfList = false
+isNop NoOperation = true
+isNop (Fixed a b) = false
+isNop Varying = false
+isNop Unsafe = false
 
-    others : Class
-    others =
-        cond (eqb k 1) NoOperation
-        (cond (eqb k 2) (Fixed 6 6)
-        (cond (eqb k 3) (Fixed 10 12)
-        (cond (eqb k 4) (Fixed 4 4)
-        (cond (eqb k 5) (Fixed 5 5)
-        (cond (eqb k 6) (Fixed 6 6)
-        (cond (eqb k 7) (Fixed 6 6)
-        (cond (eqb k 8) (Fixed 10 10) (upTo k))))))))
+either-not : (q : Class → Bool) (t : Bool) (x y : Class) → q x ≡ false → q y ≡ false → q (cond t x y) ≡ false
+either-not q true x y p r = p
+either-not q false x y p r = r
 
-    none : ends others ≡ false
-    none =
-        ends-not (eqb k 1) _ _ refl
-        (ends-not (eqb k 2) _ _ refl
-        (ends-not (eqb k 3) _ _ refl
-        (ends-not (eqb k 4) _ _ refl
-        (ends-not (eqb k 5) _ _ refl
-        (ends-not (eqb k 6) _ _ refl
-        (ends-not (eqb k 7) _ _ refl
-        (ends-not (eqb k 8) _ _ refl
-        (ends-not (leb k 191) Varying Unsafe refl refl))))))))
+module _ (k : ℕ) where
+  -- the class of a kind other than these two
+  abbrev others : Class
+  others =
+      cond (eqb k 2) (Fixed 6 6)
+      (cond (eqb k 3) (Fixed 10 12)
+      (cond (eqb k 4) (Fixed 4 4)
+      (cond (eqb k 5) (Fixed 5 5)
+      (cond (eqb k 6) (Fixed 6 6)
+      (cond (eqb k 7) (Fixed 6 6)
+      (cond (eqb k 8) (Fixed 10 10)
+      (cond (leb k 191) Varying Unsafe)))))))
 
-    go : (t : Bool) → eqb k eol ≡ t → true ≡ ends (cond t EndOfList others) → k ≡ eol
-    go true p q = eqb-true k eol p
-    go false p q = absurd (let z : true ≡ false = q ∙ none in let n : _≡_ {A = ℕ} 0 1 = cc in omega arith)
+  others-not : (q : Class → Bool) → ((a b : ℕ) → q (Fixed a b) ≡ false) → q Varying ≡ false → q Unsafe ≡ false → q others ≡ false
+  others-not q fixed varying unsafe =
+      either-not q (eqb k 2) _ _ (fixed 6 6)
+      (either-not q (eqb k 3) _ _ (fixed 10 12)
+      (either-not q (eqb k 4) _ _ (fixed 4 4)
+      (either-not q (eqb k 5) _ _ (fixed 5 5)
+      (either-not q (eqb k 6) _ _ (fixed 6 6)
+      (either-not q (eqb k 7) _ _ (fixed 6 6)
+      (either-not q (eqb k 8) _ _ (fixed 10 10)
+      (either-not q (leb k 191) Varying Unsafe varying unsafe)))))))
+
+  -- no other kind ends the list
+  pub class-end : classOf k ≡ EndOfList → k ≡ eol
+  unfolding classOf
+  class-end e = go (eqb k eol) (eqb k nop) refl (ap isEnd e)
+    where
+      go : (s t : Bool) → eqb k eol ≡ s → isEnd (cond s EndOfList (cond t NoOperation others)) ≡ true → k ≡ eol
+      go true t p q = eqb-true k eol p
+      go false true p q = absurd (true-false (sym q))
+      go false false p q = absurd (true-false (sym q ∙ others-not isEnd (λ a b. refl) refl refl))
+
+  -- and no other kind is a NOP
+  pub class-nop : classOf k ≡ NoOperation → k ≡ nop
+  unfolding classOf
+  class-nop e = go (eqb k eol) (eqb k nop) refl (ap isNop e)
+    where
+      go : (s t : Bool) → eqb k nop ≡ t → isNop (cond s EndOfList (cond t NoOperation others)) ≡ true → k ≡ nop
+      go s true p q = eqb-true k nop p
+      go true false p q = absurd (true-false (sym q))
+      go false false p q = absurd (true-false (sym q ∙ others-not isNop (λ a b. refl) refl refl))

@@ -2,8 +2,11 @@ pub mod Classes
 pub mod Examples
 pub mod Fills
 pub mod Locality
+pub mod Paddings
 pub mod Rests
+pub mod Runs
 pub mod Sizes
 pub mod Steps
+pub mod Stricts
 pub mod Tails
 pub mod Walks

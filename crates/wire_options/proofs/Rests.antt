@@ -18,7 +18,7 @@ use Rattle.wire_options.specs.declared.step.Step.the-variants.{End, Eol,
 use Rattle.wire_options.specs.declared.walk.Fault.{Fault}
 use Rattle.wire_options.specs.declared.walk.Fault.the-variants.{Malformed, Tail}
 use Rattle.wire_options.proofs.Steps.{step-found}
-use Rattle.wire_options.proofs.Walks.{walk-skip}
+use Rattle.wire_options.proofs.Stricts.{walk-skip}
 
 -- ---- one step
 

@@ -11,7 +11,7 @@ use lib.Dec.{eqb, leb}
 use lib.ListN.{length, getD}
 use Rattle.number_octets.specs.Octets.{number, part}
 use Rattle.number_tests.proofs.Tests.{true-false}
-use Rattle.wire_options.specs.Kinds.{classOf, apc}
+use Rattle.wire_options.specs.Kinds.{classOf, eol, nop, apc}
 use Rattle.wire_options.specs.Step.{within, extended, headerOf, fixedStep, varyingStep, stepIn, stepOf}
 use Rattle.wire_options.specs.declared.step.Class.{Class}
 use Rattle.wire_options.specs.declared.step.Class.the-variants.{EndOfList, NoOperation, Fixed, Varying, Unsafe}
@@ -19,6 +19,7 @@ use Rattle.wire_options.specs.declared.step.Header.{Header}
 use Rattle.wire_options.specs.declared.step.Header.the-variants.{Sound, Broken}
 use Rattle.wire_options.specs.declared.step.Step.{Step}
 use Rattle.wire_options.specs.declared.step.Step.the-variants.{End, Eol, Nop, Found, Malformed, Outlawed}
+use Rattle.wire_options.proofs.Classes.{class-end, class-nop}
 
 -- ---- headers
 
@@ -170,3 +171,32 @@ class-alone Varying l m step n e =
     absurd (true-false (sym (varying-header (getD l 0 0) (headerOf l)) ∙ ap hasHeader e ∙ n))
 class-alone (Fixed a b) l m step n e =
     absurd (true-false (sym (fixed-header (getD l 0 0) a b (headerOf l)) ∙ ap hasHeader e ∙ n))
+
+end-class : (class : Class) → stepIn class [] ≡ Eol → class ≡ EndOfList
+unfolding headerOf
+end-class EndOfList e = refl
+end-class NoOperation e = absurd (let z : _≡_ {A = ℕ} 0 1 = cc in omega arith)
+end-class Unsafe e = absurd (let z : _≡_ {A = ℕ} 0 1 = cc in omega arith)
+end-class Varying e = absurd (let z : _≡_ {A = ℕ} 0 1 = cc in omega arith)
+end-class (Fixed a b) e = absurd (let z : _≡_ {A = ℕ} 0 1 = cc in omega arith)
+
+nop-class : (class : Class) → stepIn class [] ≡ Nop → class ≡ NoOperation
+unfolding headerOf
+nop-class NoOperation e = refl
+nop-class EndOfList e = absurd (let z : _≡_ {A = ℕ} 0 1 = cc in omega arith)
+nop-class Unsafe e = absurd (let z : _≡_ {A = ℕ} 0 1 = cc in omega arith)
+nop-class Varying e = absurd (let z : _≡_ {A = ℕ} 0 1 = cc in omega arith)
+nop-class (Fixed a b) e = absurd (let z : _≡_ {A = ℕ} 0 1 = cc in omega arith)
+
+-- EOL and NOP are known by their byte
+pub eol-byte : (b : ℕ) (bs : List ℕ) → stepOf (b ∷ bs) ≡ Eol → b ≡ eol
+unfolding stepOf
+eol-byte b bs e = class-end b (end-class (classOf b) (class-alone (classOf b) (b ∷ bs) [] Eol refl e))
+
+pub nop-byte : (b : ℕ) (bs : List ℕ) → stepOf (b ∷ bs) ≡ Nop → b ≡ nop
+unfolding stepOf
+nop-byte b bs e = class-nop b (nop-class (classOf b) (class-alone (classOf b) (b ∷ bs) [] Nop refl e))
+
+pub nop-step : (bs : List ℕ) → stepOf (nop ∷ bs) ≡ Nop
+unfolding stepOf classOf
+nop-step bs = refl

@@ -12,15 +12,12 @@ use lib.Seq.{take-at}
 use Rattle.number_octets.specs.Zeros.{allZero}
 use Rattle.number_octets.proofs.ZeroBytes.{zero-alike}
 use Rattle.wire_options.specs.Kinds.{classOf, eol, frag}
-use Rattle.wire_options.specs.Step.{headerOf, stepIn, stepOf}
+use Rattle.wire_options.specs.Step.{stepOf}
 use Rattle.wire_options.specs.Walk.{Item, Walked, listed, faulty, before, itemOf, sound, walkAt, walkFrom}
-use Rattle.wire_options.specs.declared.step.Class.{Class}
-use Rattle.wire_options.specs.declared.step.Class.the-variants.{EndOfList, NoOperation, Fixed, Varying, Unsafe}
 use Rattle.wire_options.specs.declared.step.Step.{Step}
 use Rattle.wire_options.specs.declared.step.Step.the-variants.{End, Eol, Nop, Found, Malformed as Unsound, Outlawed}
 use Rattle.wire_options.specs.declared.walk.Fault.the-variants.{Malformed, Tail}
-use Rattle.wire_options.proofs.Classes.{class-end}
-use Rattle.wire_options.proofs.Steps.{step-found, class-alone}
+use Rattle.wire_options.proofs.Steps.{step-found, eol-byte}
 use Rattle.wire_options.proofs.Locality.{behind-eol, nop-local, step-local}
 
 -- an EOL that the walk comes to, with a byte behind it that is not zero
@@ -32,20 +29,6 @@ pub record Tailed (room skip : ℕ) (l : List ℕ) : Type 0 where
   pub reaches : skip ≤ length front
   pub set : allZero tail ≡ false
   pub walks : walkFrom room skip (front ++ (eol ∷ replicate (length tail) 0)) ≡ listed items (suc (length tail))
-
--- ---- the byte of an EOL
-
-eol-class : (class : Class) → stepIn class [] ≡ Eol → class ≡ EndOfList
-unfolding headerOf
-eol-class EndOfList e = refl
-eol-class NoOperation e = absurd (let z : _≡_ {A = ℕ} 0 1 = cc in omega arith)
-eol-class Unsafe e = absurd (let z : _≡_ {A = ℕ} 0 1 = cc in omega arith)
-eol-class Varying e = absurd (let z : _≡_ {A = ℕ} 0 1 = cc in omega arith)
-eol-class (Fixed a b) e = absurd (let z : _≡_ {A = ℕ} 0 1 = cc in omega arith)
-
-eol-byte : (b : ℕ) (bs : List ℕ) → stepOf (b ∷ bs) ≡ Eol → b ≡ eol
-unfolding stepOf headerOf
-eol-byte b bs e = class-end b (eol-class (classOf b) (class-alone (classOf b) (b ∷ bs) [] Eol refl e))
 
 -- ---- by the step at the front
 

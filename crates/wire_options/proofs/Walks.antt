@@ -12,25 +12,24 @@ use lib.ListN.{length, drop}
 use lib.Seq.{drop-drop}
 use Rattle.wire_options.specs.Kinds.{frag}
 use Rattle.wire_options.specs.Step.{stepOf}
-use Rattle.wire_options.specs.Progress.{roomProgress, progressIn, progressOf}
+use Rattle.wire_options.specs.Progress.{roomProgress, nopProgress, progressIn, progressOf}
 use Rattle.wire_options.specs.Walk.{Item, Walked, listed, faulty, before, itemOf, sound, fillIsZero, walkAt, walkFrom, joined, apcOf, apcsOf, walkAnswer}
+use Rattle.wire_options.specs.Nops.{nopsOf, isPadding}
+use Rattle.wire_options.specs.Strict.{strictFrom, walkBy}
+use Rattle.wire_options.specs.declared.nops.Strictness.{Strictness}
+use Rattle.wire_options.specs.declared.nops.Strictness.the-variants.{Plain, Strict}
 use Rattle.wire_options.specs.declared.step.Step.{Step}
 use Rattle.wire_options.specs.declared.step.Step.the-variants.{End, Eol, Nop, Found, Malformed as Unsound, Outlawed}
-use Rattle.wire_options.specs.declared.walk.Fault.the-variants.{Malformed, Tail}
+use Rattle.wire_options.specs.declared.walk.Fault.the-variants.{Malformed, Tail, Padded}
 use Rattle.wire_options.specs.declared.walk.Apcs.{Apcs}
 use Rattle.wire_options.specs.declared.walk.Apcs.the-variants.{Absent, Same, Different}
 use Rattle.wire_options.specs.declared.walk.Progress.{Progress}
 use Rattle.wire_options.specs.declared.walk.Progress.the-variants.{On, Ended, Failed}
 use Rattle.wire_options.specs.declared.walk.Walk.{Walk}
 use Rattle.wire_options.specs.declared.walk.Walk.the-variants.{Listed, Faulty}
-use Rattle.wire_options.proofs.Steps.{step-found}
-
--- bytes to skip are dropped
-pub walk-skip : (room skip : ℕ) (l : List ℕ) → walkFrom room skip l ≡ walkFrom room 0 (drop skip l)
-unfolding walkFrom
-walk-skip room zero l = refl
-walk-skip room (suc skip) [] = refl
-walk-skip room (suc skip) (b ∷ bs) = walk-skip room skip bs
+use Rattle.wire_options.proofs.Steps.{step-found, nop-byte}
+use Rattle.wire_options.proofs.Stricts.{by-skip, walk-other}
+use Rattle.wire_options.proofs.Runs.{nops-some, nops-within, run-passed, run-padded}
 
 -- ---- APCs taken together
 
@@ -90,53 +89,62 @@ answer-before item (faulty fault) = refl
 
 -- ---- one turn
 
-pub record Goes (room : ℕ) (l : List ℕ) (left size : ℕ) (apcs : Apcs) : Type 0 where
+pub record Goes (s : Strictness) (room : ℕ) (l : List ℕ) (left size : ℕ) (apcs : Apcs) : Type 0 where
   pub less : left ≤ room
   pub some : 0 < size
   pub fits : size ≤ length l
-  pub carries : walkAnswer (walkFrom room 0 l) ≡ behind (room - left) apcs (walkAnswer (walkFrom left 0 (drop size l)))
+  pub carries : walkAnswer (walkBy s room 0 l) ≡ behind (room - left) apcs (walkAnswer (walkBy s left 0 (drop size l)))
 
 -- what the walk tells of a list, by how its first step goes on
-abbrev pub Tells : ℕ → List ℕ → Progress → Type 0
-Tells room l (On left size apcs) = Goes room l left size apcs
-Tells room l (Ended fill) = walkAnswer (walkFrom room 0 l) ≡ Listed 0 fill Absent
-Tells room l (Failed fault) = walkAnswer (walkFrom room 0 l) ≡ Faulty fault
+abbrev pub Tells : Strictness → ℕ → List ℕ → Progress → Type 0
+Tells s room l (On left size apcs) = Goes s room l left size apcs
+Tells s room l (Ended fill) = walkAnswer (walkBy s room 0 l) ≡ Listed 0 fill Absent
+Tells s room l (Failed fault) = walkAnswer (walkBy s room 0 l) ≡ Faulty fault
 
-module _ (b : ℕ) (bs : List ℕ) where
+module _ (s : Strictness) (b : ℕ) (bs : List ℕ) where
   abbrev l : List ℕ
   l = b ∷ bs
 
   abbrev rest : ℕ → ℕ → Walked
-  rest left skip = walkFrom left skip bs
+  rest left skip = walkBy s left skip bs
 
-  tells-step : (room : ℕ) (step : Step) → stepOf l ≡ step → walkFrom room 0 l ≡ walkAt room l step rest → Tells room l (progressIn room l step)
-  unfolding apcsOf
-  tells-step room End e w = ap walkAnswer w
-  tells-step room Eol e w = go (fillIsZero l) w
+  -- NOPs in a row: passed together, or padding
+  tells-nops : (room : ℕ) → 0 < nopsOf l → nopsOf l ≤ length l → Tells s room l (nopProgress s room (nopsOf l))
+  tells-nops room some fits = go (isPadding s (nopsOf l)) refl
     where
-      go : (t : Bool) → walkFrom room 0 l ≡ cond t (listed [] (length l)) (faulty Tail) → Tells room l (cond t (Ended (length l)) (Failed Tail))
+      behind-run : Walk
+      behind-run = walkAnswer (walkBy s room 0 (drop (nopsOf l) l))
+
+      go : (t : Bool) → isPadding s (nopsOf l) ≡ t → Tells s room l (cond t (Failed Padded) (On room (nopsOf l) Absent))
+      go true e = ap walkAnswer (run-padded s room l e)
+      go false e =
+          let none : 0 ≡ room - room = omega arith in
+          record {
+            less = omega arith;
+            some = some;
+            fits = fits;
+            carries = ap walkAnswer (run-passed s room l e) ∙ sym (behind-none behind-run) ∙ ap (λ (n : ℕ). behind n Absent behind-run) none;
+          }
+
+  tells-step : (room : ℕ) (step : Step) → stepOf l ≡ step → Tells s room l (progressIn s room l step)
+  unfolding apcsOf
+  tells-step room End e = ap walkAnswer (walk-other s room b bs End e tt)
+  tells-step room Eol e = go (fillIsZero l) (walk-other s room b bs Eol e tt)
+    where
+      go : (t : Bool) → walkBy s room 0 l ≡ cond t (listed [] (length l)) (faulty Tail) → Tells s room l (cond t (Ended (length l)) (Failed Tail))
       go true w = ap walkAnswer w
       go false w = ap walkAnswer w
-  tells-step room Unsound e w = ap walkAnswer w
-  tells-step room Outlawed e w = ap walkAnswer w
-  tells-step room Nop e w =
-      let none : 0 ≡ room - room = omega arith in
-      record {
-        less = omega arith;
-        some = omega arith;
-        fits = omega arith;
-        carries =
-            ap walkAnswer w ∙ sym (behind-none (walkAnswer (walkFrom room 0 bs)))
-            ∙ ap (λ (n : ℕ). behind n Absent (walkAnswer (walkFrom room 0 bs))) none;
-      }
-  tells-step room (Found kind header size) e w = go (eqb kind frag) room w
+  tells-step room Unsound e = ap walkAnswer (walk-other s room b bs Unsound e tt)
+  tells-step room Outlawed e = ap walkAnswer (walk-other s room b bs Outlawed e tt)
+  tells-step room Nop e = tells-nops room (nops-some b bs (nop-byte b bs e) .0) (nops-within l)
+  tells-step room (Found kind header size) e = go (eqb kind frag) room (walk-other s room b bs (Found kind header size) e tt)
     where
       item : Item
       item = itemOf kind header size l
 
       -- an option that is taken: one less may come, and the rest starts behind it
-      go : (t : Bool) (r : ℕ) → walkFrom r 0 l ≡ cond t (faulty Malformed) (sound r item (λ left. rest left (size - 1)))
-          → Tells r l (cond t (Failed Malformed) (roomProgress r size (apcOf item)))
+      go : (t : Bool) (r : ℕ) → walkBy s r 0 l ≡ cond t (faulty Malformed) (sound r item (λ left. rest left (size - 1)))
+          → Tells s r l (cond t (Failed Malformed) (roomProgress r size (apcOf item)))
       go true r w = ap walkAnswer w
       go false zero w = ap walkAnswer w
       go false (suc r) w =
@@ -150,28 +158,30 @@ module _ (b : ℕ) (bs : List ℕ) where
             carries =
                 ap walkAnswer w ∙ answer-before item (rest r (size - 1))
                 ∙ ap₂ (λ (n : ℕ) (v : Walked). behind n (apcOf item) (walkAnswer v)) one
-                (walk-skip r (size - 1) bs ∙ ap (λ (k : ℕ). walkFrom r 0 (drop k l)) down);
+                (by-skip s r (size - 1) bs ∙ ap (λ (k : ℕ). walkBy s r 0 (drop k l)) down);
           }
 
-pub tells : (room : ℕ) (l : List ℕ) (progress : Progress) → 0 < length l → progressOf room l ≡ progress → Tells room l progress
-unfolding walkFrom progressOf
-tells room [] progress h q = absurd (omega arith)
-tells room (b ∷ bs) progress h q = subst (Tells room (b ∷ bs)) q (tells-step b bs room (stepOf (b ∷ bs)) refl refl)
+pub tells : (s : Strictness) (room : ℕ) (l : List ℕ) (progress : Progress) → 0 < length l → progressOf s room l ≡ progress → Tells s room l progress
+unfolding progressOf
+tells s room [] progress h q = absurd (omega arith)
+tells s room (b ∷ bs) progress h q = subst (Tells s room (b ∷ bs)) q (tells-step s b bs room (stepOf (b ∷ bs)) refl)
 
-pub progress-goes : (room : ℕ) (l : List ℕ) (left size : ℕ) (apcs : Apcs) → 0 < length l → progressOf room l ≡ On left size apcs → Goes room l left size apcs
-progress-goes room l left size apcs h q = tells room l (On left size apcs) h q
+pub progress-goes : (s : Strictness) (room : ℕ) (l : List ℕ) (left size : ℕ) (apcs : Apcs) → 0 < length l → progressOf s room l ≡ On left size apcs
+    → Goes s room l left size apcs
+progress-goes s room l left size apcs h q = tells s room l (On left size apcs) h q
 
-pub answer-none : (room skip : ℕ) → walkAnswer (walkFrom room skip []) ≡ Listed 0 0 Absent
-unfolding walkFrom apcsOf
-answer-none room skip = refl
+pub answer-none : (s : Strictness) (room skip : ℕ) → walkAnswer (walkBy s room skip []) ≡ Listed 0 0 Absent
+unfolding walkFrom strictFrom apcsOf
+answer-none Plain room skip = refl
+answer-none Strict room skip = refl
 
 -- a loop's turn: what was told of the whole by the rest is told by what is left of it
-pub turn-on : (whole : Walk) (l : List ℕ) (room left next at size : ℕ) (passed apcs sum : Apcs) → left ≤ room
-    → whole ≡ behind (room - left) passed (walkAnswer (walkFrom left 0 (drop at l))) → Goes left (drop at l) next size apcs → sum ≡ joined passed apcs
-    → whole ≡ behind (room - next) sum (walkAnswer (walkFrom next 0 (drop (at + size) l)))
-turn-on whole l room left next at size passed apcs sum h e g j =
-    let rest : Walk = walkAnswer (walkFrom next 0 (drop size (drop at l))) in
+pub turn-on : (s : Strictness) (whole : Walk) (l : List ℕ) (room left next at size : ℕ) (passed apcs sum : Apcs) → left ≤ room
+    → whole ≡ behind (room - left) passed (walkAnswer (walkBy s left 0 (drop at l))) → Goes s left (drop at l) next size apcs → sum ≡ joined passed apcs
+    → whole ≡ behind (room - next) sum (walkAnswer (walkBy s next 0 (drop (at + size) l)))
+turn-on s whole l room left next at size passed apcs sum h e g j =
+    let rest : Walk = walkAnswer (walkBy s next 0 (drop size (drop at l))) in
     let count : room - left + (left - next) ≡ room - next = omega (arith, g .less) in
     e ∙ ap (behind (room - left) passed) (g .carries) ∙ behind-behind (room - left) (left - next) passed apcs rest
     ∙ ap₂ (λ (n : ℕ) (a : Apcs). behind n a rest) count (sym j)
-    ∙ ap (λ (t : List ℕ). behind (room - next) sum (walkAnswer (walkFrom next 0 t))) (drop-drop size at l)
+    ∙ ap (λ (t : List ℕ). behind (room - next) sum (walkAnswer (walkBy s next 0 t))) (drop-drop size at l)

@@ -1,4 +1,6 @@
 pub mod Kinds
 pub mod Step
 pub mod Walk
+pub mod Nops
+pub mod Strict
 pub mod Progress

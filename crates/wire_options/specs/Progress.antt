@@ -6,10 +6,12 @@ use lib.Dec.{eqb}
 use lib.ListN.{length}
 use Rattle.wire_options.specs.Kinds.{frag}
 use Rattle.wire_options.specs.Step.{stepOf}
+use Rattle.wire_options.specs.Nops.{nopsOf, isPadding}
 use Rattle.wire_options.specs.Walk.{itemOf, fillIsZero, apcOf}
+use Rattle.wire_options.specs.declared.nops.Strictness.{Strictness}
 use Rattle.wire_options.specs.declared.step.Step.{Step}
 use Rattle.wire_options.specs.declared.step.Step.the-variants.{End, Eol, Nop, Found, Malformed as Unsound, Outlawed}
-use Rattle.wire_options.specs.declared.walk.Fault.the-variants.{Malformed, Unsafe, Crowded, Tail}
+use Rattle.wire_options.specs.declared.walk.Fault.the-variants.{Malformed, Unsafe, Crowded, Tail, Padded}
 use Rattle.wire_options.specs.declared.walk.Apcs.{Apcs}
 use Rattle.wire_options.specs.declared.walk.Apcs.the-variants.{Absent}
 use Rattle.wire_options.specs.declared.walk.Progress.{Progress}
@@ -24,13 +26,17 @@ roomProgress (suc room) size apcs = On room size apcs
 abbrev pub endProgress : List ℕ → Progress
 endProgress l = cond (fillIsZero l) (Ended (length l)) (Failed Tail)
 
-abbrev pub progressIn : ℕ → List ℕ → Step → Progress
-progressIn room l End = Ended 0
-progressIn room l Eol = endProgress l
-progressIn room l Nop = On room 1 Absent
-progressIn room l (Found kind header size) = cond (eqb kind frag) (Failed Malformed) (roomProgress room size (apcOf (itemOf kind header size l)))
-progressIn room l Unsound = Failed Malformed
-progressIn room l Outlawed = Failed Unsafe
+-- NOPs: all that stand in a row
+abbrev pub nopProgress : Strictness → ℕ → ℕ → Progress
+nopProgress strictness room nops = cond (isPadding strictness nops) (Failed Padded) (On room nops Absent)
 
-unfoldable pub progressOf : ℕ → List ℕ → Progress
-progressOf room l = progressIn room l (stepOf l)
+abbrev pub progressIn : Strictness → ℕ → List ℕ → Step → Progress
+progressIn strictness room l End = Ended 0
+progressIn strictness room l Eol = endProgress l
+progressIn strictness room l Nop = nopProgress strictness room (nopsOf l)
+progressIn strictness room l (Found kind header size) = cond (eqb kind frag) (Failed Malformed) (roomProgress room size (apcOf (itemOf kind header size l)))
+progressIn strictness room l Unsound = Failed Malformed
+progressIn strictness room l Outlawed = Failed Unsafe
+
+unfoldable pub progressOf : Strictness → ℕ → List ℕ → Progress
+progressOf strictness room l = progressIn strictness room l (stepOf l)

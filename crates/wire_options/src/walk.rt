@@ -1,11 +1,15 @@
 // The walk over a list of options in which FRAG has no place: what is behind a leading FRAG, or the whole list where there is none.
+use crate::nops;
+use crate::nops::Strictness;
 use crate::step;
 use crate::step::Step;
 use number_octets::zeros;
 ghost use mathlib.Core.Path.{_≡_};
 ghost use Prim.Native.Nat.{_<_};
-ghost use Rattle.wire_options.specs.Walk.{joined, walkAnswer, walkFrom};
-ghost use Rattle.wire_options.specs.Progress.{endProgress, progressOf};
+ghost use Rattle.wire_options.specs.Nops.{nopsOf};
+ghost use Rattle.wire_options.specs.Walk.{joined, walkAnswer};
+ghost use Rattle.wire_options.specs.Strict.{walkBy};
+ghost use Rattle.wire_options.specs.Progress.{endProgress, nopProgress, progressOf};
 
 // How many options besides NOP and EOL a list may have: a house rule.
 pub const OPTION_LIMIT: usize = 32;
@@ -23,6 +27,8 @@ pub enum Fault {
     Crowded,
     // A byte behind EOL that is not zero.
     Tail,
+    // More NOPs in a row than strict reading takes.
+    Padded,
 }
 
 // The values of a list's APC options: none, one value however often, or values that differ.
@@ -57,14 +63,14 @@ enum Progress {
 }
 
 // Walks a list that may have `room` options.
-pub fn walk_list(list: &[u8], room: usize) -> Walk
-    ensures { λ r. ⌜ r ≡ walkAnswer (walkFrom room 0 (now (list .entry))) ⌝ }
+pub fn walk_list(list: &[u8], room: usize, strictness: Strictness) -> Walk
+    ensures { λ r. ⌜ r ≡ walkAnswer (walkBy strictness room 0 (now (list .entry))) ⌝ }
 {
     let mut at = 0;
     let mut left = room;
     let mut apcs = Apcs::Absent;
     while at < list.len() {
-        let turn = progress_at(&list[at..], left);
+        let turn = progress_at(&list[at..], left, strictness);
         match turn {
             Progress::On {
                 room: r,
@@ -95,14 +101,14 @@ pub fn walk_list(list: &[u8], room: usize) -> Walk
 }
 
 // One step of the walk.
-fn progress_at(rest: &[u8], room: usize) -> Progress
-    ensures { λ r. ⌜ r ≡ progressOf room (now (rest .entry)) ⌝ }
+fn progress_at(rest: &[u8], room: usize, strictness: Strictness) -> Progress
+    ensures { λ r. ⌜ r ≡ progressOf strictness room (now (rest .entry)) ⌝ }
 {
     let step = step::next(rest);
     match step {
         Step::End => Progress::Ended { fill: 0 },
         Step::Eol => end_at(rest),
-        Step::Nop => on(room, 1, Apcs::Absent),
+        Step::Nop => nops_at(rest, room, strictness),
         Step::Found { kind, header, size } => {
             if kind == FRAG {
                 return Progress::Failed(Fault::Malformed);
@@ -119,6 +125,17 @@ fn progress_at(rest: &[u8], room: usize) -> Progress
         Step::Malformed => Progress::Failed(Fault::Malformed),
         Step::Outlawed => Progress::Failed(Fault::Unsafe),
     }
+}
+
+// NOPs stand at the front: all in a row are passed at once.
+fn nops_at(rest: &[u8], room: usize, strictness: Strictness) -> Progress
+    ensures { λ r. ⌜ r ≡ nopProgress strictness room (nopsOf (now (rest .entry))) ⌝ }
+{
+    let nops = nops::leading_nops(rest);
+    if nops::is_padding(strictness, nops) {
+        return Progress::Failed(Fault::Padded);
+    }
+    on(room, nops, Apcs::Absent)
 }
 
 // EOL stands at the front: with all behind it, it is the fill, which is zero bytes.

@@ -8,7 +8,8 @@ use native.Mathlib.Omega.{arith}
 use lib.ListN.{length}
 use Rattle.number_octets.specs.Octets.{part}
 use Rattle.wire_area.specs.Area.{behindFrag, areaAnswer, pieceWith, asPiece}
-use Rattle.wire_options.specs.Walk.{Walked, walkFrom, walkAnswer, optionLimit, listed, faulty}
+use Rattle.wire_options.specs.Walk.{Walked, walkAnswer, optionLimit, listed, faulty}
+use Rattle.wire_options.specs.Strict.{walkBy}
 use Rattle.wire_area.specs.declared.Fragment.{Fragment}
 use Rattle.wire_area.specs.declared.Placed.{Placed}
 use Rattle.wire_area.proofs.Areas.{fragment-within}
@@ -42,7 +43,7 @@ enum-known-found c = search needs
 returns : tie.Need-returns
 returns c =
     let a = c .before .before .before .before .before .before .args in
-    ap₂ (λ (e : Bool) (p : Placed). areaAnswer (behindFrag e (a .list .now) (a .base .0) (a .behind) p)) (sym (not-true _ (c .if1 .taken)))
+    ap₂ (λ (e : Bool) (p : Placed). areaAnswer (behindFrag (a .strictness) e (a .list .now) (a .base .0) (a .behind) p)) (sym (not-true _ (c .if1 .taken)))
     (sym (sym (c .before .before .before .before .fragment-of .ensures) ∙ c .before .before .found .given .1))
 
 sub-end : tie.Need-sub-end
@@ -69,7 +70,7 @@ as-piece-requires c κs = search needs
 returns-2 : tie.Need-returns-2
 returns-2 c =
     let a = c .before .before .before .before .args in
-    ap (λ (p : Placed). areaAnswer (behindFrag (a .empty) (a .list .now) (a .base .0) (a .behind) p))
+    ap (λ (p : Placed). areaAnswer (behindFrag (a .strictness) (a .empty) (a .list .now) (a .base .0) (a .behind) p))
     (sym (sym (c .before .before .fragment-of .ensures) ∙ c .enum-told .given .1))
 
 returns-3 : tie.Need-returns-3
@@ -81,9 +82,9 @@ returns-3 c =
     let l : List ℕ = a .list .now in
     let middle : f .start .0 - a .base .0 - a .behind ≡ f .start .0 - (a .base .0 + a .behind) = omega arith in
     c .as-piece .ensures ∙ ap (asPiece f) (c .before .walk-list .ensures)
-    ∙ piece-answer f (walkFrom (optionLimit - 1) 0 (part (a .behind) (f .start .0 - a .base .0 - a .behind) l))
-    ∙ ap (λ (n : ℕ). areaAnswer (pieceWith f (walkFrom (optionLimit - 1) 0 (part (a .behind) n l)))) middle
-    ∙ ap₂ (λ (e : Bool) (p : Placed). areaAnswer (behindFrag e l (a .base .0) (a .behind) p))
+    ∙ piece-answer f (walkBy (a .strictness) (optionLimit - 1) 0 (part (a .behind) (f .start .0 - a .base .0 - a .behind) l))
+    ∙ ap (λ (n : ℕ). areaAnswer (pieceWith f (walkBy (a .strictness) (optionLimit - 1) 0 (part (a .behind) n l)))) middle
+    ∙ ap₂ (λ (e : Bool) (p : Placed). areaAnswer (behindFrag (a .strictness) e l (a .base .0) (a .behind) p))
     (sym (not-false _ (c .before .before .before .before .before .if1 .left)))
     (sym (sym (place .before .before .fragment-of .ensures) ∙ place .found .given .1))
 

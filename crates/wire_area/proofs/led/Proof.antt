@@ -91,35 +91,35 @@ returns c =
     let size : ℕ = place .before .step .given .0 .1 .1 .0 in
     c .behind-frag .ensures
     ∙ ap (λ (f : Fields). areaAnswer
-    (behindFrag (a .empty) (a .list .now) (a .base .0) (a .nops + size) (fragmentOf f (a .base .0) (a .nops + size) (length (a .list .now)))))
+    (behindFrag (a .strictness) (a .empty) (a .list .now) (a .base .0) (a .nops + size) (fragmentOf f (a .base .0) (a .nops + size) (length (a .list .now)))))
     (c .before .fields-of .ensures .0
     ∙ ap (fieldsOf size) (part-rest (a .nops) (a .list .now)))
-    ∙ ap (λ (s : Step). areaAnswer (ledBy (a .empty) (a .list .now) (a .base .0) (a .nops) s)) (sym (found place))
+    ∙ ap (λ (s : Step). areaAnswer (ledBy (a .strictness) (a .empty) (a .list .now) (a .base .0) (a .nops) s)) (sym (found place))
 
 returns-2 : tie.Need-returns-2
 returns-2 c =
     let a = c .before .before .before .before .before .args in
-    ap (λ (s : Step). areaAnswer (ledBy (a .empty) (a .list .now) (a .base .0) (a .nops) s)) (sym (stepped (c .before .before) ∙ c .enum-told .given .1))
+    ap (λ (s : Step). areaAnswer (ledBy (a .strictness) (a .empty) (a .list .now) (a .base .0) (a .nops) s)) (sym (stepped (c .before .before) ∙ c .enum-told .given .1))
 
 returns-3 : tie.Need-returns-3
 returns-3 c =
     let a = c .before .before .before .before .before .args in
-    ap (λ (s : Step). areaAnswer (ledBy (a .empty) (a .list .now) (a .base .0) (a .nops) s)) (sym (stepped (c .before .before) ∙ c .enum-told2 .given .1))
+    ap (λ (s : Step). areaAnswer (ledBy (a .strictness) (a .empty) (a .list .now) (a .base .0) (a .nops) s)) (sym (stepped (c .before .before) ∙ c .enum-told2 .given .1))
 
 returns-4 : tie.Need-returns-4
 returns-4 c =
     let a = c .before .before .before .before .before .args in
-    ap (λ (s : Step). areaAnswer (ledBy (a .empty) (a .list .now) (a .base .0) (a .nops) s)) (sym (stepped (c .before .before) ∙ c .enum-told3 .given .1))
+    ap (λ (s : Step). areaAnswer (ledBy (a .strictness) (a .empty) (a .list .now) (a .base .0) (a .nops) s)) (sym (stepped (c .before .before) ∙ c .enum-told3 .given .1))
 
 returns-5 : tie.Need-returns-5
 returns-5 c =
     let a = c .before .before .before .before .before .args in
-    ap (λ (s : Step). areaAnswer (ledBy (a .empty) (a .list .now) (a .base .0) (a .nops) s)) (sym (stepped (c .before .before) ∙ c .enum-told4 .given .1))
+    ap (λ (s : Step). areaAnswer (ledBy (a .strictness) (a .empty) (a .list .now) (a .base .0) (a .nops) s)) (sym (stepped (c .before .before) ∙ c .enum-told4 .given .1))
 
 returns-6 : tie.Need-returns-6
 returns-6 c =
     let a = c .before .before .before .before .before .args in
-    ap (λ (s : Step). areaAnswer (ledBy (a .empty) (a .list .now) (a .base .0) (a .nops) s)) (sym (stepped (c .before .before) ∙ c .enum-told5 .given .1))
+    ap (λ (s : Step). areaAnswer (ledBy (a .strictness) (a .empty) (a .list .now) (a .base .0) (a .nops) s)) (sym (stepped (c .before .before) ∙ c .enum-told5 .given .1))
 
 pub led-spec : {M : Type 1} → statement M
 led-spec =

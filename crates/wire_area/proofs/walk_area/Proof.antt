@@ -1,16 +1,23 @@
--- `wire_area::walk_area` meets its contract: the code looks for FRAG where the definition does, behind the leading NOPs.
+-- `wire_area::walk_area` meets its contract: the code looks for padding and for FRAG where the definition does, and walks what is behind the NOPs.
 -- Assumes nothing.
 use mathlib.Core.Path.{_≡_, refl, sym, ap, _∙_}
-use mathlib.Core.Bool.{true, false}
+use mathlib.Core.Bool.{Bool, true, false, cond}
+use mathlib.Core.List.{List}
 use mathlib.Core.Logic.{⊎-elim}
 use Prim.Native.Nat.{ℕ}
 use borrow.Author.Tests.{eq-eqb, ne-eqb}
 use lib.Dec.{eqb}
 use lib.ListN.{drop, getD, List·getD-eq-default}
+use Rattle.number_octets.proofs.Laws.{part-rest}
 use Rattle.wire_options.specs.Kinds.{eol, frag}
+use Rattle.wire_options.specs.Nops.{nopsOf, isPadding}
 use Rattle.wire_options.specs.Step.{stepOf}
-use Rattle.wire_area.specs.Area.{nopsOf, ledBy, areaOf, plainly, areaAnswer, asArea}
-use Rattle.wire_options.specs.Walk.{Walked, listed, faulty, walkFrom, walkAnswer, optionLimit}
+use Rattle.wire_options.specs.Walk.{Walked, listed, faulty, walkAnswer, optionLimit}
+use Rattle.wire_options.specs.Strict.{walkBy}
+use Rattle.wire_options.specs.declared.nops.Strictness.{Strictness}
+use Rattle.wire_options.specs.declared.walk.Fault.the-variants.{Padded}
+use Rattle.wire_options.proofs.Runs.{run-passed}
+use Rattle.wire_area.specs.Area.{fault, ledBy, plainly, behindNops, areaOf, areaAnswer, asArea}
 use borrow.Author.Needs.{needs}
 use Rattle.wire_area.proofs.walk_area.Statement.{statement}
 use Rattle.wire_area.proofs.walk_area.Tie as tie
@@ -20,35 +27,70 @@ plain-answer : (w : Walked) → asArea (walkAnswer w) ≡ areaAnswer (plainly w)
 plain-answer (listed items fill) = refl
 plain-answer (faulty x) = refl
 
+-- by whether the NOPs at the front are padding
+padding-is : (how : Strictness) (empty : Bool) (base : ℕ) (l : List ℕ) (t : Bool) → isPadding how (nopsOf l) ≡ t
+    → areaOf how empty base l ≡ cond t (fault Padded) (behindNops how empty base l)
+unfolding areaOf
+padding-is how empty base l t e = ap (λ (x : Bool). cond x (fault Padded) (behindNops how empty base l)) e
+
+-- .. and by whether FRAG is behind them
+leads-is : (how : Strictness) (empty : Bool) (base : ℕ) (l : List ℕ) (t : Bool) → isPadding how (nopsOf l) ≡ false → eqb (getD l (nopsOf l) eol) frag ≡ t
+    → areaOf how empty base l ≡ cond t (ledBy how empty l base (nopsOf l) (stepOf (drop (nopsOf l) l))) (plainly (walkBy how optionLimit 0 l))
+leads-is how empty base l t p e =
+    padding-is how empty base l false p
+    ∙ ap (λ (x : Bool). cond x (ledBy how empty l base (nopsOf l) (stepOf (drop (nopsOf l) l))) (plainly (walkBy how optionLimit 0 l))) e
+
+-- the code's test is the definition's
+tested : (c : tie.After-is-padding) → let a = c .before .before .before .args in isPadding (a .strictness) (nopsOf (a .list .now)) ≡ c .is-padding .result
+tested c = let a = c .before .before .before .args in
+    ap (isPadding (a .strictness)) (sym (c .before .leading-nops .ensures .0)) ∙ sym (c .is-padding .ensures)
+
 -- no FRAG leads: nothing is behind the NOPs, or something else
-not-led : (c : tie.Joined1) → let l = c .before .before .before .args .list .now in eqb (getD l (nopsOf l) eol) frag ≡ false
+not-led : (c : tie.Joined2) → let l = c .before .before .before .before .before .args .list .now in eqb (getD l (nopsOf l) eol) frag ≡ false
 not-led c =
-    let l = c .before .before .before .args .list .now in
-    let n = c .before .leading-nops in
+    let l = c .before .before .before .before .before .args .list .now in
+    let n = c .before .before .before .leading-nops in
     ⊎-elim
     (λ w. ne-eqb _ frag (λ e. w .2 .left (ap (λ (k : ℕ). getD l k 0) (n .ensures .0) ∙ e)))
     (λ w. ap (λ (k : ℕ). eqb k frag) (ap (λ (k : ℕ). getD l k 0) (sym (n .ensures .0)) ∙ List·getD-eq-default l 0 (w .left)))
-    (c .if1 .came)
+    (c .if2 .came)
 
 leading-nops-requires : tie.Need-leading-nops-requires
 leading-nops-requires c κs = search needs
 
-shared-slice-read-if2 : tie.Need-shared-slice-read-if2
-shared-slice-read-if2 c = search needs
+is-padding-requires : tie.Need-is-padding-requires
+is-padding-requires c κs = search needs
+
+returns : tie.Need-returns
+returns c =
+    let a = c .before .before .before .before .args in
+    sym (ap areaAnswer (padding-is (a .strictness) (a .empty) (a .base .0) (a .list .now) true (tested (c .before) ∙ c .if1 .taken)))
+
+shared-slice-read-if3 : tie.Need-shared-slice-read-if3
+shared-slice-read-if3 c = search needs
 
 led-requires : tie.Need-led-requires
 led-requires c κs = search needs
 
-returns : tie.Need-returns
-unfolding areaOf
-returns c =
-    let a = c .before .before .before .before .before .before .args in
-    let nops = c .before .before .before .before .leading-nops in
+returns-2 : tie.Need-returns-2
+returns-2 c =
+    let a = c .before .before .before .before .before .before .before .before .args in
+    let place = c .before .before .before .before .before in
+    let nops = place .before .leading-nops in
     let led-here : eqb (getD (a .list .now) (nopsOf (a .list .now)) eol) frag ≡ true =
-    eq-eqb _ frag (ap (λ (n : ℕ). getD (a .list .now) n 0) (sym (nops .ensures .0)) ∙ c .before .if2 .taken) in
+    eq-eqb _ frag (ap (λ (n : ℕ). getD (a .list .now) n 0) (sym (nops .ensures .0)) ∙ c .before .if3 .taken) in
     c .led .ensures
-    ∙ ap (λ (n : ℕ). areaAnswer (ledBy (a .empty) (a .list .now) (a .base .0) n (stepOf (drop n (a .list .now))))) (nops .ensures .0)
-    ∙ sym (simp led-here)
+    ∙ ap (λ (n : ℕ). areaAnswer (ledBy (a .strictness) (a .empty) (a .list .now) (a .base .0) n (stepOf (drop n (a .list .now))))) (nops .ensures .0)
+    ∙ sym (ap areaAnswer (leads-is (a .strictness) (a .empty) (a .base .0) (a .list .now) true (tested place ∙ c .before .before .before .before .if1 .left) led-here))
+
+sub-walk-list : tie.Need-sub-walk-list
+sub-walk-list c = search needs
+
+part-walk-list-start : tie.Need-part-walk-list-start
+part-walk-list-start c = search needs
+
+part-walk-list-end : tie.Need-part-walk-list-end
+part-walk-list-end c = search needs
 
 walk-list-requires : tie.Need-walk-list-requires
 walk-list-requires c κs = search needs
@@ -56,20 +98,33 @@ walk-list-requires c κs = search needs
 as-area-requires : tie.Need-as-area-requires
 as-area-requires c κs = search needs
 
-returns-2 : tie.Need-returns-2
-unfolding areaOf optionLimit
-returns-2 c =
-    let a = c .before .before .before .before .before .args in
-    c .as-area .ensures ∙ ap asArea (c .before .walk-list .ensures) ∙ plain-answer (walkFrom 32 0 (a .list .now)) ∙ sym (simp (not-led (c .before .before)))
+returns-3 : tie.Need-returns-3
+unfolding optionLimit
+returns-3 c =
+    let a = c .before .before .before .before .before .before .before .before .args in
+    let joined = c .before .before .before in
+    let few : isPadding (a .strictness) (nopsOf (a .list .now)) ≡ false = tested (joined .before .before) ∙ joined .before .if1 .left in
+    let nops = joined .before .before .before .leading-nops in
+    c .as-area .ensures ∙ ap asArea (c .before .walk-list .ensures)
+    ∙ ap (λ (l : List ℕ). asArea (walkAnswer (walkBy (a .strictness) 32 0 l)))
+    (part-rest (nops .result) (a .list .now) ∙ ap (λ (n : ℕ). drop n (a .list .now)) (nops .ensures .0))
+    ∙ ap (λ (w : Walked). asArea (walkAnswer w)) (sym (run-passed (a .strictness) 32 (a .list .now) few))
+    ∙ plain-answer (walkBy (a .strictness) 32 0 (a .list .now))
+    ∙ sym (ap areaAnswer (leads-is (a .strictness) (a .empty) (a .base .0) (a .list .now) false few (not-led joined)))
 
 pub walk-area-spec : {M : Type 1} → statement M
 walk-area-spec =
     tie.close
     (tie.spec
     leading-nops-requires
-    shared-slice-read-if2
-    led-requires
+    is-padding-requires
     returns
+    shared-slice-read-if3
+    led-requires
+    returns-2
+    sub-walk-list
+    part-walk-list-start
+    part-walk-list-end
     walk-list-requires
     as-area-requires
-    returns-2)
+    returns-3)

@@ -10,6 +10,7 @@ use Rattle.number_octets.specs.Octets.{number, part}
 use Rattle.wire_options.specs.Kinds.{apc}
 use Rattle.wire_options.specs.Step.{stepOf}
 use Rattle.wire_options.specs.Progress.{roomProgress, progressIn, progressOf}
+use Rattle.wire_options.specs.declared.nops.Strictness.{Strictness}
 use Rattle.wire_options.specs.declared.step.Step.{Step}
 use Rattle.wire_options.specs.declared.step.Step.the-variants.{Found}
 use Rattle.wire_options.specs.declared.walk.Apcs.{Apcs}
@@ -36,15 +37,15 @@ end-at-requires c κs = search needs
 enum-told-3 : tie.Need-enum-told-3
 enum-told-3 c = search needs
 
-on-requires : tie.Need-on-requires
-on-requires c κs = search needs
+nops-at-requires : tie.Need-nops-at-requires
+nops-at-requires c κs = search needs
 
 enum-known-step : tie.Need-enum-known-step
 enum-known-step c = search needs
 
-turn-is : (room : ℕ) (l : List ℕ) (step : Step) → stepOf l ≡ step → progressOf room l ≡ progressIn room l step
+turn-is : (s : Strictness) (room : ℕ) (l : List ℕ) (step : Step) → stepOf l ≡ step → progressOf s room l ≡ progressIn s room l step
 unfolding progressOf
-turn-is room l step e = ap (progressIn room l) e
+turn-is s room l step e = ap (progressIn s room l) e
 
 -- the step of the arm for an option
 abbrev kindOf : tie.After-known-told → ℕ
@@ -74,11 +75,11 @@ some-room (suc room) size apcs e = ap (λ (r : ℕ). On r size apcs) (omega arit
 
 returns : tie.Need-returns
 returns c = let a = c .before .before .before .before .before .before .args in sym
-    (turn-is (a .room) (a .rest .now) _ (found (c .before)) ∙ simp (eq-eqb _ _ (c .if1 .taken)))
+    (turn-is (a .strictness) (a .room) (a .rest .now) _ (found (c .before)) ∙ simp (eq-eqb _ _ (c .if1 .taken)))
 
 returns-2 : tie.Need-returns-2
 returns-2 c = let a = c .before .before .before .before .before .before .before .args in sym
-    (turn-is (a .room) (a .rest .now) _ (found (c .before .before)) ∙ simp (ne-eqb _ _ (c .before .if1 .left)) (no-room _ _ _ (c .if2 .taken)))
+    (turn-is (a .strictness) (a .room) (a .rest .now) _ (found (c .before .before)) ∙ simp (ne-eqb _ _ (c .before .if1 .left)) (no-room _ _ _ (c .if2 .taken)))
 
 get-u32-requires : tie.Need-get-u32-requires
 get-u32-requires c κs = let f = an-apc (c .before .before .before) (c .if3 .taken) in omega arith
@@ -86,8 +87,8 @@ get-u32-requires c κs = let f = an-apc (c .before .before .before) (c .if3 .tak
 sub-on : tie.Need-sub-on
 sub-on c = search needs
 
-on-requires-2 : tie.Need-on-requires-2
-on-requires-2 c κs = search needs
+on-requires : tie.Need-on-requires
+on-requires c κs = search needs
 
 returns-3 : tie.Need-returns-3
 returns-3 c =
@@ -97,16 +98,16 @@ returns-3 c =
     let four : sizeOf place - headerOf place ≡ 4 = omega arith in
     let value : number (part (headerOf place) (sizeOf place - headerOf place) (a .rest .now)) ≡ c .before .get-u32 .result =
     ap (λ (n : ℕ). number (part (headerOf place) n (a .rest .now))) four ∙ sym (c .before .get-u32 .ensures) in
-    c .on2 .ensures
-    ∙ sym (turn-is (a .room) (a .rest .now) _ (found place)
+    c .on .ensures
+    ∙ sym (turn-is (a .strictness) (a .room) (a .rest .now) _ (found place)
     ∙ simp (ne-eqb _ _ (c .before .before .before .before .if1 .left), eq-eqb _ _ (c .before .before .if3 .taken), value)
     (some-room (a .room) (sizeOf place) (Same (c .before .get-u32 .result)) (c .before .before .before .if2 .left)))
 
 sub-on-2 : tie.Need-sub-on-2
 sub-on-2 c = search needs
 
-on-requires-3 : tie.Need-on-requires-3
-on-requires-3 c κs = search needs
+on-requires-2 : tie.Need-on-requires-2
+on-requires-2 c κs = search needs
 
 enum-told-4 : tie.Need-enum-told-4
 enum-told-4 c = search needs
@@ -116,32 +117,32 @@ enum-told-5 c = search needs
 
 returns-4 : tie.Need-returns-4
 returns-4 c = let a = c .before .before .before .before .args in sym
-    (turn-is (a .room) (a .rest .now) _ (sym (c .before .before .next .ensures) ∙ c .enum-told .given .1))
+    (turn-is (a .strictness) (a .room) (a .rest .now) _ (sym (c .before .before .next .ensures) ∙ c .enum-told .given .1))
 
 returns-5 : tie.Need-returns-5
 returns-5 c = let a = c .before .before .before .before .before .args in c .end-at .ensures
-    ∙ sym (turn-is (a .room) (a .rest .now) _ (sym (c .before .before .before .next .ensures) ∙ c .before .enum-told2 .given .1))
+    ∙ sym (turn-is (a .strictness) (a .room) (a .rest .now) _ (sym (c .before .before .before .next .ensures) ∙ c .before .enum-told2 .given .1))
 
 returns-6 : tie.Need-returns-6
-returns-6 c = let a = c .before .before .before .before .before .args in c .on .ensures
-    ∙ sym (turn-is (a .room) (a .rest .now) _ (sym (c .before .before .before .next .ensures) ∙ c .before .enum-told3 .given .1))
+returns-6 c = let a = c .before .before .before .before .before .args in c .nops-at .ensures
+    ∙ sym (turn-is (a .strictness) (a .room) (a .rest .now) _ (sym (c .before .before .before .next .ensures) ∙ c .before .enum-told3 .given .1))
 
 returns-7 : tie.Need-returns-7
 returns-7 c =
     let a = c .before .before .before .before .before .before .before .before .before .args in
     let place = c .before .before .before .before in
-    c .on3 .ensures
-    ∙ sym (turn-is (a .room) (a .rest .now) _ (found place)
+    c .on2 .ensures
+    ∙ sym (turn-is (a .strictness) (a .room) (a .rest .now) _ (found place)
     ∙ simp (ne-eqb _ _ (c .before .before .before .if1 .left), ne-eqb _ _ (c .before .if3 .left))
     (some-room (a .room) (sizeOf place) Absent (c .before .before .if2 .left)))
 
 returns-8 : tie.Need-returns-8
 returns-8 c = let a = c .before .before .before .before .args in sym
-    (turn-is (a .room) (a .rest .now) _ (sym (c .before .before .next .ensures) ∙ c .enum-told4 .given .1))
+    (turn-is (a .strictness) (a .room) (a .rest .now) _ (sym (c .before .before .next .ensures) ∙ c .enum-told4 .given .1))
 
 returns-9 : tie.Need-returns-9
 returns-9 c = let a = c .before .before .before .before .args in sym
-    (turn-is (a .room) (a .rest .now) _ (sym (c .before .before .next .ensures) ∙ c .enum-told5 .given .1))
+    (turn-is (a .strictness) (a .room) (a .rest .now) _ (sym (c .before .before .next .ensures) ∙ c .enum-told5 .given .1))
 
 pub progress-at-spec : {M : Type 1} → statement M
 progress-at-spec =
@@ -152,16 +153,16 @@ progress-at-spec =
     enum-told-2
     end-at-requires
     enum-told-3
-    on-requires
+    nops-at-requires
     enum-known-step
     returns
     returns-2
     get-u32-requires
     sub-on
-    on-requires-2
+    on-requires
     returns-3
     sub-on-2
-    on-requires-3
+    on-requires-2
     enum-told-4
     enum-told-5
     returns-4

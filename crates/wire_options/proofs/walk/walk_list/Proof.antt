@@ -10,7 +10,8 @@ use borrow.Author.Needs.{needs}
 use lib.ListN.{length, drop, length-drop, drop-of-length-le}
 use Rattle.number_octets.proofs.Laws.{part-rest}
 use Rattle.wire_options.specs.Progress.{progressOf}
-use Rattle.wire_options.specs.Walk.{walkAnswer, walkFrom}
+use Rattle.wire_options.specs.Walk.{walkAnswer}
+use Rattle.wire_options.specs.Strict.{walkBy}
 use Rattle.wire_options.specs.declared.walk.Apcs.{Apcs}
 use Rattle.wire_options.specs.declared.walk.Apcs.the-variants.{Absent}
 use Rattle.wire_options.specs.declared.walk.Walk.the-variants.{Listed}
@@ -19,12 +20,12 @@ use Rattle.wire_options.proofs.walk.walk_list.Statement.{statement}
 use Rattle.wire_options.proofs.walk.walk_list.Tie as tie
 
 abbrev Inv-loop : tie.InvT-loop
-Inv-loop list room at₀ left₀ apcs₀ at left apcs =
+Inv-loop list room strictness at₀ left₀ apcs₀ at left apcs =
     (at ≤ length list) × (left ≤ room)
-    × (walkAnswer (walkFrom room 0 list) ≡ behind (room - left) apcs (walkAnswer (walkFrom left 0 (drop at list))))
+    × (walkAnswer (walkBy strictness room 0 list) ≡ behind (room - left) apcs (walkAnswer (walkBy strictness left 0 (drop at list))))
 
 abbrev μ-loop : tie.MeasureT-loop
-μ-loop list room at₀ left₀ apcs₀ at left apcs = length list - at
+μ-loop list room strictness at₀ left₀ apcs₀ at left apcs = length list - at
 
 -- the turn that was made, over the rest of the list
 module _ (c : tie.After-progress-at Inv-loop μ-loop) where
@@ -37,13 +38,13 @@ module _ (c : tie.After-progress-at Inv-loop μ-loop) where
   some-rest : 0 < length rest
   some-rest = simp length-drop (omega (arith, c .before .before .loop-test .taken))
 
-  progress-is : progressOf (at-loop .loop .left) rest ≡ c .progress-at .result
-  progress-is = sym (c .progress-at .ensures ∙ ap (progressOf (at-loop .loop .left)) (part-rest (at-loop .loop .at) (at-loop .before .before .args .list .now)))
+  progress-is : progressOf (at-loop .before .before .args .strictness) (at-loop .loop .left) rest ≡ c .progress-at .result
+  progress-is = sym (c .progress-at .ensures ∙ ap (progressOf (at-loop .before .before .args .strictness) (at-loop .loop .left)) (part-rest (at-loop .loop .at) (at-loop .before .before .args .list .now)))
 
 -- a turn that goes on
 goes : (c : tie.After-turn Inv-loop μ-loop) → let p = c .before .before in
-    Goes (at-loop p .loop .left) (rest p) (c .turn .given .0 .0) (c .turn .given .0 .1 .0) (c .turn .given .0 .1 .1 .0)
-goes c = let p = c .before .before in progress-goes (at-loop p .loop .left) (rest p) _ _ _ (some-rest p) (progress-is p ∙ c .turn .given .1)
+    Goes (at-loop p .before .before .args .strictness) (at-loop p .loop .left) (rest p) (c .turn .given .0 .0) (c .turn .given .0 .1 .0) (c .turn .given .0 .1 .1 .0)
+goes c = let p = c .before .before in progress-goes (at-loop p .before .before .args .strictness) (at-loop p .loop .left) (rest p) _ _ _ (some-rest p) (progress-is p ∙ c .turn .given .1)
 
 bound : (c : tie.After-turn Inv-loop μ-loop) → let p = c .before .before in
     at-loop p .loop .at + c .turn .given .0 .1 .0 ≤ length (at-loop p .before .before .args .list .now)
@@ -59,8 +60,8 @@ loop-holds c =
       search needs,
       search needs,
       sym
-          (ap (λ (n : ℕ). behind n Absent (walkAnswer (walkFrom (a .room) 0 (a .list .now)))) none
-          ∙ behind-none (walkAnswer (walkFrom (a .room) 0 (a .list .now)))),
+          (ap (λ (n : ℕ). behind n Absent (walkAnswer (walkBy (a .strictness) (a .room) 0 (a .list .now)))) none
+          ∙ behind-none (walkAnswer (walkBy (a .strictness) (a .room) 0 (a .list .now)))),
     )
 
 sub-progress-at : tie.Need-sub-progress-at Inv-loop μ-loop
@@ -96,15 +97,15 @@ loop-again c =
     let v = c .before .before .turn .given .0 in (
       omega (arith, bound (c .before .before)),
       omega (arith, g .less, here .loop .inv),
-      turn-on _ (a .list .now) (a .room) (here .loop .left) (v .0) (here .loop .at) (v .1 .0) (here .loop .apcs) (v .1 .1 .0) (c .join .result)
+      turn-on (a .strictness) _ (a .list .now) (a .room) (here .loop .left) (v .0) (here .loop .at) (v .1 .0) (here .loop .apcs) (v .1 .1 .0) (c .join .result)
           (here .loop .inv .1) (here .loop .inv .2) g (c .join .ensures),
     )
 
 enum-known-turn-2 : tie.Need-enum-known-turn-2 Inv-loop μ-loop
 enum-known-turn-2 c = search needs
 
-sub-t17 : tie.Need-sub-t17 Inv-loop μ-loop
-sub-t17 c = omega arith
+sub-t18 : tie.Need-sub-t18 Inv-loop μ-loop
+sub-t18 c = omega arith
 
 returns : tie.Need-returns Inv-loop μ-loop
 returns c =
@@ -113,7 +114,7 @@ returns c =
     let a = here .before .before .args in
     let n : ℕ = a .room - here .loop .left in
     sym (here .loop .inv .2
-    ∙ ap (behind n (here .loop .apcs)) (tells (here .loop .left) (rest p) _ (some-rest p) (progress-is p ∙ c .before .turn2 .given .1))
+    ∙ ap (behind n (here .loop .apcs)) (tells (a .strictness) (here .loop .left) (rest p) _ (some-rest p) (progress-is p ∙ c .before .turn2 .given .1))
     ∙ ap₂ (λ (k : ℕ) (x : Apcs). Listed k (c .before .turn2 .given .0 .0) x) (add-zero n) (joined-absent (here .loop .apcs)))
 
 enum-known-turn-3 : tie.Need-enum-known-turn-3 Inv-loop μ-loop
@@ -126,10 +127,10 @@ returns-2 c =
     let a = here .before .before .args in
     sym (here .loop .inv .2
     ∙ ap (behind (a .room - here .loop .left) (here .loop .apcs))
-    (tells (here .loop .left) (rest p) _ (some-rest p) (progress-is p ∙ c .before .turn3 .given .1)))
+    (tells (a .strictness) (here .loop .left) (rest p) _ (some-rest p) (progress-is p ∙ c .before .turn3 .given .1)))
 
-sub-t18 : tie.Need-sub-t18 Inv-loop μ-loop
-sub-t18 c = omega arith
+sub-t19 : tie.Need-sub-t19 Inv-loop μ-loop
+sub-t19 c = omega arith
 
 returns-3 : tie.Need-returns-3 Inv-loop μ-loop
 returns-3 c =
@@ -137,8 +138,8 @@ returns-3 c =
     let a = here .before .before .args in
     let n : ℕ = a .room - here .loop .left in
     sym (here .loop .inv .2
-    ∙ ap (λ (l : List ℕ). behind n (here .loop .apcs) (walkAnswer (walkFrom (here .loop .left) 0 l))) (drop-of-length-le (a .list .now) (c .loop-test .left))
-    ∙ ap (behind n (here .loop .apcs)) (answer-none (here .loop .left) 0)
+    ∙ ap (λ (l : List ℕ). behind n (here .loop .apcs) (walkAnswer (walkBy (a .strictness) (here .loop .left) 0 l))) (drop-of-length-le (a .list .now) (c .loop-test .left))
+    ∙ ap (behind n (here .loop .apcs)) (answer-none (a .strictness) (here .loop .left) 0)
     ∙ ap₂ (λ (k : ℕ) (x : Apcs). Listed k 0 x) (add-zero n) (joined-absent (here .loop .apcs)))
 
 pub walk-list-spec : {M : Type 1} → statement M
@@ -158,9 +159,9 @@ walk-list-spec =
     loop-less
     loop-again
     enum-known-turn-2
-    sub-t17
+    sub-t18
     returns
     enum-known-turn-3
     returns-2
-    sub-t18
+    sub-t19
     returns-3)

@@ -1,14 +1,14 @@
--- `wire_area::leading_nops` meets its contract. The loop's invariant: the NOPs of the list are those passed and those of the rest.
+-- `wire_options::nops::nop_run` meets its contract. The loop's invariant: the NOPs of the list are those passed and those of the rest.
 -- Assumes nothing.
 use mathlib.Core.Path.{_≡_}
 use Prim.Native.Nat.{_+_, _-_, _≤_}
 use native.Mathlib.Omega.{arith}
 use borrow.Author.Needs.{needs}
 use lib.ListN.{length, drop}
-use Rattle.wire_area.specs.Area.{nopsOf}
-use Rattle.wire_area.proofs.Areas.{nops-one, nops-other, nops-none}
-use Rattle.wire_area.proofs.leading_nops.Statement.{statement}
-use Rattle.wire_area.proofs.leading_nops.Tie as tie
+use Rattle.wire_options.specs.Nops.{nopsOf}
+use Rattle.wire_options.proofs.Runs.{nops-one, nops-other, nops-none}
+use Rattle.wire_options.proofs.nops.nop_run.Statement.{statement}
+use Rattle.wire_options.proofs.nops.nop_run.Tie as tie
 
 abbrev Inv-loop : tie.InvT-loop
 Inv-loop list n₀ n = (n ≤ length list) × (nopsOf list ≡ n + nopsOf (drop n list))
@@ -16,8 +16,11 @@ Inv-loop list n₀ n = (n ≤ length list) × (nopsOf list ≡ n + nopsOf (drop 
 abbrev μ-loop : tie.MeasureT-loop
 μ-loop list n₀ n = length list - n
 
+whole-eights-requires : tie.Need-whole-eights-requires Inv-loop μ-loop
+whole-eights-requires c κs = search needs
+
 loop-holds : tie.Need-loop-holds Inv-loop μ-loop
-loop-holds c = (search needs, omega arith)
+loop-holds c = c .whole-eights .ensures
 
 shared-slice-read-if1 : tie.Need-shared-slice-read-if1 Inv-loop μ-loop
 shared-slice-read-if1 c = omega arith
@@ -25,7 +28,7 @@ shared-slice-read-if1 c = omega arith
 returns : tie.Need-returns Inv-loop μ-loop
 returns c =
     let l = c .before .before .before in
-    let none = nops-other (l .before .args .list .now) (l .loop .n) (c .before .before .loop-test .taken) (c .if1 .taken) in
+    let none = nops-other (l .before .before .before .args .list .now) (l .loop .n) (c .before .before .loop-test .taken) (c .if1 .taken) in
     (omega arith, omega arith)
 
 add-n : tie.Need-add-n Inv-loop μ-loop
@@ -37,21 +40,22 @@ loop-less c = omega arith
 loop-again : tie.Need-loop-again Inv-loop μ-loop
 loop-again c =
     let l = c .before .before .before in
-    let one = nops-one (l .before .args .list .now) (l .loop .n) (c .before .before .loop-test .taken) (c .if1 .left) in
+    let one = nops-one (l .before .before .before .args .list .now) (l .loop .n) (c .before .before .loop-test .taken) (c .if1 .left) in
     (omega arith, omega arith)
 
 returns-2 : tie.Need-returns-2 Inv-loop μ-loop
 returns-2 c =
     let l = c .before in
-    let none = nops-none (l .before .args .list .now) (l .loop .n) (c .loop-test .left) in
+    let none = nops-none (l .before .before .before .args .list .now) (l .loop .n) (c .loop-test .left) in
     (omega arith, omega arith)
 
-pub leading-nops-spec : {M : Type 1} → statement M
-leading-nops-spec =
+pub nop-run-spec : {M : Type 1} → statement M
+nop-run-spec =
     tie.close
     (tie.spec
     Inv-loop
     μ-loop
+    whole-eights-requires
     loop-holds
     shared-slice-read-if1
     returns

@@ -1,0 +1,60 @@
+-- Strict reading of an area's list (document 02, R-6): it comes to "padded", or to what plain reading comes to.
+-- Assumes nothing.
+use mathlib.Core.Path.{_≡_, refl, sym, ap, _∙_}
+use mathlib.Core.Bool.{Bool, true, false, cond}
+use mathlib.Core.List.{List}
+use mathlib.Core.Logic.{_⊎_, inl, inr, ⊎-elim}
+use Prim.Native.Nat.{ℕ, _+_, _-_}
+use lib.Dec.{eqb}
+use lib.ListN.{length, drop, getD}
+use Rattle.wire_options.specs.Kinds.{eol, frag}
+use Rattle.wire_options.specs.Nops.{nopsOf, isPadding}
+use Rattle.wire_options.specs.Step.{stepOf}
+use Rattle.wire_options.specs.Walk.{walkFrom, optionLimit}
+use Rattle.wire_options.specs.Strict.{walkBy}
+use Rattle.wire_options.specs.declared.nops.Strictness.{Strictness}
+use Rattle.wire_options.specs.declared.nops.Strictness.the-variants.{Plain}
+use Rattle.wire_options.specs.declared.step.Step.{Step}
+use Rattle.wire_options.specs.declared.step.Step.the-variants.{End, Eol, Nop, Found, Malformed as Unsound, Outlawed}
+use Rattle.wire_options.specs.declared.walk.Fault.the-variants.{Padded}
+use Rattle.wire_options.proofs.Stricts.{padded-or-plain}
+use Rattle.wire_area.specs.Area.{AreaWalk, fault, fieldsOf, fragmentOf, plainly, pieceWith, upToStart, behindFrag, ledBy, behindNops, areaOf}
+use Rattle.wire_area.specs.declared.Placed.{Placed}
+use Rattle.wire_area.specs.declared.Placed.the-variants.{Sound, Refused}
+
+abbrev OrPlain : AreaWalk → AreaWalk → Type 0
+OrPlain v w = (v ≡ fault Padded) ⊎ (v ≡ w)
+
+module _ (how : Strictness) (empty : Bool) (base : ℕ) (l : List ℕ) where
+  behind-or-plain : (behind : ℕ) (p : Placed) (t : Bool) → OrPlain (behindFrag how t l base behind p) (behindFrag Plain t l base behind p)
+  behind-or-plain behind Refused t = inr refl
+  behind-or-plain behind (Sound f) false = inr refl
+  behind-or-plain behind (Sound f) true =
+      ⊎-elim (λ e. inl (ap (pieceWith f) e)) (λ e. inr (ap (pieceWith f) e)) (padded-or-plain how (optionLimit - 1) (upToStart f base behind l))
+
+  led-or-plain : (nops : ℕ) (step : Step) → OrPlain (ledBy how empty l base nops step) (ledBy Plain empty l base nops step)
+  led-or-plain nops End = inr refl
+  led-or-plain nops Eol = inr refl
+  led-or-plain nops Nop = inr refl
+  led-or-plain nops Unsound = inr refl
+  led-or-plain nops Outlawed = inr refl
+  led-or-plain nops (Found kind header size) =
+      behind-or-plain (nops + size) (fragmentOf (fieldsOf size (drop nops l)) base (nops + size) (length l)) empty
+
+  pub area-or-plain : (areaOf how empty base l ≡ fault Padded) ⊎ (areaOf how empty base l ≡ areaOf Plain empty base l)
+  unfolding areaOf
+  area-or-plain = front (isPadding how (nopsOf l)) (eqb (getD l (nopsOf l) eol) frag)
+    where
+      led : Strictness → AreaWalk
+      led x = ledBy x empty l base (nopsOf l) (stepOf (drop (nopsOf l) l))
+
+      front : (t u : Bool) → OrPlain (cond t (fault Padded) (cond u (led how) (plainly (walkBy how optionLimit 0 l))))
+          (cond u (led Plain) (plainly (walkFrom optionLimit 0 l)))
+      front true u = inl refl
+      front false true = led-or-plain (nopsOf l) (stepOf (drop (nopsOf l) l))
+      front false false = ⊎-elim (λ e. inl (ap plainly e)) (λ e. inr (ap plainly e)) (padded-or-plain how optionLimit l)
+
+-- whatever else it comes to, plain reading comes to
+pub area-plainly : (how : Strictness) (empty : Bool) (base : ℕ) (l : List ℕ) (w : AreaWalk) → areaOf how empty base l ≡ w → (w ≡ fault Padded → ⊥)
+    → areaOf Plain empty base l ≡ w
+area-plainly how empty base l w e other = ⊎-elim (λ p. absurd (other (sym e ∙ p))) (λ p. sym p ∙ e) (area-or-plain how empty base l)

@@ -1,0 +1,156 @@
+-- NOPs in a row: they are counted byte by byte or four at once, and the walk passes all of them together (document 02, R-6).
+-- Assumes nothing.
+use mathlib.Core.Path.{_≡_, refl, sym, ap, _∙_}
+use mathlib.Core.Bool.{Bool, true, false, cond}
+use mathlib.Core.List.{List, [], _∷_, reverse}
+use Prim.Native.Nat.{ℕ, suc, _+_, _*_, _≤_, _<_}
+use native.Mathlib.Numerals.{add-one}
+use native.Mathlib.Omega.{arith}
+use borrow.Author.Tests.{eq-eqb, ne-eqb, eqb-true, eqb-false, lt-ltb, le-ltb, ltb-true, ltb-false}
+use lib.Dec.{eqb, ltb}
+use lib.ListN.{length, drop, getD, drop-of-length-le}
+use lib.Seq.{drop-cons}
+use Rattle.number_octets.specs.Octets.{number, part}
+use Rattle.number_octets.proofs.Laws.{little-four}
+use Rattle.wire_options.specs.Kinds.{nop}
+use Rattle.wire_options.specs.Step.{stepOf}
+use Rattle.wire_options.specs.Walk.{Walked, faulty, walkAt, walkFrom}
+use Rattle.wire_options.specs.Nops.{nopLimit, nopsOf, isPadding}
+use Rattle.wire_options.specs.Strict.{strictAt, strictFrom, walkBy}
+use Rattle.wire_options.specs.declared.nops.Strictness.{Strictness}
+use Rattle.wire_options.specs.declared.nops.Strictness.the-variants.{Plain, Strict}
+use Rattle.wire_options.specs.declared.step.Step.{Step}
+use Rattle.wire_options.specs.declared.walk.Fault.the-variants.{Padded}
+use Rattle.wire_options.proofs.Steps.{nop-step}
+use Rattle.wire_options.proofs.Stricts.{count-free}
+
+-- ---- counting
+
+nops-front : (l : List ℕ) (i : ℕ) → i < length l → nopsOf (drop i l) ≡ cond (eqb (getD l i 0) nop) (1 + nopsOf (drop (i + 1) l)) 0
+unfolding nopsOf
+nops-front l i h = ap nopsOf (drop-cons l i 0 h) ∙ ap (λ (k : ℕ). cond (eqb (getD l i 0) nop) (1 + nopsOf (drop k l)) 0) (sym (add-one i))
+
+pub nops-one : (l : List ℕ) (i : ℕ) → i < length l → getD l i 0 ≡ nop → nopsOf (drop i l) ≡ 1 + nopsOf (drop (i + 1) l)
+nops-one l i h e = nops-front l i h ∙ simp (eq-eqb (getD l i 0) nop e)
+
+pub nops-other : (l : List ℕ) (i : ℕ) → i < length l → (getD l i 0 ≡ nop → ⊥) → nopsOf (drop i l) ≡ 0
+nops-other l i h d = nops-front l i h ∙ simp (ne-eqb (getD l i 0) nop d)
+
+pub nops-none : (l : List ℕ) (i : ℕ) → length l ≤ i → nopsOf (drop i l) ≡ 0
+unfolding nopsOf
+nops-none l i h = ap nopsOf (drop-of-length-le l h)
+
+pub nops-some : (b : ℕ) (bs : List ℕ) → b ≡ nop → (0 < nopsOf (b ∷ bs)) × (nopsOf (b ∷ bs) ≡ 1 + nopsOf bs)
+unfolding nopsOf
+nops-some b bs e = let one : nopsOf (b ∷ bs) ≡ 1 + nopsOf bs = simp (eq-eqb b nop e) in (omega arith, one)
+
+pub nops-within : (l : List ℕ) → nopsOf l ≤ length l
+unfolding nopsOf
+nops-within [] = omega arith
+nops-within (b ∷ bs) = go (eqb b nop) (nops-within bs)
+  where
+    go : (t : Bool) → nopsOf bs ≤ length bs → cond t (1 + nopsOf bs) 0 ≤ suc (length bs)
+    go true h = omega arith
+    go false h = omega arith
+
+-- four bytes that are four NOPs as one number are NOPs: digit by digit
+first-digit : (a x : ℕ) → a < 256 → a + x * 256 ≡ 16843009 → (a ≡ nop) × (x ≡ 65793)
+first-digit a x h e = let rest : x ≡ 65793 = omega arith in (omega arith, rest)
+
+second-digit : (a x : ℕ) → a < 256 → a + x * 256 ≡ 65793 → (a ≡ nop) × (x ≡ 257)
+second-digit a x h e = let rest : x ≡ 257 = omega arith in (omega arith, rest)
+
+last-digits : (a x : ℕ) → a < 256 → a + x * 256 ≡ 257 → (a ≡ nop) × (x ≡ nop)
+last-digits a x h e = let rest : x ≡ 1 = omega arith in (omega arith, rest)
+
+pub nops-four : (l : List ℕ) (i : ℕ) → i + 4 ≤ length l → ((k : ℕ) → getD l k 0 < 256) → number (reverse (part i 4 l)) ≡ 16843009
+    → nopsOf (drop i l) ≡ 4 + nopsOf (drop (i + 4) l)
+nops-four l i h small e =
+    let a : ℕ = getD l i 0 in
+    let b : ℕ = getD l (i + 1) 0 in
+    let c : ℕ = getD l (i + 2) 0 in
+    let d : ℕ = getD l (i + 3) 0 in
+    let word : a + b * 256 + c * 65536 + d * 16777216 ≡ 16843009 = sym (little-four i l h) ∙ e in
+    let one = first-digit a (b + (c + d * 256) * 256) (small i) (omega arith) in
+    let two = second-digit b (c + d * 256) (small (i + 1)) (one .1) in
+    let three = last-digits c d (small (i + 2)) (two .1) in
+    let at1 : i + 1 + 1 ≡ i + 2 = omega arith in
+    let at2 : i + 2 + 1 ≡ i + 3 = omega arith in
+    let at3 : i + 3 + 1 ≡ i + 4 = omega arith in
+    let n0 : nopsOf (drop i l) ≡ 1 + nopsOf (drop (i + 1) l) = nops-one l i (omega arith) (one .0) in
+    let n1 : nopsOf (drop (i + 1) l) ≡ 1 + nopsOf (drop (i + 2) l) =
+    nops-one l (i + 1) (omega arith) (two .0) ∙ ap (λ (k : ℕ). 1 + nopsOf (drop k l)) at1 in
+    let n2 : nopsOf (drop (i + 2) l) ≡ 1 + nopsOf (drop (i + 3) l) =
+    nops-one l (i + 2) (omega arith) (three .0) ∙ ap (λ (k : ℕ). 1 + nopsOf (drop k l)) at2 in
+    let n3 : nopsOf (drop (i + 3) l) ≡ 1 + nopsOf (drop (i + 4) l) =
+    nops-one l (i + 3) (omega arith) (three .1) ∙ ap (λ (k : ℕ). 1 + nopsOf (drop k l)) at3 in
+    omega arith
+
+-- ---- the walk
+
+-- one NOP at the front
+walk-nop : (room : ℕ) (bs : List ℕ) → walkFrom room 0 (nop ∷ bs) ≡ walkFrom room 0 bs
+unfolding walkFrom
+walk-nop room bs = ap (λ (s : Step). walkAt room (nop ∷ bs) s (λ left skip. walkFrom left skip bs)) (nop-step bs)
+
+pub strict-nop : (nops room : ℕ) (bs : List ℕ)
+    → strictFrom nops room 0 (nop ∷ bs) ≡ cond (isPadding Strict (suc nops)) (faulty Padded) (strictFrom (suc nops) room 0 bs)
+unfolding strictFrom
+strict-nop nops room bs = ap (λ (s : Step). strictAt nops room (nop ∷ bs) s (λ n left skip. strictFrom n left skip bs)) (nop-step bs)
+
+plain-run : (room : ℕ) (l : List ℕ) → walkFrom room 0 l ≡ walkFrom room 0 (drop (nopsOf l) l)
+unfolding nopsOf
+plain-run room [] = refl
+plain-run room (b ∷ bs) = go (eqb b nop) refl (plain-run room bs)
+  where
+    go : (t : Bool) → eqb b nop ≡ t → walkFrom room 0 bs ≡ walkFrom room 0 (drop (nopsOf bs) bs)
+        → walkFrom room 0 (b ∷ bs) ≡ walkFrom room 0 (drop (cond t (1 + nopsOf bs) 0) (b ∷ bs))
+    go false e ih = refl
+    go true e ih =
+        let more : suc (nopsOf bs) ≡ 1 + nopsOf bs = omega arith in
+        ap (λ (k : ℕ). walkFrom room 0 (k ∷ bs)) (eqb-true b nop e) ∙ walk-nop room bs ∙ ih
+        ∙ ap (λ (k : ℕ). walkFrom room 0 (drop k (b ∷ bs))) more
+
+strict-run : (nops room : ℕ) (l : List ℕ) → nops + nopsOf l ≤ nopLimit → strictFrom nops room 0 l ≡ strictFrom 0 room 0 (drop (nopsOf l) l)
+unfolding nopsOf strictFrom
+strict-run nops room [] h = refl
+strict-run nops room (b ∷ bs) h = go (eqb b nop) refl h (strict-run (suc nops) room bs)
+  where
+    go : (t : Bool) → eqb b nop ≡ t → nops + cond t (1 + nopsOf bs) 0 ≤ nopLimit
+        → (suc nops + nopsOf bs ≤ nopLimit → strictFrom (suc nops) room 0 bs ≡ strictFrom 0 room 0 (drop (nopsOf bs) bs))
+        → strictFrom nops room 0 (b ∷ bs) ≡ strictFrom 0 room 0 (drop (cond t (1 + nopsOf bs) 0) (b ∷ bs))
+    go false e h ih = count-free nops room b bs (eqb-false b nop e)
+    go true e h ih =
+        let more : suc (nopsOf bs) ≡ 1 + nopsOf bs = omega arith in
+        ap (λ (k : ℕ). strictFrom nops room 0 (k ∷ bs)) (eqb-true b nop e) ∙ strict-nop nops room bs
+        ∙ ap (λ (t : Bool). cond t (faulty Padded) (strictFrom (suc nops) room 0 bs)) (le-ltb nopLimit (suc nops) (omega arith)) ∙ ih (omega arith)
+        ∙ ap (λ (k : ℕ). strictFrom 0 room 0 (drop k (b ∷ bs))) more
+
+pub strict-padded : (nops room : ℕ) (l : List ℕ) → nops ≤ nopLimit → nopLimit < nops + nopsOf l → strictFrom nops room 0 l ≡ faulty Padded
+unfolding nopsOf
+strict-padded nops room [] few h = absurd (omega arith)
+strict-padded nops room (b ∷ bs) few h = go (eqb b nop) refl h (strict-padded (suc nops) room bs)
+  where
+    over : (t : Bool) → ltb nopLimit (suc nops) ≡ t → nopLimit < suc nops + nopsOf bs
+        → (suc nops ≤ nopLimit → nopLimit < suc nops + nopsOf bs → strictFrom (suc nops) room 0 bs ≡ faulty Padded)
+        → cond t (faulty Padded) (strictFrom (suc nops) room 0 bs) ≡ faulty Padded
+    over true p h ih = refl
+    over false p h ih = ih (ltb-false nopLimit (suc nops) p) h
+
+    go : (t : Bool) → eqb b nop ≡ t → nopLimit < nops + cond t (1 + nopsOf bs) 0
+        → (suc nops ≤ nopLimit → nopLimit < suc nops + nopsOf bs → strictFrom (suc nops) room 0 bs ≡ faulty Padded)
+        → strictFrom nops room 0 (b ∷ bs) ≡ faulty Padded
+    go false e h ih = absurd (omega arith)
+    go true e h ih =
+        ap (λ (k : ℕ). strictFrom nops room 0 (k ∷ bs)) (eqb-true b nop e) ∙ strict-nop nops room bs
+        ∙ over (ltb nopLimit (suc nops)) refl (omega arith) ih
+
+-- NOPs at the front are passed together ..
+pub run-passed : (s : Strictness) (room : ℕ) (l : List ℕ) → isPadding s (nopsOf l) ≡ false → walkBy s room 0 l ≡ walkBy s room 0 (drop (nopsOf l) l)
+run-passed Plain room l e = plain-run room l
+run-passed Strict room l e = strict-run 0 room l (omega (arith, ltb-false nopLimit (nopsOf l) e))
+
+-- .. or are padding
+pub run-padded : (s : Strictness) (room : ℕ) (l : List ℕ) → isPadding s (nopsOf l) ≡ true → walkBy s room 0 l ≡ faulty Padded
+run-padded Plain room l e = absurd (let z : _≡_ {A = ℕ} 0 1 = cc in omega arith)
+run-padded Strict room l e = strict-padded 0 room l (omega arith) (omega (arith, ltb-true nopLimit (nopsOf l) e))

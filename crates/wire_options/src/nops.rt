@@ -1,0 +1,76 @@
+// NOPs in a row: how many stand at the front of a list, and when they are padding (RFC 9868 section 11.2).
+ghost use mathlib.Core.Path.{_≡_};
+ghost use Prim.Native.Nat.{_+_, _≤_, _<_};
+ghost use lib.ListN.{length, drop};
+ghost use Rattle.wire_options.specs.Nops.{nopsOf, isPadding};
+
+// How lists are read: plainly, or so that padding with NOPs is a fault (document 02, R-6).
+pub enum Strictness {
+    Plain,
+    Strict,
+}
+
+// How many NOPs may stand in a row where reading is strict.
+pub const NOP_LIMIT: usize = 7;
+
+const NOP: u8 = 1;
+
+// Four NOPs as one number.
+const FOUR_NOPS: u32 = 16843009;
+
+pub fn is_padding(strictness: Strictness, nops: usize) -> bool
+    ensures { λ r. ⌜ r ≡ isPadding strictness nops ⌝ }
+{
+    match strictness {
+        Strictness::Plain => false,
+        Strictness::Strict => NOP_LIMIT < nops,
+    }
+}
+
+pub fn leading_nops(list: &[u8]) -> usize
+    ensures { λ r. ⌜ (r ≡ nopsOf (now (list .entry))) × (r ≤ length (now (list .entry))) ⌝ }
+{
+    if list.len() == 0 {
+        return 0;
+    }
+    if list[0] != NOP {
+        return 0;
+    }
+    nop_run(list)
+}
+
+// The same of a list with a NOP at its front, eight bytes at a step as long as they are NOPs.
+fn nop_run(list: &[u8]) -> usize
+    requires { ⌜ 0 < length (now list) ⌝ }
+    ensures { λ r. ⌜ (r ≡ nopsOf (now (list .entry))) × (r ≤ length (now (list .entry))) ⌝ }
+{
+    let mut n = whole_eights(list);
+    while n < list.len() {
+        if list[n] != NOP {
+            return n;
+        }
+        n += 1;
+    }
+    n
+}
+
+// So many NOPs at least, in whole eights.
+fn whole_eights(list: &[u8]) -> usize
+    requires { ⌜ 0 < length (now list) ⌝ }
+    ensures { λ r. ⌜ (r ≤ length (now (list .entry))) × (nopsOf (now (list .entry)) ≡ r + nopsOf (drop r (now (list .entry)))) ⌝ }
+{
+    if list[0] != NOP {
+        return 0;
+    }
+    let mut n = 0;
+    while 8 <= list.len() - n {
+        if number_octets::get_u32_little(list, n) != FOUR_NOPS {
+            return n;
+        }
+        if number_octets::get_u32_little(list, n + 4) != FOUR_NOPS {
+            return n;
+        }
+        n += 8;
+    }
+    n
+}
