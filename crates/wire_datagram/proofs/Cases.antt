@@ -7,8 +7,9 @@ use Prim.Native.Nat.{ℕ, _+_, _≤_}
 use native.Mathlib.Omega.{arith}
 use lib.Dec.{eqb}
 use lib.ListN.{length, drop, length-drop}
+use Rattle.wire_options.specs.declared.nops.Strictness.{Strictness}
 use Rattle.wire_options.specs.Walk.{Item, listed, walkFrom, optionLimit}
-use Rattle.wire_options.specs.declared.walk.Fault.the-variants.{Malformed as malformedList, Unsafe as unsafeList, FragData as fragData, Crowded as crowdedList, Tail as tailed}
+use Rattle.wire_options.specs.declared.walk.Fault.the-variants.{Malformed as malformedList, Unsafe as unsafeList, FragData as fragData, Crowded as crowdedList, Tail as tailed, Padded as paddedList}
 use Rattle.wire_area.specs.Area.{AreaWalk, plain, piece, fault, areaOf}
 use Rattle.wire_area.specs.declared.Fragment.{Fragment}
 use Rattle.wire_area.proofs.Areas.{area-plain}
@@ -19,7 +20,7 @@ use Rattle.wire_surplus.proofs.Starts.{start-list}
 use Rattle.wire_datagram.specs.Reading.{noData, udpLength, udpChecksum, optionless, walked, started, isOdd, accepted}
 use Rattle.wire_datagram.specs.declared.reading.Reading.{Reading}
 use Rattle.wire_datagram.specs.declared.reading.Verdict.{Verdict}
-use Rattle.wire_datagram.specs.declared.reading.Verdict.the-variants.{Bare, Short, Pad, Unsummed, BadSum, Malformed, Unsafe, FragData, Crowded, Tail, Read, Piece}
+use Rattle.wire_datagram.specs.declared.reading.Verdict.the-variants.{Bare, Short, Pad, Unsummed, BadSum, Malformed, Unsafe, FragData, Crowded, Tail, Padded, Read, Piece}
 
 -- neither "read" nor a piece
 abbrev pub Other : Verdict → Type 0
@@ -33,31 +34,34 @@ Other Unsafe = Unit {0}
 Other FragData = Unit {0}
 Other Crowded = Unit {0}
 Other Tail = Unit {0}
+Other Padded = Unit {0}
 Other Read = ⊥
 Other (Piece f) = ⊥
 
 module _
+    (how : Strictness)
     (P : Reading → Type 0)
     (p : List ℕ)
     (fits : udpLength p ≤ length p)
     (by-other : (end : ℕ) (verdict : Verdict) → Other verdict → P (optionless end verdict))
     (by-list : (from : ℕ) (items : List Item) (fill : ℕ) → from ≤ length p → walkFrom optionLimit 0 (drop from p) ≡ listed items fill
     → P (walked p (udpLength p) from (plain items fill)))
-    (by-piece : (from : ℕ) (f : Fragment) → from ≤ length p → areaOf (noData (udpLength p)) from (drop from p) ≡ piece f
+    (by-piece : (from : ℕ) (f : Fragment) → from ≤ length p → areaOf how (noData (udpLength p)) from (drop from p) ≡ piece f
     → P (optionless (udpLength p) (Piece f))) where
   abbrev size : ℕ
   size = udpLength p
 
-  walked-by : (from : ℕ) (w : AreaWalk) → from ≤ length p → areaOf (noData size) from (drop from p) ≡ w → P (walked p size from w)
-  walked-by from (plain items fill) h e = by-list from items fill h (area-plain (noData size) from (drop from p) items fill e)
+  walked-by : (from : ℕ) (w : AreaWalk) → from ≤ length p → areaOf how (noData size) from (drop from p) ≡ w → P (walked p size from w)
+  walked-by from (plain items fill) h e = by-list from items fill h (area-plain how (noData size) from (drop from p) items fill e)
   walked-by from (piece f) h e = by-piece from f h e
   walked-by from (fault malformedList) h e = by-other _ Malformed tt
   walked-by from (fault unsafeList) h e = by-other _ Unsafe tt
   walked-by from (fault fragData) h e = by-other _ FragData tt
   walked-by from (fault crowdedList) h e = by-other _ Crowded tt
   walked-by from (fault tailed) h e = by-other _ Tail tt
+  walked-by from (fault paddedList) h e = by-other _ Padded tt
 
-  started-by : (odd unused : Bool) (start : Start) → startOf odd unused (drop size p) ≡ start → P (started p size start)
+  started-by : (odd unused : Bool) (start : Start) → startOf odd unused (drop size p) ≡ start → P (started how p size start)
   started-by odd unused Empty e = by-other _ Bare tt
   started-by odd unused shortArea e = by-other _ Short tt
   started-by odd unused badPad e = by-other _ Pad tt
@@ -65,9 +69,9 @@ module _
   started-by odd unused badSum e = by-other _ BadSum tt
   started-by odd unused (ListAt at) e =
       let within : at ≤ length (drop size p) = start-list odd unused (drop size p) at e in
-      walked-by (size + at) (areaOf (noData size) (size + at) (drop (size + at) p)) (omega (arith, simp length-drop at within)) refl
+      walked-by (size + at) (areaOf how (noData size) (size + at) (drop (size + at) p)) (omega (arith, simp length-drop at within)) refl
 
-  pub accepted-by : P (accepted p)
+  pub accepted-by : P (accepted how p)
   unfolding accepted
   accepted-by =
       let odd : Bool = isOdd size in

@@ -15,6 +15,7 @@ use Rattle.number_tests.specs.Tests.{firstOf}
 use Rattle.number_octets.specs.Octets.{number, part}
 use Rattle.number_octets.proofs.Laws.{part-take}
 use Rattle.number_offsets.specs.Offsets.{udpHeader}
+use Rattle.wire_options.specs.declared.nops.Strictness.{Strictness}
 use Rattle.wire_options.specs.Walk.{Item, listed, walkFrom, optionLimit}
 use Rattle.wire_area.specs.Area.{AreaWalk, plain, piece, fault, areaOf}
 use Rattle.wire_area.specs.declared.Fragment.{Fragment}
@@ -49,24 +50,24 @@ walked-user p size from (plain items fill) = refl
 walked-user p size from (piece f) = refl
 walked-user p size from (fault f) = refl
 
-started-user : (p : List ℕ) (size : ℕ) (start : Start) → started p size start .user ≡ extent udpHeader size
-started-user p size Empty = refl
-started-user p size Short = refl
-started-user p size Pad = refl
-started-user p size Unsummed = refl
-started-user p size BadSum = refl
-started-user p size (ListAt at) = walked-user p size (size + at) (areaOf (noData size) (size + at) (drop (size + at) p))
+started-user : (how : Strictness) (p : List ℕ) (size : ℕ) (start : Start) → started how p size start .user ≡ extent udpHeader size
+started-user how p size Empty = refl
+started-user how p size Short = refl
+started-user how p size Pad = refl
+started-user how p size Unsummed = refl
+started-user how p size BadSum = refl
+started-user how p size (ListAt at) = walked-user p size (size + at) (areaOf how (noData size) (size + at) (drop (size + at) p))
 
-pub accepted-user : (p : List ℕ) → accepted p .user ≡ extent udpHeader (udpLength p)
+pub accepted-user : (how : Strictness) (p : List ℕ) → accepted how p .user ≡ extent udpHeader (udpLength p)
 unfolding accepted
-accepted-user p = started-user p (udpLength p) (startOf (isOdd (udpLength p)) (eqb (udpChecksum p) 0) (drop (udpLength p) p))
+accepted-user how p = started-user how p (udpLength p) (startOf (isOdd (udpLength p)) (eqb (udpChecksum p) 0) (drop (udpLength p) p))
 
 -- a payload that is read met no refusal, and its reading is the accepted one
-pub met-none : (p s d : List ℕ) (r : Reading) → reading p s d ≡ reads r → (firstOf (refusalTests p s d) ≡ none) × (accepted p ≡ r)
+pub met-none : (how : Strictness) (p s d : List ℕ) (r : Reading) → reading how p s d ≡ reads r → (firstOf (refusalTests p s d) ≡ none) × (accepted how p ≡ r)
 unfolding reading
-met-none p s d r = go (firstOf (refusalTests p s d)) refl
+met-none how p s d r = go (firstOf (refusalTests p s d)) refl
   where
-    go : (o : Option ℕ) → firstOf (refusalTests p s d) ≡ o → answered o (accepted p) ≡ reads r → (firstOf (refusalTests p s d) ≡ none) × (accepted p ≡ r)
+    go : (o : Option ℕ) → firstOf (refusalTests p s d) ≡ o → answered o (accepted how p) ≡ reads r → (firstOf (refusalTests p s d) ≡ none) × (accepted how p ≡ r)
     go none e q = (e, cc)
     go (some n) e q = absurd (let z : _≡_ {A = ℕ} 0 1 = cc in omega arith)
 
@@ -79,19 +80,19 @@ in-range p s d e =
     (ltb-false size udpHeader (third .0), ltb-false (length p) size (third .1))
 
 -- a reading by cases
-pub reading-by : (P : Reading → Type 0) (p s d : List ℕ) (r : Reading) → reading p s d ≡ reads r
+pub reading-by : (how : Strictness) (P : Reading → Type 0) (p s d : List ℕ) (r : Reading) → reading how p s d ≡ reads r
     → ((end : ℕ) (verdict : Verdict) → Other verdict → P (optionless end verdict))
     → ((from : ℕ) (items : List Item) (fill : ℕ) → from ≤ length p → walkFrom optionLimit 0 (drop from p) ≡ listed items fill
     → P (walked p (udpLength p) from (plain items fill)))
-    → ((from : ℕ) (f : Fragment) → from ≤ length p → areaOf (noData (udpLength p)) from (drop from p) ≡ piece f → P (optionless (udpLength p) (Piece f)))
+    → ((from : ℕ) (f : Fragment) → from ≤ length p → areaOf how (noData (udpLength p)) from (drop from p) ≡ piece f → P (optionless (udpLength p) (Piece f)))
     → P r
-reading-by P p s d r e by-other by-list by-piece =
-    let m = met-none p s d r e in
-    subst P (m .1) (accepted-by P p (in-range p s d (m .0) .1) by-other by-list by-piece)
+reading-by how P p s d r e by-other by-list by-piece =
+    let m = met-none how p s d r e in
+    subst P (m .1) (accepted-by how P p (in-range p s d (m .0) .1) by-other by-list by-piece)
 
 -- the user data of a reading is bytes 8 to L, whatever the verdict
-pub user-extent : (p s d : List ℕ) (r : Reading) → reading p s d ≡ reads r → r .user ≡ extent udpHeader (udpLength p)
-user-extent p s d r e = ap (λ (x : Reading). x .user) (sym (met-none p s d r e .1)) ∙ accepted-user p
+pub user-extent : (how : Strictness) (p s d : List ℕ) (r : Reading) → reading how p s d ≡ reads r → r .user ≡ extent udpHeader (udpLength p)
+user-extent how p s d r e = ap (λ (x : Reading). x .user) (sym (met-none how p s d r e .1)) ∙ accepted-user how p
 
 -- ---- options only with "read"
 
@@ -102,27 +103,27 @@ pub record Silent (r : Reading) : Type 0 where
   pub no-fill : r .fill ≡ 0
   pub no-apc : r .apc ≡ Absent
 
-pub options-only-with-read : (p s d : List ℕ) (r : Reading) → reading p s d ≡ reads r → (r .verdict ≡ Read) ⊎ Silent r
-options-only-with-read p s d r e =
-    reading-by (λ x. (x .verdict ≡ Read) ⊎ Silent x) p s d r e
+pub options-only-with-read : (how : Strictness) (p s d : List ℕ) (r : Reading) → reading how p s d ≡ reads r → (r .verdict ≡ Read) ⊎ Silent r
+options-only-with-read how p s d r e =
+    reading-by how (λ x. (x .verdict ≡ Read) ⊎ Silent x) p s d r e
     (λ end verdict o. inr (record { no-list = refl; no-count = refl; no-fill = refl; no-apc = refl }))
     (λ from items fill h w. inl refl)
     (λ from f h a. inr (record { no-list = refl; no-count = refl; no-fill = refl; no-apc = refl }))
 
 -- ---- user data survives
 
-pub record Survives (p q s d : List ℕ) (r : Reading) : Type 0 where
+pub record Survives (how : Strictness) (p q s d : List ℕ) (r : Reading) : Type 0 where
   pub other : Reading
-  pub is-read : reading q s d ≡ reads other
+  pub is-read : reading how q s d ≡ reads other
   pub same-user : other .user ≡ r .user
   pub same-bytes : part udpHeader (udpLength p - udpHeader) q ≡ part udpHeader (udpLength p - udpHeader) p
 
 -- Two payloads of one length that agree up to L: if the one is read so is the other, with the same user data.
-pub user-data-survives : (p q s d : List ℕ) (r : Reading) → reading p s d ≡ reads r → length q ≡ length p
-    → take (udpLength p) q ≡ take (udpLength p) p → Survives p q s d r
+pub user-data-survives : (how : Strictness) (p q s d : List ℕ) (r : Reading) → reading how p s d ≡ reads r → length q ≡ length p
+    → take (udpLength p) q ≡ take (udpLength p) p → Survives how p q s d r
 unfolding udpHeader reading
-user-data-survives p q s d r e n front =
-    let m = met-none p s d r e in
+user-data-survives how p q s d r e n front =
+    let m = met-none how p s d r e in
     let range = in-range p s d (m .0) in
     let L : ℕ = udpLength p in
     let same : (at k : ℕ) → at + k ≤ L → part at k q ≡ part at k p =
@@ -132,11 +133,11 @@ user-data-survives p q s d r e n front =
     let fronts : take (udpLength q) q ≡ take L p = ap (λ (k : ℕ). take k q) size ∙ front in
     let tests : refusalTests q s d ≡ refusalTests p s d = cc in
     record {
-      other = accepted q;
+      other = accepted how q;
       is-read = answered-none (ap firstOf tests ∙ m .0);
-      same-user = accepted-user q ∙ ap (extent udpHeader) size ∙ sym (user-extent p s d r e);
+      same-user = accepted-user how q ∙ ap (extent udpHeader) size ∙ sym (user-extent how p s d r e);
       same-bytes = same udpHeader (L - udpHeader) (omega arith);
     }
   where
-    answered-none : firstOf (refusalTests q s d) ≡ none → reading q s d ≡ reads (accepted q)
-    answered-none = ap (λ (o : Option ℕ). answered o (accepted q))
+    answered-none : firstOf (refusalTests q s d) ≡ none → reading how q s d ≡ reads (accepted how q)
+    answered-none = ap (λ (o : Option ℕ). answered o (accepted how q))

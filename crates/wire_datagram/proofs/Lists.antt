@@ -10,12 +10,13 @@ use lib.ListN.{length, drop, length-drop}
 use lib.Seq.{drop-drop}
 use Rattle.number_octets.specs.Octets.{part}
 use Rattle.number_octets.proofs.Laws.{part-rest}
+use Rattle.wire_options.specs.declared.nops.Strictness.{Strictness}
 use Rattle.wire_options.specs.Walk.{Item, listed, walkFrom, optionLimit}
 use Rattle.wire_options.proofs.Rests.{Fills}
 use Rattle.wire_options.proofs.Fills.{walk-fills}
 use Rattle.wire_datagram.specs.Reading.{reads, reading, isRead}
 use Rattle.wire_datagram.specs.declared.reading.Verdict.{Verdict}
-use Rattle.wire_datagram.specs.declared.reading.Verdict.the-variants.{Bare, Short, Pad, Unsummed, BadSum, Malformed, Unsafe, FragData, Crowded, Tail, Read, Piece}
+use Rattle.wire_datagram.specs.declared.reading.Verdict.the-variants.{Bare, Short, Pad, Unsummed, BadSum, Malformed, Unsafe, FragData, Crowded, Tail, Padded, Read, Piece}
 use Rattle.wire_datagram.specs.declared.reading.Reading.{Reading}
 use Rattle.wire_datagram.proofs.Cases.{Other}
 use Rattle.wire_datagram.proofs.Claims.{reading-by}
@@ -59,16 +60,17 @@ read-verdict Unsafe e = absurd (let z : _≡_ {A = ℕ} 0 1 = cc in omega arith)
 read-verdict FragData e = absurd (let z : _≡_ {A = ℕ} 0 1 = cc in omega arith)
 read-verdict Crowded e = absurd (let z : _≡_ {A = ℕ} 0 1 = cc in omega arith)
 read-verdict Tail e = absurd (let z : _≡_ {A = ℕ} 0 1 = cc in omega arith)
+read-verdict Padded e = absurd (let z : _≡_ {A = ℕ} 0 1 = cc in omega arith)
 read-verdict Read e = refl
 read-verdict (Piece f) e = absurd (let z : _≡_ {A = ℕ} 0 1 = cc in omega arith)
 
-pub reading-lists : (p s d : List ℕ) (r : Reading) → reading p s d ≡ reads r → r .verdict ≡ Read → ListsIn p r
-reading-lists p s d r e =
-    reading-by (λ x. x .verdict ≡ Read → ListsIn p x) p s d r e
+pub reading-lists : (how : Strictness) (p s d : List ℕ) (r : Reading) → reading how p s d ≡ reads r → r .verdict ≡ Read → ListsIn p r
+reading-lists how p s d r e =
+    reading-by how (λ x. x .verdict ≡ Read → ListsIn p x) p s d r e
     (λ end verdict o v. absurd (subst Other v o))
     (λ from items fill h w v. record { items = items; ordered = h; ends = refl; walks = w; counts = refl })
     (λ from f h a v. absurd (not-read (Piece f) refl v))
 
 -- Document 02, R-2: with "read" the fill is zero bytes throughout.
-pub reading-fill : (p s d : List ℕ) (r : Reading) → reading p s d ≡ reads r → r .verdict ≡ Read → Fills (r .options .from .0) p (r .fill)
-reading-fill p s d r e v = lists-fill p (r .options .from .0) (r .options .to .0) (r .count) (r .fill) (reading-lists p s d r e v)
+pub reading-fill : (how : Strictness) (p s d : List ℕ) (r : Reading) → reading how p s d ≡ reads r → r .verdict ≡ Read → Fills (r .options .from .0) p (r .fill)
+reading-fill how p s d r e v = lists-fill p (r .options .from .0) (r .options .to .0) (r .count) (r .fill) (reading-lists how p s d r e v)

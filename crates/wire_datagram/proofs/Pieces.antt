@@ -6,6 +6,7 @@ use Prim.Native.Nat.{ℕ, _+_, _≤_}
 use native.Mathlib.Omega.{arith}
 use lib.ListN.{length, drop, length-drop}
 use Rattle.number_offsets.specs.Offsets.{udpHeader}
+use Rattle.wire_options.specs.declared.nops.Strictness.{Strictness}
 use Rattle.wire_area.specs.Area.{piece}
 use Rattle.wire_area.specs.declared.Fragment.{Fragment}
 use Rattle.wire_area.proofs.Areas.{area-piece}
@@ -19,19 +20,19 @@ pub record Within (p : List ℕ) (f : Fragment) : Type 0 where
   pub starts : f .start .0 ≤ length p
   pub ends : f .end .0 ≡ length p
 
-pub piece-within : (p s d : List ℕ) (r : Reading) (f : Fragment) → reading p s d ≡ reads r → r .verdict ≡ Piece f → Within p f
-piece-within p s d r f e =
-    reading-by (λ x. x .verdict ≡ Piece f → Within p f) p s d r e
+pub piece-within : (how : Strictness) (p s d : List ℕ) (r : Reading) (f : Fragment) → reading how p s d ≡ reads r → r .verdict ≡ Piece f → Within p f
+piece-within how p s d r f e =
+    reading-by how (λ x. x .verdict ≡ Piece f → Within p f) p s d r e
     (λ end verdict o v. absurd (subst Other v o))
     (λ from items fill h w v. absurd (let z : _≡_ {A = ℕ} 0 1 = cc in omega arith))
     (λ from g h a v.
     let same : g ≡ f = cc in
-    let b = area-piece (noData (udpLength p)) from (drop from p) f (a ∙ ap piece same) in
+    let b = area-piece how (noData (udpLength p)) from (drop from p) f (a ∙ ap piece same) in
     let n : from + length (drop from p) ≡ length p = simp length-drop (omega arith) in
     record { starts = subst (λ (m : ℕ). f .start .0 ≤ m) n (b .starts); ends = b .ends ∙ n })
 
 -- a payload that is read has a whole header
-pub read-header : (p s d : List ℕ) (r : Reading) → reading p s d ≡ reads r → udpHeader ≤ length p
-read-header p s d r e =
-    let range = in-range p s d (met-none p s d r e .0) in
+pub read-header : (how : Strictness) (p s d : List ℕ) (r : Reading) → reading how p s d ≡ reads r → udpHeader ≤ length p
+read-header how p s d r e =
+    let range = in-range p s d (met-none how p s d r e .0) in
     omega (arith, range .0, range .1)

@@ -11,6 +11,7 @@ use lib.ListN.{length, take}
 use Rattle.number_tests.specs.Tests.{firstOf}
 use Rattle.number_offsets.specs.Offsets.{udpHeader}
 use Rattle.number_checksum.specs.Checksum.{wordSum, folded, allOnes}
+use Rattle.wire_options.specs.declared.nops.Strictness.{Strictness}
 use Rattle.wire_datagram.specs.Reading.{payloadLimit, udpLength, udpChecksum, pseudoHeader, accepted, refused, reads, reading}
 
 -- what refusals 1 to 3 leave of a payload
@@ -20,30 +21,30 @@ pub record Sized (payload : List ℕ) : Type 0 where
   pub header : udpHeader ≤ udpLength payload
   pub within : udpLength payload ≤ length payload
 
-module _ (p s d : List ℕ) where
-  -- the sum that refusal 4 looks at
-  abbrev pub sumOf : ℕ
-  sumOf = folded (wordSum false (pseudoHeader s d (udpLength p) ++ take (udpLength p) p))
+-- the sum that refusal 4 looks at
+abbrev pub sumOf : List ℕ → List ℕ → List ℕ → ℕ
+sumOf p s d = folded (wordSum false (pseudoHeader s d (udpLength p) ++ take (udpLength p) p))
 
-  pub refused-short : length p < udpHeader → reading p s d ≡ refused 1
+module _ (how : Strictness) (p s d : List ℕ) where
+  pub refused-short : length p < udpHeader → reading how p s d ≡ refused 1
   unfolding reading firstOf
   refused-short h = simp (lt-ltb (length p) udpHeader h)
 
-  pub refused-long : udpHeader ≤ length p → payloadLimit < length p → reading p s d ≡ refused 2
+  pub refused-long : udpHeader ≤ length p → payloadLimit < length p → reading how p s d ≡ refused 2
   unfolding reading firstOf
   refused-long g h = simp (le-ltb (length p) udpHeader g, lt-ltb payloadLimit (length p) h)
 
-  pub refused-small : udpHeader ≤ length p → length p ≤ payloadLimit → udpLength p < udpHeader → reading p s d ≡ refused 3
+  pub refused-small : udpHeader ≤ length p → length p ≤ payloadLimit → udpLength p < udpHeader → reading how p s d ≡ refused 3
   unfolding reading firstOf
   refused-small g h l = simp (le-ltb (length p) udpHeader g, le-ltb payloadLimit (length p) h, lt-ltb (udpLength p) udpHeader l)
 
-  pub refused-large : udpHeader ≤ length p → length p ≤ payloadLimit → udpHeader ≤ udpLength p → length p < udpLength p → reading p s d ≡ refused 3
+  pub refused-large : udpHeader ≤ length p → length p ≤ payloadLimit → udpHeader ≤ udpLength p → length p < udpLength p → reading how p s d ≡ refused 3
   unfolding reading firstOf
   refused-large g h l m =
       simp
       (le-ltb (length p) udpHeader g, le-ltb payloadLimit (length p) h, le-ltb (udpLength p) udpHeader l, lt-ltb (length p) (udpLength p) m)
 
-  pub refused-sum : Sized p → (udpChecksum p ≡ 0 → ⊥) → (sumOf ≡ allOnes → ⊥) → reading p s d ≡ refused 4
+  pub refused-sum : Sized p → (udpChecksum p ≡ 0 → ⊥) → (sumOf p s d ≡ allOnes → ⊥) → reading how p s d ≡ refused 4
   unfolding reading firstOf
   refused-sum z c w =
       simp (
@@ -52,10 +53,10 @@ module _ (p s d : List ℕ) where
         le-ltb (udpLength p) udpHeader (z .header),
         le-ltb (length p) (udpLength p) (z .within),
         ne-eqb (udpChecksum p) 0 c,
-        ne-eqb sumOf allOnes w,
+        ne-eqb (sumOf p s d) allOnes w,
       )
 
-  pub reading-accepted : Sized p → ((udpChecksum p ≡ 0) ⊎ (sumOf ≡ allOnes)) → reading p s d ≡ reads (accepted p)
+  pub reading-accepted : Sized p → ((udpChecksum p ≡ 0) ⊎ (sumOf p s d ≡ allOnes)) → reading how p s d ≡ reads (accepted how p)
   unfolding reading firstOf
   reading-accepted z (inl e) =
       simp (
@@ -71,6 +72,6 @@ module _ (p s d : List ℕ) where
         le-ltb payloadLimit (length p) (z .most),
         le-ltb (udpLength p) udpHeader (z .header),
         le-ltb (length p) (udpLength p) (z .within),
-        eq-eqb sumOf allOnes e,
+        eq-eqb (sumOf p s d) allOnes e,
         and-false (not (eqb (udpChecksum p) 0)),
       )

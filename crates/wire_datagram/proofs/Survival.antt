@@ -11,6 +11,7 @@ use borrow.Author.Tests.{eqb-true}
 use lib.ListN.{drop}
 use Rattle.number_offsets.specs.Offsets.{udpHeader}
 use Rattle.number_checksum.specs.Checksum.{allOnes}
+use Rattle.wire_options.specs.declared.nops.Strictness.{Strictness}
 use Rattle.wire_area.specs.Area.{piece, areaOf}
 use Rattle.wire_area.specs.declared.Fragment.{Fragment}
 use Rattle.wire_area.proofs.Areas.{data-not-piece}
@@ -24,39 +25,39 @@ use Rattle.wire_datagram.proofs.Refusals.{Sized, sumOf, reading-accepte
 -- ---- a piece has no user data
 
 -- the walk of such a list, by whether there is user data
-piece-empty : (size from : ℕ) (l : List ℕ) (f : Fragment) → areaOf (noData size) from l ≡ piece f → size ≡ udpHeader
-piece-empty size from l f = go (noData size) refl
+piece-empty : (how : Strictness) (size from : ℕ) (l : List ℕ) (f : Fragment) → areaOf how (noData size) from l ≡ piece f → size ≡ udpHeader
+piece-empty how size from l f = go (noData size) refl
   where
-    go : (t : Bool) → noData size ≡ t → areaOf t from l ≡ piece f → size ≡ udpHeader
+    go : (t : Bool) → noData size ≡ t → areaOf how t from l ≡ piece f → size ≡ udpHeader
     go true e q = eqb-true size udpHeader e
-    go false e q = absurd (data-not-piece from l f q)
+    go false e q = absurd (data-not-piece how from l f q)
 
 -- a payload that is read as a piece has no user data: its L is 8
-pub piece-has-none : (p s d : List ℕ) (r : Reading) (f : Fragment) → reading p s d ≡ reads r → r .verdict ≡ Piece f → udpLength p ≡ udpHeader
-piece-has-none p s d r f e =
-    reading-by (λ x. x .verdict ≡ Piece f → udpLength p ≡ udpHeader) p s d r e
+pub piece-has-none : (how : Strictness) (p s d : List ℕ) (r : Reading) (f : Fragment) → reading how p s d ≡ reads r → r .verdict ≡ Piece f → udpLength p ≡ udpHeader
+piece-has-none how p s d r f e =
+    reading-by how (λ x. x .verdict ≡ Piece f → udpLength p ≡ udpHeader) p s d r e
     (λ end verdict o v. absurd (subst Other v o))
     (λ from items fill h w v. absurd (let z : _≡_ {A = ℕ} 0 1 = cc in omega arith))
-    (λ from g h a v. piece-empty (udpLength p) from (drop from p) g a)
+    (λ from g h a v. piece-empty how (udpLength p) from (drop from p) g a)
 
 -- ---- the claim
 
 -- what a payload is read as: its user data is bytes 8 to L, and it is no piece where there are any
-pub record Kept (p s d : List ℕ) : Type 0 where
+pub record Kept (how : Strictness) (p s d : List ℕ) : Type 0 where
   pub back : Reading
-  pub is-read : reading p s d ≡ reads back
+  pub is-read : reading how p s d ≡ reads back
   pub user : back .user ≡ extent udpHeader (udpLength p)
   pub no-piece : udpHeader < udpLength p → (f : Fragment) → back .verdict ≡ Piece f → ⊥
   pub piece-alone : (f : Fragment) → back .verdict ≡ Piece f → udpLength p ≡ udpHeader
 
 -- `Sized`: 1 to 3 let the payload pass; `sumOf` is the sum that 4 looks at.
-pub user-data-kept : (p s d : List ℕ) → Sized p → (udpChecksum p ≡ 0) ⊎ (sumOf p s d ≡ allOnes) → Kept p s d
-user-data-kept p s d sized sum =
-    let is = reading-accepted p s d sized sum in
+pub user-data-kept : (how : Strictness) (p s d : List ℕ) → Sized p → (udpChecksum p ≡ 0) ⊎ (sumOf p s d ≡ allOnes) → Kept how p s d
+user-data-kept how p s d sized sum =
+    let is = reading-accepted how p s d sized sum in
     record {
-      back = accepted p;
+      back = accepted how p;
       is-read = is;
-      user = accepted-user p;
-      no-piece = λ more f v. let none : udpLength p ≡ udpHeader = piece-has-none p s d (accepted p) f is v in omega arith;
-      piece-alone = λ f v. piece-has-none p s d (accepted p) f is v;
+      user = accepted-user how p;
+      no-piece = λ more f v. let none : udpLength p ≡ udpHeader = piece-has-none how p s d (accepted how p) f is v in omega arith;
+      piece-alone = λ f v. piece-has-none how p s d (accepted how p) f is v;
     }

@@ -13,8 +13,9 @@ use Rattle.number_crc32c.specs.Crc.{crcOf}
 use Rattle.wire_options.specs.Kinds.{apc}
 use Rattle.wire_options.specs.Walk.{Item}
 use Rattle.wire_area.specs.Area.{AreaWalk, plain, piece, fault, areaOf}
+use Rattle.wire_options.specs.declared.nops.Strictness.{Strictness}
 use Rattle.wire_options.specs.declared.walk.Fault.{Fault}
-use Rattle.wire_options.specs.declared.walk.Fault.the-variants.{Malformed as malformedList, Unsafe as unsafeList, FragData as fragData, Crowded as crowdedList, Tail as tailed}
+use Rattle.wire_options.specs.declared.walk.Fault.the-variants.{Malformed as malformedList, Unsafe as unsafeList, FragData as fragData, Crowded as crowdedList, Tail as tailed, Padded as paddedList}
 use Rattle.wire_surplus.specs.Surplus.{startOf}
 use Rattle.wire_surplus.specs.declared.Start.{Start}
 use Rattle.wire_surplus.specs.declared.Start.the-variants.{
@@ -29,7 +30,7 @@ use Rattle.wire_datagram.specs.declared.reading.Extent.{Extent}
 use Rattle.wire_datagram.specs.declared.reading.Apc.{Apc}
 use Rattle.wire_datagram.specs.declared.reading.Apc.the-variants.{Absent, Right, Wrong}
 use Rattle.wire_datagram.specs.declared.reading.Verdict.{Verdict}
-use Rattle.wire_datagram.specs.declared.reading.Verdict.the-variants.{Bare, Short, Pad, Unsummed, BadSum, Malformed, Unsafe, FragData, Crowded, Tail, Read, Piece}
+use Rattle.wire_datagram.specs.declared.reading.Verdict.the-variants.{Bare, Short, Pad, Unsummed, BadSum, Malformed, Unsafe, FragData, Crowded, Tail, Padded, Read, Piece}
 use Rattle.wire_datagram.specs.declared.reading.Reading.{Reading}
 use Rattle.wire_datagram.specs.declared.reading.Refusal.{Refusal}
 use Rattle.wire_datagram.specs.declared.reading.Refusal.the-variants.{PayloadTooShort, PayloadTooLong, LengthOutOfRange, ChecksumWrong}
@@ -102,6 +103,7 @@ verdictOf unsafeList = Unsafe
 verdictOf fragData = FragData
 verdictOf crowdedList = Crowded
 verdictOf tailed = Tail
+verdictOf paddedList = Padded
 
 -- the reading after the walk of a list at packet offset `from`
 abbrev pub walked : List ℕ → ℕ → ℕ → AreaWalk → Reading
@@ -120,24 +122,24 @@ walked payload size from (fault f) = optionless size (verdictOf f)
 abbrev pub noData : ℕ → Bool
 noData size = eqb size udpHeader
 
-abbrev pub started : List ℕ → ℕ → Start → Reading
-started payload size Empty = optionless size Bare
-started payload size shortArea = optionless size Short
-started payload size badPad = optionless size Pad
-started payload size noSum = optionless size Unsummed
-started payload size badSum = optionless size BadSum
-started payload size (ListAt at) =
-    walked payload size (size + at) (areaOf (noData size) (size + at) (drop (size + at) payload))
+abbrev pub started : Strictness → List ℕ → ℕ → Start → Reading
+started how payload size Empty = optionless size Bare
+started how payload size shortArea = optionless size Short
+started how payload size badPad = optionless size Pad
+started how payload size noSum = optionless size Unsummed
+started how payload size badSum = optionless size BadSum
+started how payload size (ListAt at) =
+    walked payload size (size + at) (areaOf how (noData size) (size + at) (drop (size + at) payload))
 
 -- whether an offset is odd
 abbrev pub isOdd : ℕ → Bool
 isOdd n = eqb (n % 2) 1
 
 -- the reading of a payload that no refusal meets; the area is what stands behind the UDP length
-unfoldable pub accepted : List ℕ → Reading
-accepted payload =
+unfoldable pub accepted : Strictness → List ℕ → Reading
+accepted how payload =
     let size = udpLength payload in
-    started payload size (startOf (isOdd size) (eqb (udpChecksum payload) 0) (drop size payload))
+    started how payload size (startOf (isOdd size) (eqb (udpChecksum payload) 0) (drop size payload))
 
 -- ---- the answer
 
@@ -150,9 +152,9 @@ abbrev pub answered : Option ℕ → Reading → Answer
 answered none reading = reads reading
 answered (some number) reading = refused number
 
--- demand 2's reading of a payload
-unfoldable pub reading : List ℕ → List ℕ → List ℕ → Answer
-reading payload source destination = answered (firstOf (refusalTests payload source destination)) (accepted payload)
+-- demand 2's reading of a payload, plain or strict
+unfoldable pub reading : Strictness → List ℕ → List ℕ → List ℕ → Answer
+reading how payload source destination = answered (firstOf (refusalTests payload source destination)) (accepted how payload)
 
 -- the paper's number of each refusal
 abbrev pub refusalNumber : Refusal → ℕ
@@ -177,5 +179,6 @@ isRead Unsafe = false
 isRead FragData = false
 isRead Crowded = false
 isRead Tail = false
+isRead Padded = false
 isRead Read = true
 isRead (Piece fragment) = false

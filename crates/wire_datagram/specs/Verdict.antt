@@ -6,7 +6,7 @@ use Rattle.wire_area.specs.declared.Fragment.{Fragment}
 use Rattle.wire_datagram.specs.declared.reading.Apc.{Apc}
 use Rattle.wire_datagram.specs.declared.reading.Apc.the-variants.{Absent, Right, Wrong}
 use Rattle.wire_datagram.specs.declared.reading.Verdict.{Verdict}
-use Rattle.wire_datagram.specs.declared.reading.Verdict.the-variants.{Bare, Short, Pad, Unsummed, BadSum, Malformed, Unsafe, FragData, Crowded, Tail, Read, Piece}
+use Rattle.wire_datagram.specs.declared.reading.Verdict.the-variants.{Bare, Short, Pad, Unsummed, BadSum, Malformed, Unsafe, FragData, Crowded, Tail, Padded, Read, Piece}
 
 -- ---- the words, as lists of ASCII characters
 
@@ -50,6 +50,10 @@ crowdedWord = 99 ∷ 114 ∷ 111 ∷ 119 ∷ 100 ∷ 101 ∷ 100 ∷ []
 abbrev pub tailWord : List ℕ
 tailWord = 116 ∷ 97 ∷ 105 ∷ 108 ∷ []
 
+-- padded
+abbrev pub paddedWord : List ℕ
+paddedWord = 112 ∷ 97 ∷ 100 ∷ 100 ∷ 101 ∷ 100 ∷ []
+
 -- read
 abbrev pub readWord : List ℕ
 readWord = 114 ∷ 101 ∷ 97 ∷ 100 ∷ []
@@ -76,8 +80,8 @@ pub record Said (Values : Type 0) : Type 0 where
 abbrev said : ℕ → List ℕ → Said (Option Fragment)
 said number word = record { number = number; word = word; values = none }
 
--- "The verdict is the first of these that applies": numbered in that order from 0, and "tail", which came later, behind them all, so that the
--- other numbers stay. "piece" has a fragment.
+-- "The verdict is the first of these that applies": numbered in that order from 0, and "tail" and "padded", which came later, behind them all, so
+-- that the other numbers stay. "piece" has a fragment.
 abbrev pub verdictSays : Verdict → Said (Option Fragment)
 verdictSays Bare = said 0 noneWord
 verdictSays Short = said 1 shortWord
@@ -89,6 +93,7 @@ verdictSays Unsafe = said 6 unsafeWord
 verdictSays FragData = said 7 fragdataWord
 verdictSays Crowded = said 8 crowdedWord
 verdictSays Tail = said 11 tailWord
+verdictSays Padded = said 12 paddedWord
 verdictSays Read = said 9 readWord
 verdictSays (Piece fragment) = record { number = 10; word = pieceWord; values = some fragment }
 

@@ -5,6 +5,7 @@ use number_offsets::PacketOffset;
 use number_offsets::UDP_HEADER;
 use wire_area::Area;
 use wire_area::Fragment;
+use wire_options::nops::Strictness;
 use wire_options::walk::Apcs;
 use wire_options::walk::Fault;
 use wire_surplus::Start;
@@ -53,6 +54,7 @@ pub enum Verdict {
     Read,
     Piece(Fragment),
     Tail,
+    Padded,
 }
 
 pub struct Reading {
@@ -79,15 +81,25 @@ pub enum Outcome {
 }
 
 // Reads one IPv4 payload.
-pub fn read(payload: &[u8], source: [u8; 4], destination: [u8; 4]) -> Outcome
-    ensures { λ r. ⌜ answerOf r ≡ reading (now (payload .entry)) source destination ⌝ }
+pub fn read(
+    payload: &[u8],
+    source: [u8; 4],
+    destination: [u8; 4],
+    strictness: Strictness,
+) -> Outcome
+    ensures { λ r. ⌜ answerOf r ≡ reading strictness (now (payload .entry)) source destination ⌝ }
 {
-    parts::outcome_of(examine(payload, source, destination))
+    parts::outcome_of(examine(payload, source, destination, strictness))
 }
 
 // The same, in parts.
-pub fn examine(payload: &[u8], source: [u8; 4], destination: [u8; 4]) -> Examined
-    ensures { λ r. ⌜ answerOf (outcomeOf r) ≡ reading (now (payload .entry)) source destination ⌝ }
+pub fn examine(
+    payload: &[u8],
+    source: [u8; 4],
+    destination: [u8; 4],
+    strictness: Strictness,
+) -> Examined
+    ensures { λ r. ⌜ answerOf (outcomeOf r) ≡ reading strictness (now (payload .entry)) source destination ⌝ }
 {
     if payload.len() < UDP_HEADER {
         return Examined::Refused(Refusal::PayloadTooShort);
@@ -108,7 +120,12 @@ pub fn examine(payload: &[u8], source: [u8; 4], destination: [u8; 4]) -> Examine
             return Examined::Refused(Refusal::ChecksumWrong);
         }
     }
-    Examined::Accepted(parts::parts_of(accept(payload, size, checksum == 0)))
+    Examined::Accepted(parts::parts_of(accept(
+        payload,
+        size,
+        checksum == 0,
+        strictness,
+    )))
 }
 
 // The sum over the pseudo-header and a datagram.
@@ -135,9 +152,9 @@ pub fn pseudo_sum(source: [u8; 4], destination: [u8; 4], size: usize) -> u64
 }
 
 // The reading of a payload that no refusal meets. `unused`: the UDP checksum is zero.
-fn accept(payload: &[u8], size: usize, unused: bool) -> Reading
+fn accept(payload: &[u8], size: usize, unused: bool, strictness: Strictness) -> Reading
     requires { ⌜ (udpHeader ≤ size) × (size ≤ length (now payload)) × (length (now payload) ≤ payloadLimit) ⌝ }
-    ensures { λ r. ⌜ r ≡ started (now (payload .entry)) size (startOf (isOdd size) unused (drop size (now (payload .entry)))) ⌝ }
+    ensures { λ r. ⌜ r ≡ started strictness (now (payload .entry)) size (startOf (isOdd size) unused (drop size (now (payload .entry)))) ⌝ }
 {
     let start = wire_surplus::start_of(&payload[size..], size % 2 == 1, unused);
     match start {
@@ -146,17 +163,17 @@ fn accept(payload: &[u8], size: usize, unused: bool) -> Reading
         Start::Pad => optionless(size, Verdict::Pad),
         Start::Unsummed => optionless(size, Verdict::Unsummed),
         Start::BadSum => optionless(size, Verdict::BadSum),
-        Start::List(at) => listed(payload, size, PacketOffset(size + at)),
+        Start::List(at) => listed(payload, size, PacketOffset(size + at), strictness),
     }
 }
 
 // The reading whose option list starts at `from`.
-fn listed(payload: &[u8], size: usize, from: PacketOffset) -> Reading
+fn listed(payload: &[u8], size: usize, from: PacketOffset, strictness: Strictness) -> Reading
     requires { ⌜ (udpHeader ≤ size) × (size ≤ from .0) × (from .0 ≤ length (now payload)) ⌝ }
-    ensures { λ r. ⌜ r ≡ walked (now (payload .entry)) size (from .0) (areaOf (noData size) (from .0) (drop (from .0) (now (payload .entry)))) ⌝ }
+    ensures { λ r. ⌜ r ≡ walked (now (payload .entry)) size (from .0) (areaOf strictness (noData size) (from .0) (drop (from .0) (now (payload .entry)))) ⌝ }
 {
     let at = from.0;
-    let list = wire_area::walk_area(&payload[at..], from, size == UDP_HEADER);
+    let list = wire_area::walk_area(&payload[at..], from, size == UDP_HEADER, strictness);
     match list {
         Area::Listed { count, fill, apcs } => Reading {
             user: Extent {
@@ -202,6 +219,7 @@ fn verdict_of(fault: Fault) -> Verdict
         Fault::FragData => Verdict::FragData,
         Fault::Crowded => Verdict::Crowded,
         Fault::Tail => Verdict::Tail,
+        Fault::Padded => Verdict::Padded,
     }
 }
 
@@ -220,6 +238,7 @@ pub fn is_read(verdict: Verdict) -> bool
         Verdict::FragData => false,
         Verdict::Crowded => false,
         Verdict::Tail => false,
+        Verdict::Padded => false,
         Verdict::Read => true,
         Verdict::Piece(_) => false,
     }

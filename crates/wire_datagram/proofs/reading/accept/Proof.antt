@@ -75,8 +75,8 @@ optionless-requires-5 c κs = search needs
 enum-known-start : tie.Need-enum-known-start
 enum-known-start c = search needs
 
-add-t18 : tie.Need-add-t18
-add-t18 c = omega (arith, within c)
+add-t19 : tie.Need-add-t19
+add-t19 c = omega (arith, within c)
 
 listed-requires : tie.Need-listed-requires
 listed-requires c κs = (c .before .before .before .before .before .before .pre .0, omega arith, within c)
@@ -84,32 +84,32 @@ listed-requires c κs = (c .before .before .before .before .before .before .pre 
 returns : tie.Need-returns
 returns c =
     let a = c .before .before .before .before .before .before .args in
-    c .optionless .ensures ∙ ap (started (a .payload .now) (a .size)) (sym (begun (c .before .before .before) ∙ c .before .enum-told .given .1))
+    c .optionless .ensures ∙ ap (started (a .strictness) (a .payload .now) (a .size)) (sym (begun (c .before .before .before) ∙ c .before .enum-told .given .1))
 
 returns-2 : tie.Need-returns-2
 returns-2 c =
     let a = c .before .before .before .before .before .before .args in
-    c .optionless2 .ensures ∙ ap (started (a .payload .now) (a .size)) (sym (begun (c .before .before .before) ∙ c .before .enum-told2 .given .1))
+    c .optionless2 .ensures ∙ ap (started (a .strictness) (a .payload .now) (a .size)) (sym (begun (c .before .before .before) ∙ c .before .enum-told2 .given .1))
 
 returns-3 : tie.Need-returns-3
 returns-3 c =
     let a = c .before .before .before .before .before .before .args in
-    c .optionless3 .ensures ∙ ap (started (a .payload .now) (a .size)) (sym (begun (c .before .before .before) ∙ c .before .enum-told3 .given .1))
+    c .optionless3 .ensures ∙ ap (started (a .strictness) (a .payload .now) (a .size)) (sym (begun (c .before .before .before) ∙ c .before .enum-told3 .given .1))
 
 returns-4 : tie.Need-returns-4
 returns-4 c =
     let a = c .before .before .before .before .before .before .args in
-    c .optionless4 .ensures ∙ ap (started (a .payload .now) (a .size)) (sym (begun (c .before .before .before) ∙ c .before .enum-told4 .given .1))
+    c .optionless4 .ensures ∙ ap (started (a .strictness) (a .payload .now) (a .size)) (sym (begun (c .before .before .before) ∙ c .before .enum-told4 .given .1))
 
 returns-5 : tie.Need-returns-5
 returns-5 c =
     let a = c .before .before .before .before .before .before .args in
-    c .optionless5 .ensures ∙ ap (started (a .payload .now) (a .size)) (sym (begun (c .before .before .before) ∙ c .before .enum-told5 .given .1))
+    c .optionless5 .ensures ∙ ap (started (a .strictness) (a .payload .now) (a .size)) (sym (begun (c .before .before .before) ∙ c .before .enum-told5 .given .1))
 
 returns-6 : tie.Need-returns-6
 returns-6 c =
     let a = c .before .before .before .before .before .before .before .args in
-    c .listed .ensures ∙ ap (started (a .payload .now) (a .size)) (sym (begun (c .before .before .before .before) ∙ c .before .before .start .given .1))
+    c .listed .ensures ∙ ap (started (a .strictness) (a .payload .now) (a .size)) (sym (begun (c .before .before .before .before) ∙ c .before .before .start .given .1))
 
 pub accept-spec : {M : Type 1} → statement M
 accept-spec =
@@ -130,7 +130,7 @@ accept-spec =
     enum-told-5
     optionless-requires-5
     enum-known-start
-    add-t18
+    add-t19
     listed-requires
     returns
     returns-2

@@ -36,13 +36,13 @@ returns : tie.Need-returns
 unfolding udpHeader
 returns c =
     let a = c .before .before .args in
-    sym (refused-short (a .payload .now) (a .source) (a .destination) (c .if1 .taken))
+    sym (refused-short (a .strictness) (a .payload .now) (a .source) (a .destination) (c .if1 .taken))
 
 returns-2 : tie.Need-returns-2
 unfolding udpHeader payloadLimit
 returns-2 c =
     let a = c .before .before .before .args in
-    sym (refused-long (a .payload .now) (a .source) (a .destination) (c .before .if1 .left) (c .if2 .taken))
+    sym (refused-long (a .strictness) (a .payload .now) (a .source) (a .destination) (c .before .if1 .left) (c .if2 .taken))
 
 get-u16-requires : tie.Need-get-u16-requires
 get-u16-requires c κs = search needs
@@ -55,14 +55,14 @@ unfolding udpHeader payloadLimit
 returns-3 c =
     let a = c .before .before .before .before .before .args in
     let e = c .before .get-u16 .ensures in
-    sym (refused-small (a .payload .now) (a .source) (a .destination) (c .before .before .before .if1 .left) (c .before .before .if2 .left) (omega arith))
+    sym (refused-small (a .strictness) (a .payload .now) (a .source) (a .destination) (c .before .before .before .if1 .left) (c .before .before .if2 .left) (omega arith))
 
 returns-4 : tie.Need-returns-4
 unfolding udpHeader payloadLimit
 returns-4 c =
     let a = c .before .before .before .before .before .before .args in
     let e = c .before .before .get-u16 .ensures in
-    sym (refused-large (a .payload .now) (a .source) (a .destination) (c .before .before .before .before .if1 .left)
+    sym (refused-large (a .strictness) (a .payload .now) (a .source) (a .destination) (c .before .before .before .before .if1 .left)
     (c .before .before .before .if2 .left) (omega arith) (omega arith))
 
 get-u16-requires-2 : tie.Need-get-u16-requires-2
@@ -84,7 +84,7 @@ returns-5 c =
     let e = place .before .before .before .get-u16 .ensures in
     let z = sized place in
     let sum = sum-is (a .payload .now) (a .source) (a .destination) _ _ e (omega (arith, z .within)) (c .before .udp-sum .ensures) in
-    sym (refused-sum (a .payload .now) (a .source) (a .destination) z (λ n. c .before .before .before .if5 .taken (place .get-u162 .ensures ∙ n))
+    sym (refused-sum (a .strictness) (a .payload .now) (a .source) (a .destination) z (λ n. c .before .before .before .if5 .taken (place .get-u162 .ensures ∙ n))
     (λ n. c .if6 .taken (sum ∙ n)))
 
 accept-requires : tie.Need-accept-requires
@@ -106,8 +106,8 @@ returns-6 c =
     let e = place .before .before .before .get-u16 .ensures in
     let k = place .get-u162 .ensures in
     ap reads (c .parts-of .ensures ∙ d .accept .ensures
-    ∙ ap₂ (λ (n m : ℕ). started (a .payload .now) n (startOf (isOdd n) (eqb m 0) (drop n (a .payload .now)))) e k)
-    ∙ sym (reading-accepted (a .payload .now) (a .source) (a .destination) z
+    ∙ ap₂ (λ (n m : ℕ). started (a .strictness) (a .payload .now) n (startOf (isOdd n) (eqb m 0) (drop n (a .payload .now)))) e k)
+    ∙ sym (reading-accepted (a .strictness) (a .payload .now) (a .source) (a .destination) z
     (⊎-elim
     (λ w. inr (sym (sum-is (a .payload .now) (a .source) (a .destination) _ _ e (omega (arith, z .within)) (w .2 .ensures)) ∙ w .3 .left))
     (λ w. inl (sym k ∙ w .left))

@@ -19,12 +19,12 @@ use Rattle.wire_datagram.proofs.reading.listed.Tie as tie
 
 -- the walk was made of the list behind `from`
 area : (c : tie.After-walk-area) → let a = c .before .before .before .args in
-    areaAnswer (areaOf (noData (a .size)) (a .from .0) (drop (a .from .0) (a .payload .now))) ≡ c .walk-area .result
+    areaAnswer (areaOf (a .strictness) (noData (a .size)) (a .from .0) (drop (a .from .0) (a .payload .now))) ≡ c .walk-area .result
 unfolding udpHeader
 area c =
     let a = c .before .before .before .args in
     sym (c .walk-area .ensures
-    ∙ ap (λ (t : List ℕ). areaAnswer (areaOf (noData (a .size)) (a .from .0) t)) (part-rest (a .from .0) (a .payload .now)))
+    ∙ ap (λ (t : List ℕ). areaAnswer (areaOf (a .strictness) (noData (a .size)) (a .from .0) t)) (part-rest (a .from .0) (a .payload .now)))
 
 sub-walk-area : tie.Need-sub-walk-area
 sub-walk-area c = search needs
@@ -87,7 +87,7 @@ returns c =
       apc = (c .apc-of .ensures) i;
     }) (refl)
     ∙ ap (readingBy (a .payload .now) (a .size) (a .from .0)) (sym (area place ∙ list .1))
-    ∙ reading-by-answer (a .payload .now) (a .size) (a .from .0) (areaOf (noData (a .size)) (a .from .0) (drop (a .from .0) (a .payload .now)))
+    ∙ reading-by-answer (a .payload .now) (a .size) (a .from .0) (areaOf (a .strictness) (noData (a .size)) (a .from .0) (drop (a .from .0) (a .payload .now)))
 
 returns-2 : tie.Need-returns-2
 unfolding udpHeader
@@ -96,7 +96,7 @@ returns-2 c =
     let place = c .before .before .before .before in
     c .optionless .ensures
     ∙ ap (readingBy (a .payload .now) (a .size) (a .from .0)) (sym (area place ∙ c .before .before .list2 .given .1))
-    ∙ reading-by-answer (a .payload .now) (a .size) (a .from .0) (areaOf (noData (a .size)) (a .from .0) (drop (a .from .0) (a .payload .now)))
+    ∙ reading-by-answer (a .payload .now) (a .size) (a .from .0) (areaOf (a .strictness) (noData (a .size)) (a .from .0) (drop (a .from .0) (a .payload .now)))
 
 returns-3 : tie.Need-returns-3
 unfolding udpHeader
@@ -105,7 +105,7 @@ returns-3 c =
     let place = c .before .before .before .before .before in
     c .optionless2 .ensures ∙ ap (optionless (a .size)) (c .before .verdict-of .ensures)
     ∙ ap (readingBy (a .payload .now) (a .size) (a .from .0)) (sym (area place ∙ c .before .before .before .list3 .given .1))
-    ∙ reading-by-answer (a .payload .now) (a .size) (a .from .0) (areaOf (noData (a .size)) (a .from .0) (drop (a .from .0) (a .payload .now)))
+    ∙ reading-by-answer (a .payload .now) (a .size) (a .from .0) (areaOf (a .strictness) (noData (a .size)) (a .from .0) (drop (a .from .0) (a .payload .now)))
 
 pub listed-spec : {M : Type 1} → statement M
 listed-spec =
