@@ -3,3 +3,4 @@ pub mod Lists
 pub mod Refusals
 pub mod Rereadings
 pub mod Rereads
+pub mod Stricts

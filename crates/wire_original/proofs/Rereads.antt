@@ -10,13 +10,16 @@ use Prim.Native.Nat.{ℕ, _+_}
 use lib.ListN.{drop}
 use Rattle.number_tests.specs.Tests.{firstOf}
 use Rattle.number_offsets.specs.Offsets.{udpHeader}
-use Rattle.wire_options.specs.Walk.{Walked, listed, faulty, walkFrom, optionLimit}
+use Rattle.wire_options.specs.declared.nops.Strictness.{Strictness}
+use Rattle.wire_options.specs.Walk.{Walked, listed, faulty, optionLimit}
+use Rattle.wire_options.specs.Strict.{walkBy}
 use Rattle.wire_options.specs.declared.walk.Fault.the-variants.{
   Malformed as malformedList,
   Unsafe as unsafeList,
   FragData as fragData,
   Crowded as crowdedList,
   Tail as tailed,
+  Padded as paddedList,
 }
 use Rattle.wire_surplus.specs.Surplus.{startOf}
 use Rattle.wire_datagram.specs.Reading.{isOdd}
@@ -32,7 +35,7 @@ use Rattle.wire_surplus.specs.declared.Start.the-variants.{
 }
 use Rattle.wire_datagram.specs.declared.reading.Apc.the-variants.{Absent}
 use Rattle.wire_datagram.specs.declared.reading.Verdict.{Verdict}
-use Rattle.wire_datagram.specs.declared.reading.Verdict.the-variants.{Bare, Short, Pad, Unsummed, BadSum, Malformed, FragData, Crowded, Tail, Read}
+use Rattle.wire_datagram.specs.declared.reading.Verdict.the-variants.{Bare, Short, Pad, Unsummed, BadSum, Malformed, FragData, Crowded, Tail, Padded, Read}
 use Rattle.wire_original.specs.declared.Rereading.{Rereading}
 
 -- nothing is reported of the area
@@ -64,22 +67,23 @@ rewalked-by original r from (faulty malformedList) = optionless-by r Malformed
 rewalked-by original r from (faulty fragData) = optionless-by r FragData
 rewalked-by original r from (faulty crowdedList) = optionless-by r Crowded
 rewalked-by original r from (faulty tailed) = optionless-by r Tail
+rewalked-by original r from (faulty paddedList) = optionless-by r Padded
 
-restarted-by : (original : List ℕ) (r : ℕ) (start : Start) → RereadBy r (restarted original r start)
-restarted-by original r Empty = optionless-by r Bare
-restarted-by original r shortArea = optionless-by r Short
-restarted-by original r badPad = optionless-by r Pad
-restarted-by original r noSum = optionless-by r Unsummed
-restarted-by original r badSum = optionless-by r BadSum
-restarted-by original r (ListAt at) = rewalked-by original r (r + at) (walkFrom optionLimit 0 (drop (r + at) original))
+restarted-by : (how : Strictness) (original : List ℕ) (r : ℕ) (start : Start) → RereadBy r (restarted how original r start)
+restarted-by how original r Empty = optionless-by r Bare
+restarted-by how original r shortArea = optionless-by r Short
+restarted-by how original r badPad = optionless-by r Pad
+restarted-by how original r noSum = optionless-by r Unsummed
+restarted-by how original r badSum = optionless-by r BadSum
+restarted-by how original r (ListAt at) = rewalked-by original r (r + at) (walkBy how optionLimit 0 (drop (r + at) original))
 
-pub reread-claims : (original : List ℕ) (r : ℕ) (x : Rereading) → rereading original r ≡ rereads x → Reread r x
+pub reread-claims : (how : Strictness) (original : List ℕ) (r : ℕ) (x : Rereading) → rereading how original r ≡ rereads x → Reread r x
 unfolding rereading
-reread-claims original r x e = subst (RereadBy r) e (go (firstOf (reTests original r)))
+reread-claims how original r x e = subst (RereadBy r) e (go (firstOf (reTests original r)))
   where
     start : Start
     start = startOf (isOdd (udpHeader + r)) true (drop r original)
 
-    go : (o : Option ℕ) → RereadBy r (reAnswered o (restarted original r start))
-    go none = restarted-by original r start
+    go : (o : Option ℕ) → RereadBy r (reAnswered o (restarted how original r start))
+    go none = restarted-by how original r start
     go (some n) = tt

@@ -7,9 +7,11 @@ use lib.Dec.{ltb}
 use lib.ListN.{length, take, drop}
 use Rattle.number_tests.specs.Tests.{firstOf}
 use Rattle.number_offsets.specs.Offsets.{udpHeader}
-use Rattle.wire_options.specs.Walk.{Walked, listed, faulty, walkFrom, optionLimit}
+use Rattle.wire_options.specs.Walk.{Walked, listed, faulty, optionLimit}
+use Rattle.wire_options.specs.Strict.{walkBy}
+use Rattle.wire_options.specs.declared.nops.Strictness.{Strictness}
 use Rattle.wire_options.specs.declared.walk.Fault.{Fault}
-use Rattle.wire_options.specs.declared.walk.Fault.the-variants.{Malformed as malformedList, Unsafe as unsafeList, FragData as fragData, Crowded as crowdedList, Tail as tailed}
+use Rattle.wire_options.specs.declared.walk.Fault.the-variants.{Malformed as malformedList, Unsafe as unsafeList, FragData as fragData, Crowded as crowdedList, Tail as tailed, Padded as paddedList}
 use Rattle.wire_surplus.specs.Surplus.{startOf}
 use Rattle.wire_datagram.specs.Reading.{apcValues, apcOf, isOdd}
 use Rattle.wire_surplus.specs.declared.Start.{Start}
@@ -23,7 +25,7 @@ use Rattle.wire_surplus.specs.declared.Start.the-variants.{
 }
 use Rattle.wire_datagram.specs.declared.reading.Apc.the-variants.{Absent}
 use Rattle.wire_datagram.specs.declared.reading.Verdict.{Verdict}
-use Rattle.wire_datagram.specs.declared.reading.Verdict.the-variants.{Bare, Short, Pad, Unsummed, BadSum, Malformed, FragData, Crowded, Tail, Read}
+use Rattle.wire_datagram.specs.declared.reading.Verdict.the-variants.{Bare, Short, Pad, Unsummed, BadSum, Malformed, FragData, Crowded, Tail, Padded, Read}
 use Rattle.wire_original.specs.declared.OriginalExtent.{OriginalExtent}
 use Rattle.wire_original.specs.declared.Rereading.{Rereading}
 use Rattle.wire_original.specs.declared.RereadRefusal.{RereadRefusal}
@@ -54,6 +56,7 @@ originalFaulty r malformedList = originalOptionless r Malformed
 originalFaulty r fragData = originalOptionless r FragData
 originalFaulty r crowdedList = originalOptionless r Crowded
 originalFaulty r tailed = originalOptionless r Tail
+originalFaulty r paddedList = originalOptionless r Padded
 
 -- the list starts at place `from`; FRAG has no place in it
 abbrev pub rewalked : List ℕ → ℕ → ℕ → Walked → ReAnswer
@@ -67,13 +70,13 @@ rewalked original r from (listed items fill) = rereads (record {
 })
 rewalked original r from (faulty fault) = originalFaulty r fault
 
-abbrev pub restarted : List ℕ → ℕ → Start → ReAnswer
-restarted original r Empty = originalOptionless r Bare
-restarted original r shortArea = originalOptionless r Short
-restarted original r badPad = originalOptionless r Pad
-restarted original r noSum = originalOptionless r Unsummed
-restarted original r badSum = originalOptionless r BadSum
-restarted original r (ListAt at) = rewalked original r (r + at) (walkFrom optionLimit 0 (drop (r + at) original))
+abbrev pub restarted : Strictness → List ℕ → ℕ → Start → ReAnswer
+restarted how original r Empty = originalOptionless r Bare
+restarted how original r shortArea = originalOptionless r Short
+restarted how original r badPad = originalOptionless r Pad
+restarted how original r noSum = originalOptionless r Unsummed
+restarted how original r badSum = originalOptionless r BadSum
+restarted how original r (ListAt at) = rewalked original r (r + at) (walkBy how optionLimit 0 (drop (r + at) original))
 
 abbrev pub reTests : List ℕ → ℕ → List (Bool × ℕ)
 reTests original r = (ltb originalLimit (length original), 2) ∷ (ltb (length original) r, 6) ∷ []
@@ -82,10 +85,10 @@ abbrev pub reAnswered : Option ℕ → ReAnswer → ReAnswer
 reAnswered none answer = answer
 reAnswered (some number) answer = refused number
 
--- An original of T bytes with option start r: the area is r to T, its parity that of 8 + r, the UDP checksum taken as zero.
-unfoldable pub rereading : List ℕ → ℕ → ReAnswer
-rereading original r =
-    reAnswered (firstOf (reTests original r)) (restarted original r (startOf (isOdd (udpHeader + r)) true (drop r original)))
+-- An original of T bytes with option start r: the area is r to T, its parity that of 8 + r, the UDP checksum taken as zero. Plain or strict.
+unfoldable pub rereading : Strictness → List ℕ → ℕ → ReAnswer
+rereading how original r =
+    reAnswered (firstOf (reTests original r)) (restarted how original r (startOf (isOdd (udpHeader + r)) true (drop r original)))
 
 -- the paper's number of each refusal
 abbrev pub reRefusalNumber : RereadRefusal → ℕ

@@ -3,6 +3,7 @@ use number_offsets::OriginalOffset;
 use wire_datagram::reading;
 use wire_datagram::reading::Apc;
 use wire_datagram::reading::Verdict;
+use wire_options::nops::Strictness;
 use wire_options::walk;
 use wire_options::walk::Fault;
 use wire_options::walk::Walk;
@@ -10,7 +11,8 @@ use wire_surplus::Start;
 ghost use mathlib.Core.Path.{_≡_};
 ghost use Prim.Native.Nat.{_≤_};
 ghost use lib.ListN.{length, drop};
-ghost use Rattle.wire_options.specs.Walk.{walkFrom, optionLimit};
+ghost use Rattle.wire_options.specs.Walk.{optionLimit};
+ghost use Rattle.wire_options.specs.Strict.{walkBy};
 ghost use Rattle.wire_original.specs.Rereading.{originalOptionless, originalFaulty, rewalked, rereading, reAnswerOf};
 
 // The largest payload less a UDP header.
@@ -46,8 +48,12 @@ pub enum RereadOutcome {
 }
 
 // Reads a reassembled original whose options start at `option_start`, document 01's r.
-pub fn reread(original: &[u8], option_start: OriginalOffset) -> RereadOutcome
-    ensures { λ r. ⌜ reAnswerOf r ≡ rereading (now (original .entry)) («option_start» .0) ⌝ }
+pub fn reread(
+    original: &[u8],
+    option_start: OriginalOffset,
+    strictness: Strictness,
+) -> RereadOutcome
+    ensures { λ r. ⌜ reAnswerOf r ≡ rereading strictness (now (original .entry)) («option_start» .0) ⌝ }
 {
     let r = option_start.0;
     if ORIGINAL_LIMIT < original.len() {
@@ -63,18 +69,23 @@ pub fn reread(original: &[u8], option_start: OriginalOffset) -> RereadOutcome
         Start::Pad => optionless(option_start, Verdict::Pad),
         Start::Unsummed => optionless(option_start, Verdict::Unsummed),
         Start::BadSum => optionless(option_start, Verdict::BadSum),
-        Start::List(at) => relisted(original, option_start, OriginalOffset(r + at)),
+        Start::List(at) => relisted(original, option_start, OriginalOffset(r + at), strictness),
     }
 }
 
 // The rereading whose option list starts at `from`.
-fn relisted(original: &[u8], r: OriginalOffset, from: OriginalOffset) -> RereadOutcome
+fn relisted(
+    original: &[u8],
+    r: OriginalOffset,
+    from: OriginalOffset,
+    strictness: Strictness,
+) -> RereadOutcome
     requires { ⌜ (r .0 ≤ from .0) × (from .0 ≤ length (now original)) ⌝ }
-    ensures { λ a. ⌜ reAnswerOf a ≡ rewalked (now (original .entry)) (r .0) (from .0) (walkFrom optionLimit 0 (drop (from .0) (now (original .entry)))) ⌝ }
+    ensures { λ a. ⌜ reAnswerOf a ≡ rewalked (now (original .entry)) (r .0) (from .0) (walkBy strictness optionLimit 0 (drop (from .0) (now (original .entry)))) ⌝ }
 {
     let at = from.0;
     let user_end = r.0;
-    let list = walk::walk_list(&original[at..], walk::OPTION_LIMIT);
+    let list = walk::walk_list(&original[at..], walk::OPTION_LIMIT, strictness);
     match list {
         Walk::Listed { count, fill, apcs } => RereadOutcome::Accepted(Rereading {
             user: OriginalExtent {
@@ -103,6 +114,7 @@ fn faulty(r: OriginalOffset, fault: Fault) -> RereadOutcome
         Fault::FragData => optionless(r, Verdict::FragData),
         Fault::Crowded => optionless(r, Verdict::Crowded),
         Fault::Tail => optionless(r, Verdict::Tail),
+        Fault::Padded => optionless(r, Verdict::Padded),
     }
 }
 

@@ -33,6 +33,12 @@ enum-told-5 c = search needs
 optionless-requires-4 : tie.Need-optionless-requires-4
 optionless-requires-4 c κs = search needs
 
+enum-told-6 : tie.Need-enum-told-6
+enum-told-6 c = search needs
+
+optionless-requires-5 : tie.Need-optionless-requires-5
+optionless-requires-5 c κs = search needs
+
 returns : tie.Need-returns
 returns c = ap (originalFaulty (c .before .before .args .r .0)) (sym (c .enum-told .given .1))
 
@@ -48,6 +54,9 @@ returns-4 c = c .optionless3 .ensures ∙ ap (originalFaulty (c .before .before 
 returns-5 : tie.Need-returns-5
 returns-5 c = c .optionless4 .ensures ∙ ap (originalFaulty (c .before .before .before .args .r .0)) (sym (c .before .enum-told5 .given .1))
 
+returns-6 : tie.Need-returns-6
+returns-6 c = c .optionless5 .ensures ∙ ap (originalFaulty (c .before .before .before .args .r .0)) (sym (c .before .enum-told6 .given .1))
+
 pub faulty-spec : {M : Type 1} → statement M
 faulty-spec =
     tie.close
@@ -61,8 +70,11 @@ faulty-spec =
     optionless-requires-3
     enum-told-5
     optionless-requires-4
+    enum-told-6
+    optionless-requires-5
     returns
     returns-2
     returns-3
     returns-4
-    returns-5)
+    returns-5
+    returns-6)

@@ -6,7 +6,8 @@ use Prim.Native.Nat.{ℕ}
 use native.Mathlib.Omega.{arith}
 use lib.ListN.{length, drop, length-take}
 use Rattle.number_octets.proofs.Laws.{part-rest}
-use Rattle.wire_options.specs.Walk.{walkFrom, optionLimit, walkAnswer}
+use Rattle.wire_options.specs.Walk.{optionLimit, walkAnswer}
+use Rattle.wire_options.specs.Strict.{walkBy}
 use Rattle.wire_options.specs.declared.walk.Walk.the-variants.{Listed as WalkListed}
 use Rattle.wire_original.specs.Rereading.{places, rereads}
 use Rattle.wire_original.specs.ByWalk.{rewalkedBy}
@@ -18,11 +19,11 @@ use Rattle.wire_original.proofs.relisted.Tie as tie
 
 -- the walk was made of the list behind `from`
 walk : (c : tie.After-walk-list) → let a = c .before .before .before .args in
-    walkAnswer (walkFrom optionLimit 0 (drop (a .from .0) (a .original .now))) ≡ c .walk-list .result
+    walkAnswer (walkBy (a .strictness) optionLimit 0 (drop (a .from .0) (a .original .now))) ≡ c .walk-list .result
 unfolding optionLimit
 walk c =
     let a = c .before .before .before .args in
-    sym (c .walk-list .ensures ∙ ap (λ (t : List ℕ). walkAnswer (walkFrom 32 0 t)) (part-rest (a .from .0) (a .original .now)))
+    sym (c .walk-list .ensures ∙ ap (λ (t : List ℕ). walkAnswer (walkBy (a .strictness) 32 0 t)) (part-rest (a .from .0) (a .original .now)))
 
 sub-walk-list : tie.Need-sub-walk-list
 sub-walk-list c = search needs
@@ -67,7 +68,7 @@ returns c =
       apc = (c .apc-of .ensures) i;
     })) refl
     ∙ ap (rewalkedBy (a .original .now) (a .r .0) (a .from .0)) (sym (walk place ∙ list .1))
-    ∙ rereading-by-answer (a .original .now) (a .r .0) (a .from .0) (walkFrom optionLimit 0 (drop (a .from .0) (a .original .now)))
+    ∙ rereading-by-answer (a .original .now) (a .r .0) (a .from .0) (walkBy (a .strictness) optionLimit 0 (drop (a .from .0) (a .original .now)))
 
 returns-2 : tie.Need-returns-2
 returns-2 c =
@@ -75,7 +76,7 @@ returns-2 c =
     let place = c .before .before .before .before in
     c .faulty .ensures
     ∙ ap (rewalkedBy (a .original .now) (a .r .0) (a .from .0)) (sym (walk place ∙ c .before .before .list2 .given .1))
-    ∙ rereading-by-answer (a .original .now) (a .r .0) (a .from .0) (walkFrom optionLimit 0 (drop (a .from .0) (a .original .now)))
+    ∙ rereading-by-answer (a .original .now) (a .r .0) (a .from .0) (walkBy (a .strictness) optionLimit 0 (drop (a .from .0) (a .original .now)))
 
 pub relisted-spec : {M : Type 1} → statement M
 relisted-spec =

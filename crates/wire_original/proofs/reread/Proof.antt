@@ -31,9 +31,9 @@ begun c =
     ∙ ap (λ (n : ℕ). startOf (eqb n 1) true (drop r l)) (sym parity))
 
 taken : (c : tie.After-start-of) → let a = c .before .before .before .before .before .args in let r = a .option-start .0 in
-    rereading (a .original .now) r ≡ restarted (a .original .now) r (startOf (isOdd (udpHeader + r)) true (drop r (a .original .now)))
+    rereading (a .strictness) (a .original .now) r ≡ restarted (a .strictness) (a .original .now) r (startOf (isOdd (udpHeader + r)) true (drop r (a .original .now)))
 unfolding originalLimit
-taken c = let a = c .before .before .before .before .before .args in re-accepted (a .original .now) (a .option-start .0)
+taken c = let a = c .before .before .before .before .before .args in re-accepted (a .strictness) (a .original .now) (a .option-start .0)
     (c .before .before .before .if1 .left) (c .before .before .if2 .left)
 
 -- where the list starts is within the original
@@ -50,13 +50,13 @@ returns : tie.Need-returns
 unfolding originalLimit
 returns c =
     let a = c .before .before .args in
-    sym (re-long (a .original .now) (a .option-start .0) (c .if1 .taken))
+    sym (re-long (a .strictness) (a .original .now) (a .option-start .0) (c .if1 .taken))
 
 returns-2 : tie.Need-returns-2
 unfolding originalLimit
 returns-2 c =
     let a = c .before .before .before .args in
-    sym (re-past (a .original .now) (a .option-start .0) (c .before .if1 .left) (c .if2 .taken))
+    sym (re-past (a .strictness) (a .original .now) (a .option-start .0) (c .before .if1 .left) (c .if2 .taken))
 
 sub-start-of : tie.Need-sub-start-of
 sub-start-of c = search needs
@@ -103,8 +103,8 @@ optionless-requires-5 c κs = search needs
 enum-known-start : tie.Need-enum-known-start
 enum-known-start c = search needs
 
-add-t20 : tie.Need-add-t20
-add-t20 c = omega (arith, within c)
+add-t21 : tie.Need-add-t21
+add-t21 c = omega (arith, within c)
 
 relisted-requires : tie.Need-relisted-requires
 relisted-requires c κs =
@@ -116,38 +116,38 @@ relisted-requires c κs =
 returns-3 : tie.Need-returns-3
 returns-3 c =
     let a = c .before .before .before .before .before .before .before .before .args in
-    c .optionless .ensures ∙ ap (restarted (a .original .now) (a .option-start .0))
+    c .optionless .ensures ∙ ap (restarted (a .strictness) (a .original .now) (a .option-start .0))
     (sym (begun (c .before .before .before) ∙ c .before .enum-told .given .1)) ∙ sym (taken (c .before .before .before))
 
 returns-4 : tie.Need-returns-4
 returns-4 c =
     let a = c .before .before .before .before .before .before .before .before .args in
-    c .optionless2 .ensures ∙ ap (restarted (a .original .now) (a .option-start .0))
+    c .optionless2 .ensures ∙ ap (restarted (a .strictness) (a .original .now) (a .option-start .0))
     (sym (begun (c .before .before .before) ∙ c .before .enum-told2 .given .1)) ∙ sym (taken (c .before .before .before))
 
 returns-5 : tie.Need-returns-5
 returns-5 c =
     let a = c .before .before .before .before .before .before .before .before .args in
-    c .optionless3 .ensures ∙ ap (restarted (a .original .now) (a .option-start .0))
+    c .optionless3 .ensures ∙ ap (restarted (a .strictness) (a .original .now) (a .option-start .0))
     (sym (begun (c .before .before .before) ∙ c .before .enum-told3 .given .1)) ∙ sym (taken (c .before .before .before))
 
 returns-6 : tie.Need-returns-6
 returns-6 c =
     let a = c .before .before .before .before .before .before .before .before .args in
-    c .optionless4 .ensures ∙ ap (restarted (a .original .now) (a .option-start .0))
+    c .optionless4 .ensures ∙ ap (restarted (a .strictness) (a .original .now) (a .option-start .0))
     (sym (begun (c .before .before .before) ∙ c .before .enum-told4 .given .1)) ∙ sym (taken (c .before .before .before))
 
 returns-7 : tie.Need-returns-7
 returns-7 c =
     let a = c .before .before .before .before .before .before .before .before .args in
-    c .optionless5 .ensures ∙ ap (restarted (a .original .now) (a .option-start .0))
+    c .optionless5 .ensures ∙ ap (restarted (a .strictness) (a .original .now) (a .option-start .0))
     (sym (begun (c .before .before .before) ∙ c .before .enum-told5 .given .1)) ∙ sym (taken (c .before .before .before))
 
 returns-8 : tie.Need-returns-8
 returns-8 c =
     let a = c .before .before .before .before .before .before .before .before .before .args in
     let place = c .before .before .before .before in
-    c .relisted .ensures ∙ ap (restarted (a .original .now) (a .option-start .0)) (sym (begun place ∙ c .before .before .start .given .1)) ∙ sym (taken place)
+    c .relisted .ensures ∙ ap (restarted (a .strictness) (a .original .now) (a .option-start .0)) (sym (begun place ∙ c .before .before .start .given .1)) ∙ sym (taken place)
 
 pub reread-spec : {M : Type 1} → statement M
 reread-spec =
@@ -170,7 +170,7 @@ reread-spec =
     enum-told-5
     optionless-requires-5
     enum-known-start
-    add-t20
+    add-t21
     relisted-requires
     returns-3
     returns-4
