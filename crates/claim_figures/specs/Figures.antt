@@ -5,6 +5,7 @@ use mathlib.Core.Bool.{Bool, true, false}
 use mathlib.Core.List.{List, [], _∷_, map}
 use lib.ListN.{take, drop, replicate}
 use Rattle.number_varint.specs.SevenBit.{encoded}
+use Rattle.wire_options.specs.declared.nops.Strictness.the-variants.{Plain}
 use Rattle.wire_surplus.specs.Surplus.{ocsOf}
 use Rattle.wire_datagram.specs.Reading as Reading
 use Rattle.wire_datagram.specs.Reading.{udpLength, isOdd, reading}
@@ -68,7 +69,7 @@ judged (Reading.reads r) = verdict (r .verdict)
 
 -- a payload with this UDP length and no UDP checksum is read: ports, length, checksum, and what stands behind the header
 abbrev pub read : ℕ → List ℕ → Line
-read size behind = judged (reading (0x12 ∷ 0x34 ∷ 0x00 ∷ 0x35 ∷ 0x00 ∷ size ∷ 0x00 ∷ 0x00 ∷ behind) source destination)
+read size behind = judged (reading Plain (0x12 ∷ 0x34 ∷ 0x00 ∷ 0x35 ∷ 0x00 ∷ size ∷ 0x00 ∷ 0x00 ∷ behind) source destination)
 
 -- ---- the table
 

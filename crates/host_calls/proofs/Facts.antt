@@ -68,7 +68,11 @@ pub offers : (k : ℕ) (f : Fragment) (bytes out : List ℕ) (t : Table.Table) {
 offers k f bytes out t {inner = inner} {records = records} {store = store} {left = left} is h says =
     leaves (subst (Offered k bytes out t inner records store left) is h) says
 
-pub receives : {o : Receive.Receipt} {inner : Receiver.Received} {answer : Received} {records : List Client} {store out : List ℕ}
-    → Receive.Leaves o inner records store out → answer ≡ hostFate (fateIn inner) → Receives o answer records store out
-receives h says =
-    record { answers = says ∙ ap hostFate (h .answers); records-left = h .records-left; store-left = h .store-left; out-left = h .out-left }
+pub receives : {o o′ : Receive.Receipt} {inner : Receiver.Received} {answer : Received} {records : List Client} {store out : List ℕ}
+    → o ≡ o′ → Receive.Leaves o inner records store out → answer ≡ hostFate (fateIn inner) → Receives o′ answer records store out
+receives same h says = record {
+  answers = says ∙ ap hostFate (h .answers ∙ ap (λ (x : Receive.Receipt). x .fate) same);
+  records-left = h .records-left ∙ ap (λ (x : Receive.Receipt). x .table .records) same;
+  store-left = h .store-left ∙ ap (λ (x : Receive.Receipt). x .table .store) same;
+  out-left = h .out-left ∙ ap (λ (x : Receive.Receipt). x .out) same;
+}

@@ -26,27 +26,39 @@ ghost use Rattle.table_calls.specs.Table.{tableOf, resetOn, askOn};
 ghost use Rattle.table_receiver.specs.Receive.{receiveOn};
 ghost use Rattle.host_readings.specs.Reading.{hostReading, hostRereading};
 ghost use Rattle.host_readings.specs.Listable.{verdictFor};
+ghost use Rattle.host_readings.specs.Setting.{strictnessFor};
 ghost use Rattle.host_values.specs.Answer.{arrivalFrom};
 ghost use Rattle.host_calls.specs.Left.{recordSize, Lists, Writes, Leaves, Receives};
 
 // ---- reading
 
-// Reads one IPv4 payload.
+// Reads one IPv4 payload, plainly if `strictness` is 0, else strictly.
 #[no_mangle]
-pub extern "C" fn wuraketozo_read(payload: &[u8], source: Address, destination: Address) -> Reading
-    ensures { λ r. ⌜ r ≡ hostReading (reading (now (payload .entry)) (source .octets) (destination .octets)) ⌝ }
+pub extern "C" fn wuraketozo_read(
+    payload: &[u8],
+    source: Address,
+    destination: Address,
+    strictness: u32,
+) -> Reading
+    ensures { λ r. ⌜ r ≡ hostReading (reading (strictnessFor strictness) (now (payload .entry)) (source .octets) (destination .octets)) ⌝ }
 {
     let from = source.octets;
     let to = destination.octets;
-    host_readings::reading_of(parts::outcome_of(reading::examine(payload, from, to)))
+    let how = host_readings::strictness_for(strictness);
+    host_readings::reading_of(parts::outcome_of(reading::examine(payload, from, to, how)))
 }
 
-// Reads an original again that was put together from fragments.
+// Reads an original again that was put together from fragments, plainly or strictly.
 #[no_mangle]
-pub extern "C" fn wuraketozo_reread(original: &[u8], option_start: OriginalOffset) -> Rereading
-    ensures { λ r. ⌜ r ≡ hostRereading (rereading (now (original .entry)) («option_start» .0)) ⌝ }
+pub extern "C" fn wuraketozo_reread(
+    original: &[u8],
+    option_start: OriginalOffset,
+    strictness: u32,
+) -> Rereading
+    ensures { λ r. ⌜ r ≡ hostRereading (rereading (strictnessFor strictness) (now (original .entry)) («option_start» .0)) ⌝ }
 {
-    host_readings::rereading_of(wire_original::reread(original, option_start))
+    let how = host_readings::strictness_for(strictness);
+    host_readings::rereading_of(wire_original::reread(original, option_start, how))
 }
 
 // ---- option lists and payloads
@@ -123,7 +135,7 @@ pub extern "C" fn wuraketozo_record_size() -> usize
 // The same under a name that has the number of the header's layout. The header and the wrapper for Rust refer to it, so that a host that was
 // compiled for another layout does not link. The number goes up with every change of a struct or of a call's arguments.
 #[no_mangle]
-pub extern "C" fn wuraketozo_layout_2() -> usize
+pub extern "C" fn wuraketozo_layout_3() -> usize
     ensures { λ r. ⌜ r ≡ recordSize ⌝ }
 {
     wuraketozo_record_size()
@@ -207,7 +219,7 @@ pub extern "C" fn wuraketozo_account(records: &[Client], store: &[u8], k: usize)
 
 // ---- one call for each datagram
 
-// Reads a payload that arrived for client `k` and, if it is a fragment, offers it.
+// Reads a payload that arrived for client `k`, plainly or strictly, and, if it is a fragment, offers it.
 #[no_mangle]
 pub extern "C" fn wuraketozo_receive(
     records: &mut [Client],
@@ -216,13 +228,15 @@ pub extern "C" fn wuraketozo_receive(
     time: u64,
     source: Address,
     destination: Address,
+    strictness: u32,
     payload: &[u8],
     out: &mut [u8],
 ) -> Received
-    ensures { λ r. ⌜ Receives (receiveOn k (record { time = time; source = source .octets; destination = destination .octets; payload = now (payload .entry) }) (now (out .entry)) (tableOf (now (records .entry)) (now (store .entry)))) r (now (records .exit)) (now (store .exit)) (now (out .exit)) ⌝ }
+    ensures { λ r. ⌜ Receives (receiveOn k (record { time = time; source = source .octets; destination = destination .octets; strictness = strictnessFor strictness; payload = now (payload .entry) }) (now (out .entry)) (tableOf (now (records .entry)) (now (store .entry)))) r (now (records .exit)) (now (store .exit)) (now (out .exit)) ⌝ }
 {
     let from = source.octets;
     let to = destination.octets;
-    let received = table_receiver::receive(records, store, k, time, from, to, payload, out);
+    let how = host_readings::strictness_for(strictness);
+    let received = table_receiver::receive(records, store, k, time, from, to, how, payload, out);
     host_values::received_of(received)
 }

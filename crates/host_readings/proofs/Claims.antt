@@ -9,7 +9,9 @@ use lib.Dec.{eqb, ltb}
 use lib.ListN.{length, take, drop}
 use Rattle.number_tests.specs.Tests.{firstOf}
 use Rattle.number_offsets.specs.Offsets.{udpHeader}
-use Rattle.wire_options.specs.Walk.{Walked, listed, faulty, walkFrom, optionLimit}
+use Rattle.wire_options.specs.declared.nops.Strictness.{Strictness}
+use Rattle.wire_options.specs.Strict.{walkBy}
+use Rattle.wire_options.specs.Walk.{Walked, listed, faulty, optionLimit}
 use Rattle.wire_options.specs.declared.walk.Fault.{Fault}
 use Rattle.wire_options.specs.declared.walk.Fault.the-variants as Met
 use Rattle.wire_area.specs.declared.Fragment.{Fragment}
@@ -34,6 +36,7 @@ use Rattle.wire_datagram.specs.declared.reading.Verdict.the-variants.{
   FragData,
   Crowded,
   Tail,
+  Padded,
   Read as Listed,
   Piece,
 }
@@ -62,7 +65,8 @@ verdictFrom n f =
     (cond (eqb n 7) FragData
     (cond (eqb n 8) Crowded
     (cond (eqb n 9) Listed
-    (cond (eqb n 11) Tail (Piece f)))))))))))
+    (cond (eqb n 11) Tail
+    (cond (eqb n 12) Padded (Piece f))))))))))))
 
 abbrev pub fragmentFrom : Reading → Fragment
 fragmentFrom v = record {
@@ -120,6 +124,7 @@ verdict-recovered Unsafe = refl
 verdict-recovered FragData = refl
 verdict-recovered Crowded = refl
 verdict-recovered Tail = refl
+verdict-recovered Padded = refl
 verdict-recovered Listed = refl
 verdict-recovered (Piece f) = refl
 
@@ -160,6 +165,7 @@ faulty-recovered r Met.Unsafe = refl
 faulty-recovered r Met.FragData = refl
 faulty-recovered r Met.Crowded = refl
 faulty-recovered r Met.Tail = refl
+faulty-recovered r Met.Padded = refl
 
 walked-recovered : (original : List ℕ) (r from : ℕ) (w : Walked) → Recovered (Reread.rewalked original r from w)
 walked-recovered original r from (listed items fill) =
@@ -173,13 +179,13 @@ walked-recovered original r from (listed items fill) =
     })) (apc-recovered (Read.apcOf (take r original) (Read.apcValues items)))
 walked-recovered original r from (faulty f) = faulty-recovered r f
 
-started-recovered : (original : List ℕ) (r : ℕ) (s : Start) → Recovered (Reread.restarted original r s)
-started-recovered original r Begun.Empty = refl
-started-recovered original r Begun.Short = refl
-started-recovered original r Begun.Pad = refl
-started-recovered original r Begun.Unsummed = refl
-started-recovered original r Begun.BadSum = refl
-started-recovered original r (Begun.List at) = walked-recovered original r (r + at) (walkFrom optionLimit 0 (drop (r + at) original))
+started-recovered : (how : Strictness) (original : List ℕ) (r : ℕ) (s : Start) → Recovered (Reread.restarted how original r s)
+started-recovered how original r Begun.Empty = refl
+started-recovered how original r Begun.Short = refl
+started-recovered how original r Begun.Pad = refl
+started-recovered how original r Begun.Unsummed = refl
+started-recovered how original r Begun.BadSum = refl
+started-recovered how original r (Begun.List at) = walked-recovered original r (r + at) (walkBy how optionLimit 0 (drop (r + at) original))
 
 tested-recovered : (long past : Bool) (a : Reread.ReAnswer) → Recovered a → Recovered (Reread.reAnswered (firstOf ((long, 2) ∷ (past, 6) ∷ [])) a)
 unfolding firstOf
@@ -187,8 +193,9 @@ tested-recovered true past a h = refl
 tested-recovered false true a h = refl
 tested-recovered false false a h = h
 
-pub rereading-recovered : (original : List ℕ) (r : ℕ) → reAnswerFrom (hostRereading (Reread.rereading original r)) ≡ Reread.rereading original r
+pub rereading-recovered : (how : Strictness) (original : List ℕ) (r : ℕ)
+    → reAnswerFrom (hostRereading (Reread.rereading how original r)) ≡ Reread.rereading how original r
 unfolding Reread.rereading
-rereading-recovered original r =
+rereading-recovered how original r =
     tested-recovered (ltb Reread.originalLimit (length original)) (ltb (length original) r) _
-    (started-recovered original r (startOf (Read.isOdd (udpHeader + r)) true (drop r original)))
+    (started-recovered how original r (startOf (Read.isOdd (udpHeader + r)) true (drop r original)))

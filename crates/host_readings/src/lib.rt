@@ -9,6 +9,7 @@ use wire_datagram::reading::Extent;
 use wire_datagram::reading::Outcome;
 use wire_datagram::reading::Refusal;
 use wire_datagram::reading::Verdict;
+use wire_options::nops::Strictness;
 use wire_original::OriginalExtent;
 use wire_original::RereadOutcome;
 use wire_original::RereadRefusal;
@@ -19,6 +20,7 @@ ghost use Rattle.wire_original.specs.Rereading.{places, reAnswerOf, reRefusalNu
 ghost use Rattle.host_readings.specs.Reading.{flagOf, noFragment, fragmentIn, unread, unreread, readingFrom, rereadingFrom};
 ghost use Rattle.host_readings.specs.Reading.{hostReading, hostRereading};
 ghost use Rattle.host_readings.specs.Listable.{verdictFor, readingFor, rereadingFor};
+ghost use Rattle.host_readings.specs.Setting.{strictnessFor};
 
 // What `wuraketozo_read` answers.
 #[repr(C)]
@@ -52,6 +54,16 @@ pub struct Rereading {
 // The number of a verdict with which options are listed.
 const READ: u32 = 9;
 
+// How a host asks to read: 0 is plain, any other number strict.
+pub fn strictness_for(number: u32) -> Strictness
+    ensures { λ r. ⌜ r ≡ strictnessFor number ⌝ }
+{
+    if number == 0 {
+        return Strictness::Plain;
+    }
+    Strictness::Strict
+}
+
 fn flag(b: bool) -> u32
     ensures { λ r. ⌜ r ≡ flagOf b ⌝ }
 {
@@ -72,6 +84,7 @@ fn verdict_number(verdict: Verdict) -> u32
         Verdict::FragData => 7,
         Verdict::Crowded => 8,
         Verdict::Tail => 11,
+        Verdict::Padded => 12,
         Verdict::Read => READ,
         Verdict::Piece(_) => 10,
     }
@@ -136,6 +149,7 @@ fn fragment_in(verdict: Verdict) -> wire_area::Fragment
         Verdict::FragData => no_fragment(),
         Verdict::Crowded => no_fragment(),
         Verdict::Tail => no_fragment(),
+        Verdict::Padded => no_fragment(),
         Verdict::Read => no_fragment(),
         Verdict::Piece(fragment) => fragment,
     }

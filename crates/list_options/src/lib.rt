@@ -1,5 +1,6 @@
 // Listing the options of a datagram as an encoded option list.
 use number_varint::Encoded;
+use wire_options::nops::Strictness;
 use wire_options::step;
 use wire_options::step::Step;
 use wire_options::walk;
@@ -34,7 +35,7 @@ enum Content {
 pub fn list_options(options: &[u8], buffer: &mut [u8]) -> Listed
     ensures { λ r. ⌜ ListedInto (walkFrom optionLimit 0 (now (options .entry))) (now (buffer .entry)) r (now (buffer .exit)) ⌝ }
 {
-    let walked = walk::walk_list(options, walk::OPTION_LIMIT);
+    let walked = walk::walk_list(options, walk::OPTION_LIMIT, Strictness::Plain);
     match walked {
         Walk::Listed {
             count,

@@ -15,9 +15,13 @@ use Rattle.number_octets.specs.Octets.{number, octets}
 use Rattle.number_octets.proofs.Laws.{length-octets, number-octets}
 use Rattle.number_checksum.specs.Checksum.{wordSum, folded, sent, allOnes, parityAfter}
 use Rattle.number_checksum.proofs.Laws.{sent-pos, sent-le, folded-le, field-law}
+use Rattle.wire_options.specs.declared.nops.Strictness.the-variants.{Plain, Strict}
+use Rattle.wire_options.specs.declared.nops.Strictness.{Strictness}
 use Rattle.wire_options.specs.Kinds.{classOf, nop, frag}
+use Rattle.wire_options.specs.Nops.{nopLimit, nopsOf}
 use Rattle.wire_options.specs.Walk.{Item, listed, walkFrom, optionLimit}
-use Rattle.wire_area.specs.Area.{nopsOf, plain, plainly, areaOf as areaWalk}
+use Rattle.wire_options.specs.Strict.{strictFrom, walkBy}
+use Rattle.wire_area.specs.Area.{plain, plainly, areaOf as areaWalk}
 use Rattle.wire_options.specs.declared.step.Class.the-variants.{NoOperation, Fixed, Varying}
 use Rattle.wire_surplus.specs.Surplus.{padOf, ocsOf, startOf}
 use Rattle.wire_surplus.specs.declared.Start.the-variants.{List as ListAt}
@@ -47,21 +51,23 @@ no-nop item w e =
     (λ f. let c : NoOperation ≡ Fixed (f .0) (f .0) = sym (ap classOf e) ∙ f .1 in let z : _≡_ {A = ℕ} 0 1 = cc in omega arith)
     (w .class)
 
--- a list whose first byte is neither NOP nor FRAG is walked plainly
-plain-front : (empty : Bool) (base b : ℕ) (l : List ℕ) → (b ≡ nop → ⊥) → (b ≡ frag → ⊥)
-    → areaWalk empty base (b ∷ l) ≡ plainly (walkFrom optionLimit 0 (b ∷ l))
-unfolding areaWalk nopsOf
-plain-front empty base b l p q = simp (ne-eqb b nop p, ne-eqb b frag q)
+-- a list whose first byte is neither NOP nor FRAG is walked without FRAG
+plain-front : (how : Strictness) (empty : Bool) (base b : ℕ) (l : List ℕ) → (b ≡ nop → ⊥) → (b ≡ frag → ⊥)
+    → areaWalk how empty base (b ∷ l) ≡ plainly (walkBy how optionLimit 0 (b ∷ l))
+unfolding areaWalk nopLimit nopsOf
+plain-front Plain empty base b l p q = simp (ne-eqb b nop p, ne-eqb b frag q)
+plain-front Strict empty base b l p q = simp (ne-eqb b nop p, ne-eqb b frag q)
 
 -- a list that starts so, once the walk of it is known
-plainly-walked : (empty : Bool) (base : ℕ) (l : List ℕ) (b : ℕ) (t : List ℕ) (items : List Item) (fill : ℕ) → l ≡ b ∷ t → (b ≡ nop → ⊥) → (b ≡ frag → ⊥)
-    → walkFrom optionLimit 0 l ≡ listed items fill → areaWalk empty base l ≡ plain items fill
-plainly-walked empty base l b t items fill e p q w =
-    ap (areaWalk empty base) e ∙ plain-front empty base b t p q ∙ ap (λ (x : List ℕ). plainly (walkFrom optionLimit 0 x)) (sym e) ∙ ap plainly w
+plainly-walked : (how : Strictness) (empty : Bool) (base : ℕ) (l : List ℕ) (b : ℕ) (t : List ℕ) (items : List Item) (fill : ℕ) → l ≡ b ∷ t → (b ≡ nop → ⊥) → (b ≡ frag → ⊥)
+    → walkBy how optionLimit 0 l ≡ listed items fill → areaWalk how empty base l ≡ plain items fill
+plainly-walked how empty base l b t items fill e p q w =
+    ap (areaWalk how empty base) e ∙ plain-front how empty base b t p q ∙ ap (λ (x : List ℕ). plainly (walkBy how optionLimit 0 x)) (sym e) ∙ ap plainly w
 
-nothing-listed : (empty : Bool) (base : ℕ) → areaWalk empty base [] ≡ plain [] 0
-unfolding areaWalk nopsOf walkFrom
-nothing-listed empty base = refl
+nothing-listed : (how : Strictness) (empty : Bool) (base : ℕ) → areaWalk how empty base [] ≡ plain [] 0
+unfolding areaWalk nopLimit nopsOf walkFrom strictFrom
+nothing-listed Plain empty base = refl
+nothing-listed Strict empty base = refl
 
 wires-none : (fill : ℕ) → wires [] ++ replicate fill 0 ≡ replicate fill 0
 unfolding wires
@@ -71,16 +77,16 @@ wires-some : (item : Item) (items : List Item) (fill : ℕ) → wires (item ∷ 
 unfolding wires
 wires-some item items fill = append-assoc (wireOf item) (wires items) (replicate fill 0)
 
-pub plain-area : (empty : Bool) (base : ℕ) (items : List Item) (fill : ℕ) → Each items → length items ≤ optionLimit
-    → areaWalk empty base (wires items ++ replicate fill 0) ≡ plain items fill
-plain-area empty base [] zero each few = ap (areaWalk empty base) (wires-none 0) ∙ nothing-listed empty base
-plain-area empty base [] (suc fill) each few =
-    plainly-walked empty base (wires [] ++ replicate (suc fill) 0) 0 (replicate fill 0) [] (suc fill) (wires-none (suc fill))
-    (λ e. omega arith) (λ e. omega arith) (walk-wires optionLimit [] (suc fill) each few)
-plain-area empty base (item ∷ items) fill each few =
+pub plain-area : (how : Strictness) (empty : Bool) (base : ℕ) (items : List Item) (fill : ℕ) → Each items → length items ≤ optionLimit
+    → areaWalk how empty base (wires items ++ replicate fill 0) ≡ plain items fill
+plain-area how empty base [] zero each few = ap (areaWalk how empty base) (wires-none 0) ∙ nothing-listed how empty base
+plain-area how empty base [] (suc fill) each few =
+    plainly-walked how empty base (wires [] ++ replicate (suc fill) 0) 0 (replicate fill 0) [] (suc fill) (wires-none (suc fill))
+    (λ e. omega arith) (λ e. omega arith) (walk-wires how optionLimit [] (suc fill) each few)
+plain-area how empty base (item ∷ items) fill each few =
     let f = wire-front item (wires items ++ replicate fill 0) in
-    plainly-walked empty base (wires (item ∷ items) ++ replicate fill 0) (item .kind) (f .0) (item ∷ items) fill (wires-some item items fill ∙ f .1)
-    (no-nop item (each .0)) (each .0 .no-frag) (walk-wires optionLimit (item ∷ items) fill each few)
+    plainly-walked how empty base (wires (item ∷ items) ++ replicate fill 0) (item .kind) (f .0) (item ∷ items) fill (wires-some item items fill ∙ f .1)
+    (no-nop item (each .0)) (each .0 .no-frag) (walk-wires how optionLimit (item ∷ items) fill each few)
 
 -- ---- the option checksum
 

@@ -15,6 +15,7 @@ use Rattle.number_octets.proofs.Laws.{length-octets, number-octets}
 use Rattle.number_offsets.specs.Offsets.{udpHeader}
 use Rattle.number_crc32c.specs.Crc.{crcOf}
 use Rattle.number_crc32c.proofs.Laws.{crcOf-lt}
+use Rattle.wire_options.specs.declared.nops.Strictness.{Strictness}
 use Rattle.wire_options.specs.Kinds.{classOf, apc, frag}
 use Rattle.wire_options.specs.Walk.{Item, listed, walkFrom, optionLimit}
 use Rattle.wire_options.specs.declared.step.Class.the-variants.{Fixed}
@@ -164,9 +165,9 @@ all-unworked user (item ∷ items) v = ap₂ _∷_ (unworked-worked user item (v
 abbrev pub listIn : List ℕ → Reading → List ℕ
 listIn payload r = drop (r .options .from .0) payload
 
--- what was written is read and listed back
+-- what was written is read and listed back, the same in plain and in strict reading
 pub record ReadBack (d : Datagram) (list : List ℕ) (r : Reading) : Type 0 where
-  pub is-read : reading (payloadOf d) (d .source) (d .destination) ≡ reads r
+  pub is-read : (how : Strictness) → reading how (payloadOf d) (d .source) (d .destination) ≡ reads r
   pub verdict : r .verdict ≡ Read
   pub user : r .user ≡ extent udpHeader (sizeOf d)
   pub bytes : part udpHeader (length (d .user)) (payloadOf d) ≡ d .user
@@ -190,7 +191,7 @@ read-back d list oct decoded s t fits =
     ap (walkFrom optionLimit 0) there ∙ walk-list d wired (omega (arith, same-count (d .user) (d .items), valid .few)) in
     let users : part udpHeader (sizeOf d - udpHeader) (payloadOf d) ≡ d .user = user-there d in
     record {
-      is-read = reading-back d takes;
+      is-read = λ how. reading-back how d takes;
       verdict = refl;
       user = refl;
       bytes = ap (λ (n : ℕ). part udpHeader n (payloadOf d)) (user-size d) ∙ users;

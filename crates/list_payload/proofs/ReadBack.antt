@@ -1,4 +1,4 @@
--- What the writer makes is read back: header fields stand where the reader looks, both checksums make their sums FFFF, and the walk of the
+-- What the writer makes is read back, in plain and in strict reading: header fields stand where the reader looks, both checksums make their sums FFFF, and the walk of the
 -- list gives the options and the fill.
 -- Assumes nothing.
 use mathlib.Core.Path.{_≡_, refl, sym, ap, ap₂, _∙_}
@@ -16,6 +16,8 @@ use Rattle.number_octets.proofs.Laws.{length-octets, number-octets}
 use Rattle.number_offsets.specs.Offsets.{udpHeader}
 use Rattle.number_checksum.specs.Checksum.{wordSum, folded, sent, allOnes, parityAfter}
 use Rattle.number_checksum.proofs.Laws.{sent-le, field-law, parity-even}
+use Rattle.wire_options.specs.declared.nops.Strictness.{Strictness}
+use Rattle.wire_options.specs.declared.nops.Strictness.the-variants.{Plain}
 use Rattle.wire_options.specs.Walk.{Item, listed, walkFrom, optionLimit}
 use Rattle.wire_area.specs.Area.{plain, areaOf as areaWalk}
 use Rattle.wire_surplus.specs.Surplus.{padOf, startOf}
@@ -164,24 +166,24 @@ list-there d =
     sym (drop-drop (padOf (isOdd (sizeOf d)) + 2) (sizeOf d) (payloadOf d)) ∙ ap (drop (padOf (isOdd (sizeOf d)) + 2)) (area-is d)
     ∙ area-list (isOdd (sizeOf d)) (listOf (d .user) (d .items) (d .fill))
 
-abbrev acceptedBy : List ℕ → ℕ → ℕ → Reading
-acceptedBy p size sum = started p size (startOf (isOdd size) (eqb sum 0) (drop size p))
+abbrev acceptedBy : Strictness → List ℕ → ℕ → ℕ → Reading
+acceptedBy how p size sum = started how p size (startOf (isOdd size) (eqb sum 0) (drop size p))
 
-accepted-back : (d : Datagram) → Takes d → sizeOf d < 65536 → accepted (payloadOf d) ≡ backOf d
+accepted-back : (how : Strictness) (d : Datagram) → Takes d → sizeOf d < 65536 → accepted how (payloadOf d) ≡ backOf d
 unfolding accepted listOf
-accepted-back d t h =
+accepted-back how d t h =
     let p : List ℕ = payloadOf d in
     let L : ℕ = sizeOf d in
-    ap (λ (n : ℕ). acceptedBy p n (udpChecksum p)) (length-there d h)
-    ∙ ap (λ (a : List ℕ). started p L (startOf (isOdd L) (eqb (udpChecksum p) 0) a)) (area-is d)
-    ∙ ap (started p L) (area-starts (isOdd L) (eqb (udpChecksum p) 0) (listOf (d .user) (d .items) (d .fill)))
-    ∙ ap (λ (l : List ℕ). walked p L (listStart d) (areaWalk (eqb L udpHeader) (listStart d) l)) (list-there d)
+    ap (λ (n : ℕ). acceptedBy how p n (udpChecksum p)) (length-there d h)
+    ∙ ap (λ (a : List ℕ). started how p L (startOf (isOdd L) (eqb (udpChecksum p) 0) a)) (area-is d)
+    ∙ ap (started how p L) (area-starts (isOdd L) (eqb (udpChecksum p) 0) (listOf (d .user) (d .items) (d .fill)))
+    ∙ ap (λ (l : List ℕ). walked p L (listStart d) (areaWalk how (eqb L udpHeader) (listStart d) l)) (list-there d)
     ∙ ap (walked p L (listStart d))
-    (plain-area (eqb L udpHeader) (listStart d) (workedAll (d .user) (d .items)) (d .fill) (t .each) (omega (arith, same-count (d .user) (d .items), t .few)))
+    (plain-area how (eqb L udpHeader) (listStart d) (workedAll (d .user) (d .items)) (d .fill) (t .each) (omega (arith, same-count (d .user) (d .items), t .few)))
 
-pub reading-back : (d : Datagram) → Takes d → reading (payloadOf d) (d .source) (d .destination) ≡ reads (backOf d)
+pub reading-back : (how : Strictness) (d : Datagram) → Takes d → reading how (payloadOf d) (d .source) (d .destination) ≡ reads (backOf d)
 unfolding payloadLimit udpHeader
-reading-back d t =
+reading-back how d t =
     let p : List ℕ = payloadOf d in
     let size : length p ≡ sizeOf d + length (area d) = payload-length d in
     let most : length p ≤ 65515 = t .fits in
@@ -191,7 +193,7 @@ reading-back d t =
     let summed : sumOf p (d .source) (d .destination) ≡ allOnes =
     ap (λ (n : ℕ). folded (wordSum false (pseudoHeader (d .source) (d .destination) n ++ take n p))) L
     ∙ ap (λ (x : List ℕ). folded (wordSum false (pseudoHeader (d .source) (d .destination) (sizeOf d) ++ x))) (front-is d) ∙ udp-sum d t in
-    reading-accepted p (d .source) (d .destination) sized (inr summed) ∙ ap reads (accepted-back d t small)
+    reading-accepted how p (d .source) (d .destination) sized (inr summed) ∙ ap reads (accepted-back how d t small)
 
 -- ---- what else is found there
 
@@ -213,4 +215,4 @@ user-there d =
 pub walk-list : (d : Datagram) → Each (workedAll (d .user) (d .items)) → length (workedAll (d .user) (d .items)) ≤ optionLimit
     → walkFrom optionLimit 0 (listOf (d .user) (d .items) (d .fill)) ≡ listed (workedAll (d .user) (d .items)) (d .fill)
 unfolding listOf
-walk-list d wired few = walk-wires optionLimit (workedAll (d .user) (d .items)) (d .fill) wired few
+walk-list d wired few = walk-wires Plain optionLimit (workedAll (d .user) (d .items)) (d .fill) wired few

@@ -14,16 +14,19 @@ use Rattle.number_octets.specs.Octets.{number, octets, part}
 use Rattle.number_octets.specs.Zeros.{allZero}
 use Rattle.number_octets.proofs.ZeroBytes.{zero-alike}
 use Rattle.number_octets.proofs.Laws.{length-octets, number-octets}
-use Rattle.wire_options.specs.Kinds.{classOf, frag}
+use Rattle.wire_options.specs.declared.nops.Strictness.the-variants.{Plain, Strict}
+use Rattle.wire_options.specs.declared.nops.Strictness.{Strictness}
+use Rattle.wire_options.specs.Kinds.{classOf, eol, frag}
 use Rattle.wire_options.specs.Step.{headerOf, stepOf, stepIn, fixedStep, varyingStep}
-use Rattle.wire_options.specs.Walk.{Item, listed, faulty, before, itemOf, walkAt, walkFrom}
+use Rattle.wire_options.specs.Walk.{Item, listed, faulty, before, itemOf, walkFrom}
+use Rattle.wire_options.specs.Strict.{strictFrom, walkBy}
 use Rattle.wire_options.specs.declared.step.Class.{Class}
 use Rattle.wire_options.specs.declared.step.Class.the-variants.{Fixed, Varying}
 use Rattle.wire_options.specs.declared.step.Header.the-variants.{Sound}
 use Rattle.wire_options.specs.declared.step.Step.{Step}
-use Rattle.wire_options.specs.declared.step.Step.the-variants.{Found}
+use Rattle.wire_options.specs.declared.step.Step.the-variants.{Eol, Found}
 use Rattle.wire_options.specs.declared.walk.Fault.the-variants.{Tail}
-use Rattle.wire_options.proofs.Walks.{walk-skip}
+use Rattle.wire_options.proofs.Stricts.{walk-other, walk-found}
 use Rattle.list_encoding.specs.Wire.{longestShort}
 use Rattle.list_payload.specs.Payload.{wireOf, wires}
 
@@ -166,38 +169,30 @@ abbrev pub Each : List Item → Type 0
 Each [] = Unit {0}
 Each (item ∷ items) = Wired item × Each items
 
--- the walk over an option that its step finds
-walk-found : (room : ℕ) (l : List ℕ) (kind h s : ℕ) → stepOf l ≡ Found kind h s → (kind ≡ frag → ⊥) → 0 < s
-    → walkFrom (suc room) 0 l ≡ before (itemOf kind h s l) (walkFrom room 0 (drop s l))
-unfolding stepOf walkFrom
-walk-found room [] kind h s e d some = absurd (let z : _≡_ {A = ℕ} 0 1 = cc in omega arith)
-walk-found room (b ∷ bs) kind h s e d some =
-    let down : suc (s - 1) ≡ s = omega arith in
-    ap (λ (t : Step). walkAt (suc room) (b ∷ bs) t (λ left skip. walkFrom left skip bs)) e
-    ∙ simp (ne-eqb kind frag d)
-    (ap (before (itemOf kind h s (b ∷ bs)))
-    (walk-skip room (s - 1) bs ∙ ap (λ (m : ℕ). walkFrom room 0 (drop m (b ∷ bs))) down))
-
-one-more : (room : ℕ) (item : Item) (rest : List ℕ) → Wired item → walkFrom (suc room) 0 (wireOf item ++ rest) ≡ before item (walkFrom room 0 rest)
-one-more room item rest w =
+one-more : (how : Strictness) (room : ℕ) (item : Item) (rest : List ℕ) → Wired item
+    → walkBy how (suc room) 0 (wireOf item ++ rest) ≡ before item (walkBy how room 0 rest)
+one-more how room item rest w =
     let m = wire-met item rest w in
-    walk-found room (wireOf item ++ rest) (item .kind) (m .header) (m .size) (m .step) (w .no-frag) (m .some)
-    ∙ ap₂ (λ (i : Item) (t : List ℕ). before i (walkFrom room 0 t)) (m .same) (m .behind)
+    walk-found how room (wireOf item ++ rest) (item .kind) (m .header) (m .size) (m .step) (w .no-frag)
+    ∙ ap₂ (λ (i : Item) (t : List ℕ). before i (walkBy how room 0 t)) (m .same) (m .behind)
 
 -- the fill: nothing, or EOL and what is behind it
-walk-fill : (room fill : ℕ) → walkFrom room 0 (replicate fill 0) ≡ listed [] fill
-unfolding walkFrom stepOf classOf allZero
-walk-fill room zero = refl
-walk-fill room (suc fill) =
-    ap (λ (t : Bool). cond t (listed [] (suc (length {A = ℕ} (replicate fill 0)))) (faulty Tail)) (zero-alike fill)
+walk-fill : (how : Strictness) (room fill : ℕ) → walkBy how room 0 (replicate fill 0) ≡ listed [] fill
+unfolding walkFrom strictFrom stepOf classOf allZero
+walk-fill Plain room zero = refl
+walk-fill Strict room zero = refl
+walk-fill how room (suc fill) =
+    walk-other how room eol (replicate fill 0) Eol refl tt
+    ∙ ap (λ (t : Bool). cond t (listed [] (suc (length {A = ℕ} (replicate fill 0)))) (faulty Tail)) (zero-alike fill)
     ∙ ap (λ (n : ℕ). listed [] (suc n)) (length-replicate fill 0)
 
-pub walk-wires : (room : ℕ) (items : List Item) (fill : ℕ) → Each items → length items ≤ room
-    → walkFrom room 0 (wires items ++ replicate fill 0) ≡ listed items fill
+-- in plain and in strict reading: no NOP was written
+pub walk-wires : (how : Strictness) (room : ℕ) (items : List Item) (fill : ℕ) → Each items → length items ≤ room
+    → walkBy how room 0 (wires items ++ replicate fill 0) ≡ listed items fill
 unfolding wires
-walk-wires room [] fill each few = walk-fill room fill
-walk-wires zero (item ∷ items) fill each few = absurd (omega arith)
-walk-wires (suc room) (item ∷ items) fill each few =
-    ap (walkFrom (suc room) 0) (append-assoc (wireOf item) (wires items) (replicate fill 0))
-    ∙ one-more room item (wires items ++ replicate fill 0) (each .0)
-    ∙ ap (before item) (walk-wires room items fill (each .1) (omega arith))
+walk-wires how room [] fill each few = walk-fill how room fill
+walk-wires how zero (item ∷ items) fill each few = absurd (omega arith)
+walk-wires how (suc room) (item ∷ items) fill each few =
+    ap (walkBy how (suc room) 0) (append-assoc (wireOf item) (wires items) (replicate fill 0))
+    ∙ one-more how room item (wires items ++ replicate fill 0) (each .0)
+    ∙ ap (before item) (walk-wires how room items fill (each .1) (omega arith))

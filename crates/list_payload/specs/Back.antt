@@ -5,6 +5,7 @@ use mathlib.Core.List.{List, [], _∷_}
 use Prim.Native.Nat.{ℕ}
 use lib.Dec.{eqb}
 use lib.ListN.{length, take, drop}
+use Rattle.wire_options.specs.declared.nops.Strictness.{Strictness}
 use Rattle.wire_options.specs.Kinds.{apc}
 use Rattle.wire_options.specs.Walk.{Item, Walked, listed, walkFrom, optionLimit}
 use Rattle.wire_datagram.specs.Extents.{bytesIn}
@@ -30,13 +31,13 @@ apcBack items = cond (hasApc items) Right Absent
 abbrev pub walkBack : List ℕ → Reading → Walked
 walkBack payload back = walkFrom optionLimit 0 (bytesIn (back .options) payload)
 
--- A payload is read as what it was made from: the user data, the options of the encoded list in their order with their bodies, APC, and fill.
+-- A payload is read, plainly and strictly, as what it was made from: the user data, the options of the encoded list in their order with their bodies, APC, and fill.
 -- Listing them gives the encoded list byte for byte.
 pub record ReadsBack (source destination user list : List ℕ) (fill : ℕ) (payload : List ℕ) : Type 0 where
   pub items : List Item
   pub decoded : decodedList list ≡ given items
   pub back : Reading
-  pub is-read : reading payload source destination ≡ reads back
+  pub is-read : (how : Strictness) → reading how payload source destination ≡ reads back
   pub verdict : back .verdict ≡ Read
   pub same-user : bytesIn (back .user) payload ≡ user
   pub same-options : walkBack payload back ≡ listed (workedAll user items) fill

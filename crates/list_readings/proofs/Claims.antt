@@ -9,6 +9,8 @@ use native.Mathlib.Omega.{arith}
 use borrow.Author.Tests.{le-leb}
 use lib.ListN.{length, drop}
 use Rattle.number_octets.specs.Octets.{Octets}
+use Rattle.wire_options.specs.declared.nops.Strictness.{Strictness}
+use Rattle.wire_options.specs.declared.nops.Strictness.the-variants.{Plain}
 use Rattle.wire_options.specs.Walk.{Item, Walked, listed, walkFrom, optionLimit, itemsOf}
 use Rattle.wire_datagram.specs.Reading.{reads, reading, isRead}
 use Rattle.wire_original.specs.Rereading.{rereads, rereading}
@@ -71,13 +73,13 @@ value-claim bytes verdict from to count fill lists = record {
     no-read other true e = absurd (other (read-verdict verdict e))
     no-read other false e = e
 
-pub reading-listed : (payload source destination : List ℕ) (r : Reading) → reading payload source destination ≡ reads r → ReadingListed payload r
-reading-listed payload source destination r e =
-    value-claim payload (r .verdict) (r .options .from .0) (r .options .to .0) (r .count) (r .fill) (reading-lists payload source destination r e)
+pub reading-listed : (how : Strictness) (payload source destination : List ℕ) (r : Reading) → reading how payload source destination ≡ reads r → ReadingListed payload r
+reading-listed how payload source destination r e =
+    value-claim payload (r .verdict) (r .options .from .0) (r .options .to .0) (r .count) (r .fill) (reading-lists how payload source destination r e)
 
-pub rereading-listed : (original : List ℕ) (start : ℕ) (r : Rereading) → rereading original start ≡ rereads r → RereadingListed original r
-rereading-listed original start r e =
-    value-claim original (r .verdict) (r .options .from .0) (r .options .to .0) (r .count) (r .fill) (rereading-lists original start r e)
+pub rereading-listed : (how : Strictness) (original : List ℕ) (start : ℕ) (r : Rereading) → rereading how original start ≡ rereads r → RereadingListed original r
+rereading-listed how original start r e =
+    value-claim original (r .verdict) (r .options .from .0) (r .options .to .0) (r .count) (r .fill) (rereading-lists how original start r e)
 
 -- ---- what was written is listed back
 
@@ -88,7 +90,7 @@ pub record ListsBack (d : Datagram) (list : List ℕ) (r : Reading) : Type 0 whe
 
 pub written-lists-back : (d : Datagram) (list : List ℕ) (r : Reading) → ReadBack d list r → ListsBack d list r
 written-lists-back d list r b =
-    let l = reading-listed (payloadOf d) (d .source) (d .destination) r (b .is-read) .with-read (b .verdict) in
+    let l = reading-listed Plain (payloadOf d) (d .source) (d .destination) r (b .is-read Plain) .with-read (b .verdict) in
     record { same-list = ap listing (l .walks) ∙ b .same-list; fill = l .fills ∙ b .fill }
 
 -- ---- the same, said of calls

@@ -7,6 +7,7 @@ use Prim.Native.Nat.{ℕ}
 use lib.ListN.{length, take, drop}
 use lib.Seq.{take-at, drop-at}
 use Rattle.number_octets.specs.Octets.{Octets}
+use Rattle.wire_options.specs.declared.nops.Strictness.the-variants.{Plain}
 use Rattle.wire_options.specs.Walk.{walkFrom, optionLimit}
 use Rattle.wire_datagram.specs.Extents.{bytesIn}
 use Rattle.wire_datagram.specs.declared.reading.Reading.{Reading}
@@ -35,7 +36,7 @@ module _ (d : Datagram) (list : List ℕ) (decoded : decodedList list ≡ given 
   whole =
       ap (walkFrom optionLimit 0)
       (lists-part p (back .options .from .0) (back .options .to .0) (back .count) (back .fill)
-      (reading-lists p (d .source) (d .destination) back (b .is-read) (b .verdict)))
+      (reading-lists Plain p (d .source) (d .destination) back (b .is-read Plain) (b .verdict)))
 
   payload-back : ReadsBack (d .source) (d .destination) (d .user) list (d .fill) p
   payload-back = record {
@@ -81,7 +82,7 @@ pub reads-back-once : (source destination user user′ list list′ : List ℕ) 
     → ReadsBack source destination user list fill payload → ReadsBack source destination user′ list′ fill′ payload
     → OneOrigin user user′ list list′ fill fill′
 reads-back-once source destination user user′ list list′ fill fill′ payload a b =
-    let same : a .back ≡ b .back = cc (a .is-read, b .is-read) in
+    let same : a .back ≡ b .back = cc (a .is-read Plain, b .is-read Plain) in
     record {
       one-user = sym (a .same-user) ∙ ap (λ (r : Reading). bytesIn (r .user) payload) same ∙ b .same-user;
       one-list = sym (a .same-list) ∙ ap (λ (r : Reading). listing (walkBack payload r)) same ∙ b .same-list;

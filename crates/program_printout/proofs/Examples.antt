@@ -8,9 +8,10 @@ use Rattle.number_octets.specs.Octets.{number, octets}
 use Rattle.number_offsets.specs.Offsets.{udpHeader}
 use Rattle.number_checksum.specs.Checksum.{wordSum, folded}
 use Rattle.wire_options.specs.Kinds.{classOf}
+use Rattle.wire_options.specs.Nops.{nopsOf}
 use Rattle.wire_options.specs.Step.{headerOf, stepOf}
 use Rattle.wire_options.specs.Walk.{walkFrom, optionLimit}
-use Rattle.wire_area.specs.Area.{nopsOf, areaOf}
+use Rattle.wire_area.specs.Area.{areaOf}
 use Rattle.wire_surplus.specs.Surplus.{startOf}
 use Rattle.wire_datagram.specs.Reading.{payloadLimit, pseudoHeader, accepted, reading}
 use Rattle.program_text.specs.Digits.{digitsIn, decimalOf}

@@ -14,6 +14,7 @@ use lib.Seq.{take-all, length-take-le}
 use Rattle.number_octets.specs.Octets.{part}
 use Rattle.number_octets.proofs.Laws.{part-rest}
 use Rattle.number_offsets.specs.Offsets.{udpHeader}
+use Rattle.wire_options.specs.declared.nops.Strictness.the-variants.{Plain}
 use Rattle.wire_datagram.specs.Reading.{payloadLimit}
 use Rattle.wire_datagram.proofs.Refusals.{refused-long}
 use Rattle.program_report.specs.Words.{refusedWord}
@@ -88,7 +89,7 @@ input-long l h =
 too-long : (payload source destination : List ℕ) → udpHeader ≤ length payload → payloadLimit < length payload
     → reportOf payload source destination ≡ numberLine refusedWord 2
 unfolding reportOf
-too-long payload source destination g h = ap (answerText payload) (refused-long payload source destination g h)
+too-long payload source destination g h = ap (answerText payload) (refused-long Plain payload source destination g h)
 
 long-input : (l : List ℕ) → inputLimit ≤ length l → textOf l ≡ numberLine refusedWord 2
 unfolding textOf inputLimit udpHeader payloadLimit

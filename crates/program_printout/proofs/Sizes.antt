@@ -11,6 +11,7 @@ use lib.Dec.{eqb, ltb}
 use lib.ListN.{length, take, drop, length-append, length-take, length-drop}
 use Rattle.number_tests.proofs.Tests.{first-none}
 use Rattle.number_octets.specs.Octets.{number, part}
+use Rattle.wire_options.specs.declared.nops.Strictness.the-variants.{Plain}
 use Rattle.wire_options.specs.Walk.{Item, Walked, listed, faulty, walkFrom, optionLimit}
 use Rattle.wire_options.proofs.Sizes.{bodySizes, walk-bounded}
 use Rattle.wire_datagram.specs.Extents.{bytesIn, sizeOf}
@@ -18,7 +19,7 @@ use Rattle.wire_datagram.specs.Reading.{Answer, refused, reads, payloadLimit, r
 use Rattle.wire_datagram.specs.declared.reading.Extent.{Extent}
 use Rattle.wire_datagram.specs.declared.reading.Reading.{Reading}
 use Rattle.wire_datagram.specs.declared.reading.Verdict.{Verdict}
-use Rattle.wire_datagram.specs.declared.reading.Verdict.the-variants.{Bare, Short, Pad, Unsummed, BadSum, Malformed, Unsafe, FragData, Crowded, Tail, Read, Piece}
+use Rattle.wire_datagram.specs.declared.reading.Verdict.the-variants.{Bare, Short, Pad, Unsummed, BadSum, Malformed, Unsafe, FragData, Crowded, Tail, Padded, Read, Piece}
 use Rattle.wire_datagram.proofs.Claims.{met-none}
 use Rattle.wire_options.specs.Kinds.{widthsOf}
 use Rattle.program_text.specs.Digits.{digit, digitsIn, longest, decimalOf, hexOf}
@@ -127,6 +128,7 @@ word-size Unsafe = omega arith
 word-size FragData = omega arith
 word-size Crowded = omega arith
 word-size Tail = omega arith
+word-size Padded = omega arith
 word-size Read = omega arith
 word-size (Piece f) = omega arith
 
@@ -185,16 +187,16 @@ reading-size payload r = go (isRead (r .verdict))
         )
 
 -- a payload that is read is within the limit
-read-limit : (payload source destination : List ℕ) (r : Reading) → reading payload source destination ≡ reads r → length payload ≤ payloadLimit
+read-limit : (payload source destination : List ℕ) (r : Reading) → reading Plain payload source destination ≡ reads r → length payload ≤ payloadLimit
 read-limit payload source destination r e =
-    let none = met-none payload source destination r e .0 in
+    let none = met-none Plain payload source destination r e .0 in
     ltb-false payloadLimit (length payload) (first-none _ _ (first-none _ _ none .1) .0)
 
 report-size : (payload source destination : List ℕ) → length (reportOf payload source destination) ≤ textLimit
 unfolding reportOf textLimit payloadLimit
-report-size payload source destination = go (reading payload source destination) refl
+report-size payload source destination = go (reading Plain payload source destination) refl
   where
-    go : (answer : Answer) → reading payload source destination ≡ answer → length (answerText payload answer) ≤ textLimit
+    go : (answer : Answer) → reading Plain payload source destination ≡ answer → length (answerText payload answer) ≤ textLimit
     go (refused n) e = omega (arith, number-size refusedWord n)
     go (reads r) e =
         let limit = read-limit payload source destination r e in omega (arith, reading-size payload r)

@@ -6,6 +6,7 @@ use mathlib.Core.List.{List, _++_, append-nil, []}
 use Prim.Native.Nat.{ℕ, _≤_}
 use native.Mathlib.Omega.{arith}
 use lib.ListN.{length}
+use Rattle.wire_options.specs.declared.nops.Strictness.{Strictness}
 use Rattle.wire_options.specs.Walk.{walkFrom, optionLimit}
 use Rattle.wire_datagram.specs.Extents.{sizeOf}
 use Rattle.wire_datagram.specs.Reading.{reads, reading, isRead}
@@ -30,10 +31,10 @@ listable p r l =
       walks = ap (λ (x : List ℕ). isListed (walkFrom optionLimit 0 x)) (lists-part p _ _ _ _ l) ∙ ap isListed (l .walks);
     }
 
-pub reading-sound : (p s d : List ℕ) (r : Reading) → reading p s d ≡ reads r → Sound p r
-reading-sound p s d r e = record {
-  user = subst⁻¹ (λ (x : Extent). x .from .0 ≤ x .to .0) (user-extent p s d r e) (in-range p s d (met-none p s d r e .0) .0);
-  options = λ q. listable p r (reading-lists p s d r e (read-verdict (r .verdict) q));
+pub reading-sound : (how : Strictness) (p s d : List ℕ) (r : Reading) → reading how p s d ≡ reads r → Sound p r
+reading-sound how p s d r e = record {
+  user = subst⁻¹ (λ (x : Extent). x .from .0 ≤ x .to .0) (user-extent how p s d r e) (in-range p s d (met-none how p s d r e .0) .0);
+  options = λ q. listable p r (reading-lists how p s d r e (read-verdict (r .verdict) q));
 }
 
 -- ---- its text

@@ -2,6 +2,7 @@
 use mathlib.Core.Bool.{cond}
 use mathlib.Core.List.{List, [], _∷_, _++_}
 use Prim.Native.Nat.{ℕ}
+use Rattle.wire_options.specs.declared.nops.Strictness.the-variants.{Plain}
 use Rattle.wire_options.specs.Walk.{walkFrom, optionLimit}
 use Rattle.wire_datagram.specs.Extents.{sizeOf, bytesIn}
 use Rattle.wire_datagram.specs.Reading.{Answer, refused, reads, reading, isRead}
@@ -31,6 +32,6 @@ abbrev pub answerText : List ℕ → Answer → List ℕ
 answerText payload (refused number) = numberLine refusedWord number
 answerText payload (reads reading) = readingText payload reading
 
--- what is printed of a payload between a source and a destination
+-- what is printed of a payload between a source and a destination: "the small program is not strict" (document 02, R-6)
 unfoldable pub reportOf : List ℕ → List ℕ → List ℕ → List ℕ
-reportOf payload source destination = answerText payload (reading payload source destination)
+reportOf payload source destination = answerText payload (reading Plain payload source destination)

@@ -1,10 +1,11 @@
-// The report on an IPv4 payload, as the program prints it (document 01, "The program").
+// The report on an IPv4 payload, as the program prints it (document 01, "The program"). It is read plainly.
 use wire_datagram::reading;
 use wire_datagram::reading::Extent;
 use wire_datagram::reading::Outcome;
 use wire_datagram::reading::Reading;
 use wire_datagram::reading::Refusal;
 use wire_datagram::reading::Verdict;
+use wire_options::nops::Strictness;
 ghost use mathlib.Core.Path.{_≡_};
 ghost use Prim.Native.Nat.{_≤_};
 ghost use lib.ListN.{length};
@@ -17,7 +18,7 @@ ghost use Rattle.program_report.specs.Sound.{Listable, Sound};
 pub fn report(payload: &[u8], source: [u8; 4], destination: [u8; 4], text: &mut [u8]) -> usize
     ensures { λ r. ⌜ Put (now (text .entry)) 0 (reportOf (now (payload .entry)) source destination) r (now (text .exit)) ⌝ }
 {
-    let outcome = reading::read(payload, source, destination);
+    let outcome = reading::read(payload, source, destination, Strictness::Plain);
     match outcome {
         Outcome::Refused(refusal) => program_text::put_line(
             b"refused ",

@@ -5,6 +5,7 @@ use list_writer::Written;
 use wire_datagram::reading;
 use wire_datagram::reading::Outcome;
 use wire_datagram::reading::Reading;
+use wire_options::nops::Strictness;
 
 const ROOM: usize = 128;
 
@@ -41,7 +42,7 @@ fn show(buffer: &[u8], length: usize, source: [u8; 4], destination: [u8; 4]) {
 }
 
 fn list(payload: &[u8], source: [u8; 4], destination: [u8; 4]) {
-    let outcome = reading::read(payload, source, destination);
+    let outcome = reading::read(payload, source, destination, Strictness::Plain);
     match outcome {
         Outcome::Accepted(reading) => list_back(payload, reading),
         Outcome::Refused(_) => say(b"nothing to list\n"),

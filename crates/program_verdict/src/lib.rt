@@ -29,6 +29,7 @@ fn put_word(verdict: Verdict, text: &mut [u8], at: usize) -> usize
         Verdict::FragData => program_text::put(b"fragdata", text, at),
         Verdict::Crowded => program_text::put(b"crowded", text, at),
         Verdict::Tail => program_text::put(b"tail", text, at),
+        Verdict::Padded => program_text::put(b"padded", text, at),
         Verdict::Read => program_text::put(b"read", text, at),
         Verdict::Piece(_) => program_text::put(b"piece", text, at),
     }

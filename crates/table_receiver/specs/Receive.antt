@@ -4,6 +4,7 @@ use mathlib.Core.Path.{_≡_}
 use mathlib.Core.List.{List}
 use mathlib.Core.Option.{Option, none, some}
 use Rattle.number_octets.specs.Octets.{number, part}
+use Rattle.wire_options.specs.declared.nops.Strictness.{Strictness}
 use Rattle.wire_area.specs.declared.Fragment.{Fragment}
 use Rattle.wire_datagram.specs.Verdict.{verdictSays}
 use Rattle.wire_datagram.specs.Reading as Reading
@@ -49,15 +50,16 @@ arrivalOf payload source destination time f = withPorts source destination time 
 abbrev pub bytesOf : List ℕ → Fragment → List ℕ
 bytesOf payload f = part (f .start .0) (f .end .0 - f .start .0) payload
 
--- a datagram as it arrives
+-- a datagram as it arrives, and how it is to be read
 pub record Packet : Type 0 where
   pub time : ℕ
   pub source : List ℕ
   pub destination : List ℕ
+  pub strictness : Strictness
   pub payload : List ℕ
 
 abbrev pub readingOf : Packet → Answer
-readingOf p = reading (p .payload) (p .source) (p .destination)
+readingOf p = reading (p .strictness) (p .payload) (p .source) (p .destination)
 
 -- the fragment call that a packet makes
 abbrev pub offerOf : Packet → Fragment → List ℕ → Ask

@@ -8,6 +8,7 @@ use wire_datagram::reading::Outcome;
 use wire_datagram::reading::Reading;
 use wire_datagram::reading::Refusal;
 use wire_datagram::reading::Verdict;
+use wire_options::nops::Strictness;
 ghost use mathlib.Core.Path.{_≡_};
 ghost use Prim.Native.Nat.{_≤_};
 ghost use lib.ListN.{length};
@@ -57,6 +58,7 @@ fn fragment_in(verdict: Verdict) -> Found
         Verdict::FragData => Found::Other,
         Verdict::Crowded => Found::Other,
         Verdict::Tail => Found::Other,
+        Verdict::Padded => Found::Other,
         Verdict::Read => Found::Other,
         Verdict::Piece(fragment) => Found::Fragment(fragment),
     }
@@ -108,7 +110,7 @@ fn offered(answer: Answer) -> Received
 }
 
 // By hand from here on.
-// Receives one datagram for client `k` at `time`.
+// Receives one datagram for client `k` at `time`, read plainly or strictly.
 pub fn receive(
     records: &mut [Client],
     store: &mut [u8],
@@ -116,12 +118,13 @@ pub fn receive(
     time: u64,
     source: [u8; 4],
     destination: [u8; 4],
+    strictness: Strictness,
     payload: &[u8],
     out: &mut [u8],
 ) -> Received
-    ensures { λ r. ⌜ Leaves (receiveOn k (record { time = time; source = source; destination = destination; payload = now (payload .entry) }) (now (out .entry)) (tableOf (now (records .entry)) (now (store .entry)))) r (now (records .exit)) (now (store .exit)) (now (out .exit)) ⌝ }
+    ensures { λ r. ⌜ Leaves (receiveOn k (record { time = time; source = source; destination = destination; strictness = strictness; payload = now (payload .entry) }) (now (out .entry)) (tableOf (now (records .entry)) (now (store .entry)))) r (now (records .exit)) (now (store .exit)) (now (out .exit)) ⌝ }
 {
-    let outcome = reading::read(payload, source, destination);
+    let outcome = reading::read(payload, source, destination, strictness);
     let piece = look(outcome);
     match piece {
         Found::Other => other(outcome),

@@ -77,13 +77,7 @@ pub fn walk_area(list: &[u8], base: PacketOffset, empty: bool, strictness: Stric
 }
 
 // A list whose first option behind the NOPs has the kind of FRAG.
-fn led(
-    list: &[u8],
-    base: PacketOffset,
-    nops: usize,
-    empty: bool,
-    strictness: Strictness,
-) -> Area
+fn led(list: &[u8], base: PacketOffset, nops: usize, empty: bool, strictness: Strictness) -> Area
     requires { ⌜ (nops < length (now list)) × (getD (now list) nops 0 ≡ frag) ⌝ }
     ensures { λ r. ⌜ r ≡ areaAnswer (ledBy strictness empty (now (list .entry)) (base .0) nops (stepOf (drop nops (now (list .entry))))) ⌝ }
 {

@@ -120,12 +120,7 @@ pub fn examine(
             return Examined::Refused(Refusal::ChecksumWrong);
         }
     }
-    Examined::Accepted(parts::parts_of(accept(
-        payload,
-        size,
-        checksum == 0,
-        strictness,
-    )))
+    Examined::Accepted(parts::parts_of(accept(payload, size, checksum == 0, strictness)))
 }
 
 // The sum over the pseudo-header and a datagram.

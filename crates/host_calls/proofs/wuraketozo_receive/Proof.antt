@@ -1,11 +1,18 @@
 -- `host_calls::wuraketozo_receive` meets its contract: the value of what became of the datagram. `tools/lent/transplant.py` makes the modules below.
 -- Assumes nothing.
+use mathlib.Core.Path.{ap}
+use Rattle.wire_options.specs.declared.nops.Strictness.{Strictness}
+use Rattle.table_calls.specs.Table.{tableOf}
+use Rattle.table_receiver.specs.Receive.{Packet, receiveOn}
 use borrow.Author.Needs.{needs}
 use Rattle.host_calls.proofs.Facts.{receives}
 use Rattle.host_calls.proofs.wuraketozo_receive.Statement.{statement}
 use Rattle.host_calls.proofs.wuraketozo_receive.Proof.Tie as tie
 mod Lts
 mod Tie
+
+strictness-for-requires : tie.Need-strictness-for-requires
+strictness-for-requires c κs = search needs
 
 receive-requires : tie.Need-receive-requires
 receive-requires c κs = search needs
@@ -23,7 +30,20 @@ same-length-3 : tie.Need-same-length-3
 same-length-3 c = search needs
 
 returns : tie.Need-returns
-returns c = receives (c .before .before .before .before .before .before .receive .ensures) (c .received-of .ensures)
+returns c =
+    let p = c .before .before .before .before .before .before in
+    let asked = p .before .before .before .before in
+    let a = asked .before .before .before .before .before .before .args in
+    let as-asked : Strictness → Packet = λ how. record {
+      time = a .time;
+      source = a .source .octets;
+      destination = a .destination .octets;
+      strictness = how;
+      payload = a .payload .now;
+    } in
+    receives
+    (ap (λ (how : Strictness). receiveOn (a .k) (as-asked how) (a .out .now) (tableOf (a .records .now) (a .store .now))) (asked .strictness-for .ensures))
+    (p .receive .ensures) (c .received-of .ensures)
 
 pub wuraketozo-receive-spec : {M : Type 1} → statement M
-wuraketozo-receive-spec = tie.close (tie.spec receive-requires received-of-requires same-length same-length-2 same-length-3 returns)
+wuraketozo-receive-spec = tie.close (tie.spec strictness-for-requires receive-requires received-of-requires same-length same-length-2 same-length-3 returns)

@@ -72,6 +72,12 @@ enum-told-11 c = search needs
 no-fragment-requires-11 : tie.Need-no-fragment-requires-11
 no-fragment-requires-11 c κs = search needs
 
+enum-told-12 : tie.Need-enum-told-12
+enum-told-12 c = search needs
+
+no-fragment-requires-12 : tie.Need-no-fragment-requires-12
+no-fragment-requires-12 c κs = search needs
+
 enum-known-verdict : tie.Need-enum-known-verdict
 enum-known-verdict c = search needs
 
@@ -109,7 +115,10 @@ returns-11 : tie.Need-returns-11
 returns-11 c = search needs
 
 returns-12 : tie.Need-returns-12
-returns-12 c = sym (ap fragmentIn (c .before .verdict .given .1))
+returns-12 c = search needs
+
+returns-13 : tie.Need-returns-13
+returns-13 c = sym (ap fragmentIn (c .before .verdict .given .1))
 
 pub fragment-in-spec : {M : Type 1} → statement M
 fragment-in-spec =
@@ -137,6 +146,8 @@ fragment-in-spec =
     no-fragment-requires-10
     enum-told-11
     no-fragment-requires-11
+    enum-told-12
+    no-fragment-requires-12
     enum-known-verdict
     returns
     returns-2
@@ -149,4 +160,5 @@ fragment-in-spec =
     returns-9
     returns-10
     returns-11
-    returns-12)
+    returns-12
+    returns-13)

@@ -1,6 +1,7 @@
 -- `program_report::report` meets its contract: the arm knows the answer of the reading, at which the text computes.
 -- Assumes nothing.
 use mathlib.Core.Path.{sym, ap, _∙_}
+use Rattle.wire_options.specs.declared.nops.Strictness.the-variants.{Plain}
 use Rattle.wire_datagram.specs.Reading.{answerOf}
 use Rattle.program_report.specs.Words.{refusedWord}
 use Rattle.program_report.specs.Report.{numberLine, answerText, reportOf}
@@ -33,7 +34,7 @@ put-reading-requires c κs =
     let read = c .before .before .before .before in
     let a = read .before .before .before .args in
     let answer = sym (read .read .ensures) ∙ ap answerOf (c .before .before .outcome2 .given .1) in
-    reading-sound (a .payload .now) (a .source) (a .destination) _ answer
+    reading-sound Plain (a .payload .now) (a .source) (a .destination) _ answer
 
 same-length : tie.Need-same-length
 same-length c = search needs

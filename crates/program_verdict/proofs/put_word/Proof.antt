@@ -115,6 +115,15 @@ slice-aggregate-put-12 c = search needs
 put-requires-12 : tie.Need-put-requires-12
 put-requires-12 c κs = search needs
 
+enum-told-13 : tie.Need-enum-told-13
+enum-told-13 c = search needs
+
+slice-aggregate-put-13 : tie.Need-slice-aggregate-put-13
+slice-aggregate-put-13 c = search needs
+
+put-requires-13 : tie.Need-put-requires-13
+put-requires-13 c κs = search needs
+
 same-length : tie.Need-same-length
 same-length c = search needs
 
@@ -187,6 +196,12 @@ same-length-12 c = search needs
 returns-12 : tie.Need-returns-12
 returns-12 c = put-as (ap wordOf (sym (c .before .before .before .before .before .enum-told12 .given .1))) (c .before .before .put12 .ensures)
 
+same-length-13 : tie.Need-same-length-13
+same-length-13 c = search needs
+
+returns-13 : tie.Need-returns-13
+returns-13 c = put-as (ap wordOf (sym (c .before .before .before .before .before .enum-told13 .given .1))) (c .before .before .put13 .ensures)
+
 pub put-word-spec : {M : Type 1} → statement M
 put-word-spec =
     tie.close
@@ -227,6 +242,9 @@ put-word-spec =
     enum-told-12
     slice-aggregate-put-12
     put-requires-12
+    enum-told-13
+    slice-aggregate-put-13
+    put-requires-13
     same-length
     returns
     same-length-2
@@ -250,4 +268,6 @@ put-word-spec =
     same-length-11
     returns-11
     same-length-12
-    returns-12)
+    returns-12
+    same-length-13
+    returns-13)

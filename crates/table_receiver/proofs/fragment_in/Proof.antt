@@ -42,6 +42,9 @@ enum-told-10 c = search needs
 enum-told-11 : tie.Need-enum-told-11
 enum-told-11 c = search needs
 
+enum-told-12 : tie.Need-enum-told-12
+enum-told-12 c = search needs
+
 enum-known-verdict : tie.Need-enum-known-verdict
 enum-known-verdict c = search needs
 
@@ -79,7 +82,10 @@ returns-11 : tie.Need-returns-11
 returns-11 c = search needs
 
 returns-12 : tie.Need-returns-12
-returns-12 c = sym (ap (λ (v : Verdict). foundBy (pieceOf v)) (c .before .verdict .given .1))
+returns-12 c = search needs
+
+returns-13 : tie.Need-returns-13
+returns-13 c = sym (ap (λ (v : Verdict). foundBy (pieceOf v)) (c .before .verdict .given .1))
 
 pub fragment-in-spec : {M : Type 1} → statement M
 fragment-in-spec =
@@ -96,6 +102,7 @@ fragment-in-spec =
     enum-told-9
     enum-told-10
     enum-told-11
+    enum-told-12
     enum-known-verdict
     returns
     returns-2
@@ -108,4 +115,5 @@ fragment-in-spec =
     returns-9
     returns-10
     returns-11
-    returns-12)
+    returns-12
+    returns-13)
