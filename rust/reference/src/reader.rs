@@ -411,7 +411,8 @@ fn leading_nops(eight: [u8; 8]) -> usize {
 #[inline(never)]
 fn long_run(bytes: &[u8]) -> usize {
     let (blocks, _) = bytes.as_chunks::<64>();
-    let whole = blocks.iter().take_while(|block| all_nops(block)).count() * 64;
+    let all_nops = |block: &&[u8; 64]| block.iter().fold(0, |any, byte| any | (byte ^ 1)) == 0;
+    let whole = blocks.iter().take_while(all_nops).count() * 64;
     let (eights, last) = bytes[whole..].as_chunks();
     for (number, eight) in eights.iter().enumerate() {
         let run = leading_nops(*eight);
@@ -421,13 +422,6 @@ fn long_run(bytes: &[u8]) -> usize {
     }
     let run = last.iter().take_while(|byte| **byte == 1).count();
     bytes.len() - last.len() + run
-}
-
-#[inline(always)]
-fn all_nops(block: &[u8; 64]) -> bool {
-    let (eights, _) = block.as_chunks();
-    let others = eights.iter().map(|eight| u64::from_ne_bytes(*eight) ^ NOPS);
-    others.fold(0, |any, other| any | other) == 0
 }
 
 /// Whether all bytes are 0: 64 bytes at a step, then eight, and the last eight
