@@ -331,6 +331,7 @@ group("lists", "runs_of_nops", "Runs of NOPs: in strict reading the eighth in a 
       *runs("nops-no-udp-sum", "read 1", lambda n: [REQ(1), nops(n)], AB, udp=0),
       *runs("nops-with-apc", "read 1 right", lambda n: [APC(crc32c(AB)), nops(n)], AB),
       *runs("nops-long", "read 2", lambda n: [REQ(1), nops(n), RES(2)], AB, sizes=(63, 64, 65, 72, 300, 1400)),
+      *runs("nops-long-before-32", "read 32", lambda n: [nops(n), many(32)], AB, sizes=(63, 64, 100, 1400)),
       *runs("nops-long-odd", "read 2", lambda n: [REQ(1), nops(n), RES(2)], A, sizes=(64, 71, 1400)))
 
 group("lists", "counts_of_nops", "Any other option starts the count again, and what is no NOP of the list does not count.",

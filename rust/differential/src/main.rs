@@ -82,6 +82,7 @@ fn run(plan: &Plan, counts: &mut Counts) -> Result<(), String> {
         payloads::sweep(&mut random(seed, 0, 0), counts).map_err(told)?
             + payloads::fills(&mut random(seed, 0, 4), counts).map_err(told)?
             + payloads::runs(&mut random(seed, 0, 5), counts).map_err(told)?
+            + payloads::long_runs(&mut random(seed, 0, 6), counts).map_err(told)?
     } else {
         0
     };

@@ -560,12 +560,7 @@ pub fn sweep(random: &mut Random, counts: &mut Counts) -> Result<u64, String> {
     let mut payloads = 0;
     let mut look = |random: &mut Random, payload: Vec<u8>| {
         payloads += 1;
-        let datagram = Datagram {
-            source: [192, 0, 2, 1],
-            destination: [198, 51, 100, 7],
-            payload,
-        };
-        read(random, counts, &datagram)
+        read(random, counts, &swept(payload))
     };
     // Behind a length byte stand NOPs; zeros, which are a fill; or what would
     // be FRAG's fields: the start is 22 and the offsets are 9.
@@ -595,10 +590,48 @@ pub fn sweep(random: &mut Random, counts: &mut Counts) -> Result<u64, String> {
     Ok(payloads)
 }
 
+/// FRAG with this Frag. Start and Frag. Offset; the last one's option start is
+/// its origin.
+fn frag(start: usize, offset: u8, last: bool) -> Vec<u8> {
+    let [high, low] = (start as u16).to_be_bytes();
+    let mut option = vec![3, 10, high, low, 0, 0, 0, 5, 0, offset];
+    if last {
+        option[1] = 12;
+        option.extend([0, 8]);
+    }
+    option
+}
+
+/// A payload between the sweeps' addresses.
+fn swept(payload: Vec<u8>) -> Datagram {
+    Datagram {
+        source: [192, 0, 2, 1],
+        destination: [198, 51, 100, 7],
+        payload,
+    }
+}
+
+/// The list of a datagram and of an original at either parity, without
+/// checksums, and of a fragment with other bytes behind Frag. Start.
+fn in_each(random: &mut Random, counts: &mut Counts, list: &[u8]) -> Check {
+    reread(random, counts, &[&[0, 0], list].concat(), 0)?;
+    // One byte of user data, the pad, no option checksum.
+    let odd = [&[7, 0, 0, 0], list].concat();
+    reread(random, counts, &odd, 1)?;
+    let frag = frag(HEAD.len() + 10 + list.len(), 9, false);
+    let part = random.bytes(3);
+    for payload in [
+        [&HEAD[..], list].concat(),
+        [&ODD_HEAD[..], &odd].concat(),
+        [&HEAD[..], &frag, list, &part].concat(),
+    ] {
+        read(random, counts, &swept(payload))?;
+    }
+    Ok(())
+}
+
 /// Every fill of up to 70 bytes behind EOL, all zero, or with one bit set in
-/// one byte, each byte in turn, with 0 to 7 NOPs in front: of a datagram and an
-/// original at either parity, without checksums, and of a fragment with other
-/// bytes behind Frag. Start. Counts the fills.
+/// one byte, each byte in turn, with 0 to 7 NOPs in front. Counts the fills.
 pub fn fills(random: &mut Random, counts: &mut Counts) -> Result<u64, String> {
     let mut fills = 0;
     for size in 0..=70 {
@@ -611,46 +644,40 @@ pub fn fills(random: &mut Random, counts: &mut Counts) -> Result<u64, String> {
                 if let Some(byte) = list.get_mut(nops + 1 + bad) {
                     *byte = 1 << random.below(8);
                 }
-                reread(random, counts, &[&[0, 0], &list[..]].concat(), 0)?;
-                // One byte of user data, the pad, no option checksum.
-                let odd = [&[7, 0, 0, 0], &list[..]].concat();
-                reread(random, counts, &odd, 1)?;
-                let start = (HEAD.len() + 10 + list.len()) as u8;
-                let frag = [3, 10, 0, start, 0, 0, 0, 5, 0, 9];
-                let part = random.bytes(3);
-                for payload in [
-                    [&HEAD[..], &list].concat(),
-                    [&ODD_HEAD[..], &odd].concat(),
-                    [&HEAD, &frag, &list[..], &part].concat(),
-                ] {
-                    let datagram = Datagram {
-                        source: [192, 0, 2, 1],
-                        destination: [198, 51, 100, 7],
-                        payload,
-                    };
-                    read(random, counts, &datagram)?;
-                }
+                in_each(random, counts, &list)?;
             }
         }
     }
     Ok(fills)
 }
 
-/// FRAG with this Frag. Start and Frag. Offset; the last one's option start is
-/// its origin.
-fn frag(start: usize, offset: u8, last: bool) -> Vec<u8> {
-    let mut option = vec![3, 10, 0, start as u8, 0, 0, 0, 5, 0, offset];
-    if last {
-        option[1] = 12;
-        option.extend([0, 8]);
+/// Every run of up to 140 NOPs, in front or behind an option of 2 to 9 bytes,
+/// which ends in a byte that differs from NOP in one bit, each in turn. Counts
+/// the runs.
+pub fn long_runs(random: &mut Random, counts: &mut Counts) -> Result<u64, String> {
+    let mut runs = 0;
+    for count in 0..=140 {
+        for before in 0..=8 {
+            for bit in 0..8 {
+                runs += 1;
+                let mut list = Vec::new();
+                if before > 0 {
+                    list.extend([9, before + 1]);
+                    list.resize(usize::from(before) + 1, 1);
+                }
+                list.extend([1].repeat(count));
+                list.extend([1 ^ 1 << bit, 2, 1, 9, 2]);
+                in_each(random, counts, &list)?;
+            }
+        }
     }
-    option
+    Ok(runs)
 }
 
 /// Two runs of 0 to 16 NOPs each, around nothing, an option, 32 of them, a
-/// body of ones, EOL, FRAG or a fault, with nothing or an option behind, which
-/// FRAG makes the fragment's bytes: of a datagram and an original with 0 to 2
-/// bytes of user data, without checksums. Counts the lists.
+/// body of ones, EOL, FRAG or a fault, with nothing or an option behind: of a
+/// datagram and an original with 0 to 2 bytes of user data, without checksums.
+/// Frag. Start is behind the second run, or in its middle. Counts the lists.
 pub fn runs(random: &mut Random, counts: &mut Counts) -> Result<u64, String> {
     let mut lists = 0;
     let nops = |count: usize| [1].repeat(count);
@@ -671,6 +698,7 @@ pub fn runs(random: &mut Random, counts: &mut Counts) -> Result<u64, String> {
                 vec![9, 1],
                 frag(start + 10, 8, false),
                 frag(start + 12, 8, true),
+                frag(start + 10 - behind / 2, 8, false),
                 frag(start + 10, 7, false),
                 frag(start + 200, 8, false),
             ] {
@@ -679,12 +707,7 @@ pub fn runs(random: &mut Random, counts: &mut Counts) -> Result<u64, String> {
                     let runs = [&nops(before)[..], &middle, &nops(behind), end].concat();
                     let payload = [&front[..], &runs].concat();
                     reread(random, counts, &payload[8..], usize::from(user))?;
-                    let datagram = Datagram {
-                        source: [192, 0, 2, 1],
-                        destination: [198, 51, 100, 7],
-                        payload,
-                    };
-                    read(random, counts, &datagram)?;
+                    read(random, counts, &swept(payload))?;
                 }
             }
         }
