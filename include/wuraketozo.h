@@ -109,7 +109,7 @@ typedef struct {
 } wuraketozo_rereading;
 
 /* Reads an original again that was put together from fragments. Refusals: 2 over 65,507 bytes, 6 option_start past the end, 5 an
- * unsafe option: nothing of it is to be delivered. */
+ * unsafe option: nothing of it is to be delivered. With STRICT, one behind eight NOPs in a row is not met: that is PADDED. */
 wuraketozo_rereading wuraketozo_reread(const uint8_t *original, size_t length, size_t option_start, uint32_t strictness);
 
 /* ---- option lists ---- */

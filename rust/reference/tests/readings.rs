@@ -381,7 +381,6 @@ const REQ: [u8; 6] = [6, 6, 0, 0, 1, 44];
 /// before EOL, in a datagram and in an original, at either parity.
 #[test]
 fn padded() {
-    let read = Verdict::Read;
     for count in runs() {
         let run = nops(count);
         for (list, options, fill) in [
@@ -395,10 +394,10 @@ fn padded() {
         ] {
             for user in [&[][..], &[7], &[7, 7]] {
                 let area = [&[0; 3][..user.len() % 2 + 2], &list].concat();
-                let expected = strictly(count, read);
+                let expected = strictly(count, Verdict::Read);
                 assert_eq!(verdicts(user, &area), expected, "{count} {user:?}");
-                let plain = crate::payload(user, &area);
-                let reading = reference::read(&plain, [0; 4], [0; 4], Plain).unwrap();
+                let packet = payload(user, &area);
+                let reading = read(&packet, [0; 4], [0; 4], Plain).unwrap();
                 assert_eq!((reading.count, reading.fill), (options, fill));
                 let original = [user, &area].concat();
                 let r = user.len();

@@ -295,7 +295,8 @@ pub fn read(
 }
 
 /// Reads an original again that was put together from fragments. Refusals
-/// 2, 6 and 5; with 5 nothing of it is to be delivered.
+/// 2, 6 and 5; with 5 nothing of it is to be delivered. In strict reading an
+/// unsafe option behind eight NOPs in a row is not met: that is `Padded`.
 ///
 /// ```
 /// use wuraketozo::{reread, Place, Refusal, Strictness, Verdict};

@@ -142,7 +142,6 @@ fn tails() {
 /// Document 02, R-6: more than seven NOPs in a row.
 #[test]
 fn padded() {
-    let both = |plain: Verdict, strict: Verdict| (plain, strict);
     let with = |parts: &[&[u8]]| verdicts(&[], &[&[0, 0], &parts.concat()[..]].concat());
     for count in 0..20 {
         let run = [1].repeat(count);
@@ -153,27 +152,27 @@ fn padded() {
             with(&[&[9, 2], &run, &[9, 2]]),
             with(&[&[9, 2], &run, &[0, 0]]),
         ] {
-            assert_eq!(list, both(Verdict::Read, strict(Verdict::Read)));
+            assert_eq!(list, (Verdict::Read, strict(Verdict::Read)));
         }
         // What stands in front is met first.
         let run_first = with(&[&run, &[192]]);
-        assert_eq!(run_first, both(Verdict::Unsafe, strict(Verdict::Unsafe)));
+        assert_eq!(run_first, (Verdict::Unsafe, strict(Verdict::Unsafe)));
         let fault_first = with(&[&[192], &run]);
-        assert_eq!(fault_first, both(Verdict::Unsafe, Verdict::Unsafe));
+        assert_eq!(fault_first, (Verdict::Unsafe, Verdict::Unsafe));
         // Before a fragment's option, with user data.
         let start = 22 + count as u8;
         let area = [&[0, 0], &run[..], &[3, 10, 0, start, 0, 0, 0, 7, 0, 8]].concat();
         let found = verdicts(b"ok", &area);
-        assert_eq!(found, both(Verdict::FragData, strict(Verdict::FragData)));
+        assert_eq!(found, (Verdict::FragData, strict(Verdict::FragData)));
     }
     let seven = [1; 7];
     let around = with(&[&seven, &[9, 2], &seven]);
-    assert_eq!(around, both(Verdict::Read, Verdict::Read));
+    assert_eq!(around, (Verdict::Read, Verdict::Read));
     // A body of ones, and ones behind EOL.
     let body = with(&[&[9, 12], &[1; 10]]);
-    assert_eq!(body, both(Verdict::Read, Verdict::Read));
+    assert_eq!(body, (Verdict::Read, Verdict::Read));
     let behind_eol = with(&[&[0], &[1; 10]]);
-    assert_eq!(behind_eol, both(Verdict::Tail, Verdict::Tail));
+    assert_eq!(behind_eol, (Verdict::Tail, Verdict::Tail));
 }
 
 #[test]
