@@ -45,6 +45,15 @@ static const uint8_t level_bad_data[] = {
     ' ',  'c',  'm',  0xa8, 0xd9, 0x02, 0x06, 0x55, 0xb7, 0xf8, 0x28, 0x06, 0x06, 0x00, 0x00, 0x01, 0x2c,
 };
 
+/* Padded with eight NOPs before its option. */
+static const uint8_t level_padded[] = {
+    0x12, 0x34, 0x14, 0xb4, 0x00, 0x14, 0xd3, 0xf7, /* UDP header */
+    'l', 'e', 'v', 'e', 'l', ' ', '4', '1', '2', ' ', 'c', 'm',
+    0xf4, 0xb9,                                     /* option checksum */
+    0x01, 0x01, 0x01, 0x01, 0x01, 0x01, 0x01, 0x01, /* NOPs */
+    0x06, 0x06, 0x00, 0x00, 0x01, 0x2c,             /* REQ, token 300 */
+};
+
 /* A long report in three fragments: 68 bytes of user data, then its own options, 82 bytes in all. */
 static const uint8_t weir_first[] = {
     0x12, 0x34, 0x14, 0xb4, 0x00, 0x08, 0xec, 0xb9, /* UDP length 8: no user data of its own */
@@ -128,10 +137,14 @@ static size_t store_length;
 static uint8_t *out;
 static size_t out_length;
 
+/* How NOPs are read; a host may choose anew for each datagram. */
+static uint32_t strictness = WURAKETOZO_PLAIN;
+
 static const char *verdict_word(uint32_t verdict)
 {
     static const char *const words[] = {"none",   "short",    "pad",     "unsummed", "badsum", "malformed",
-                                        "unsafe", "fragdata", "crowded", "read",     "piece",  "tail"};
+                                        "unsafe", "fragdata", "crowded", "read",     "piece",  "tail",
+                                        "padded"};
     return verdict < sizeof words / sizeof words[0] ? words[verdict] : "?";
 }
 
@@ -178,7 +191,7 @@ static void show_answer(const wuraketozo_answer *answer)
         printf("fragment in conflict, its original dropped\n");
         return;
     case WURAKETOZO_DELIVERED:
-        rereading = wuraketozo_reread(out, answer->length, answer->option_start);
+        rereading = wuraketozo_reread(out, answer->length, answer->option_start, strictness);
         if (rereading.refusal != 0) {
             printf("original refused %" PRIu32 "\n", rereading.refusal);
             return;
@@ -194,8 +207,8 @@ static void show_answer(const wuraketozo_answer *answer)
 /* Hands a datagram that arrived for a client to the library. */
 static wuraketozo_received receive(size_t client, uint64_t time, wuraketozo_address source, const uint8_t *payload, size_t length)
 {
-    return wuraketozo_receive(records, CLIENTS, store, store_length, client, time, source, host_address, payload, length, out,
-                              out_length);
+    return wuraketozo_receive(records, CLIENTS, store, store_length, client, time, source, host_address, strictness, payload, length,
+                              out, out_length);
 }
 
 static void receive_and_show(size_t client, uint64_t time, wuraketozo_address source, const uint8_t *payload, size_t length)
@@ -269,6 +282,12 @@ int main(void)
     RECEIVE(GAUGE, 0, gauge_address, level);
     RECEIVE(GAUGE, 10, gauge_address, level_bad_option);
     RECEIVE(GAUGE, 20, gauge_address, level_bad_data);
+
+    printf("-- one padded with NOPs, read plainly and then strictly\n");
+    RECEIVE(GAUGE, 100, gauge_address, level_padded);
+    strictness = WURAKETOZO_STRICT;
+    RECEIVE(GAUGE, 110, gauge_address, level_padded);
+    strictness = WURAKETOZO_PLAIN;
 
     printf("-- a long report, its fragments out of order, one of them twice\n");
     RECEIVE(GAUGE, 1000, gauge_address, weir_last);

@@ -62,8 +62,17 @@ enum {
     WURAKETOZO_CROWDED = 8,
     WURAKETOZO_READ = 9,
     WURAKETOZO_PIECE = 10,
-    WURAKETOZO_TAIL = 11 /* a byte behind EOL is not zero, up to the end or, in a fragment's list, up to its part */
+    WURAKETOZO_TAIL = 11,  /* a byte behind EOL is not zero, up to the end or, in a fragment's list, up to its part */
+    WURAKETOZO_PADDED = 12 /* in strict reading only: eight NOPs in a row. Led by a fragment's option it is no fragment then */
 };
+
+/* How NOPs are read: `strictness`, which the host chooses for each call that reads. PLAIN (0) skips any number of them. With STRICT, or
+ * any number but 0, the eighth NOP in a row gives PADDED: seven are fine, any other option starts the count again, and a fault that
+ * stands in front of the eighth is met first. An answer of strict reading that is not PADDED is the answer of plain reading too.
+ *
+ * RFC 9868 (section 11.2) says that packets should not have more than seven NOPs in a row, and that a receiver which keeps meeting more
+ * should log it as a possible attack. A host that wants to go by that reads strictly and logs PADDED. */
+enum { WURAKETOZO_PLAIN = 0, WURAKETOZO_STRICT = 1 };
 
 /* What the APC options say of the user data. */
 enum { WURAKETOZO_APC_NONE = 0, WURAKETOZO_APC_RIGHT = 1, WURAKETOZO_APC_WRONG = 2 };
@@ -71,7 +80,7 @@ enum { WURAKETOZO_APC_NONE = 0, WURAKETOZO_APC_RIGHT = 1, WURAKETOZO_APC_WRONG =
 /* What a payload says. */
 typedef struct {
     uint32_t refusal;          /* 0, or the reader's number; then every other field is 0 */
-    uint32_t verdict;          /* WURAKETOZO_NONE .. WURAKETOZO_TAIL */
+    uint32_t verdict;          /* WURAKETOZO_NONE .. WURAKETOZO_PADDED */
     wuraketozo_extent user;    /* the user data */
     wuraketozo_extent options; /* the option list with its fill, 0 and 0 unless the verdict is READ */
     size_t count;              /* options in it, NOP and EOL not counted */
@@ -85,12 +94,13 @@ typedef struct {
 } wuraketozo_reading;
 
 /* Reads one IPv4 UDP payload. Refusals: 1 under 8 bytes, 2 over 65,515, 3 UDP length out of range, 4 UDP checksum wrong. */
-wuraketozo_reading wuraketozo_read(const uint8_t *payload, size_t length, wuraketozo_address source, wuraketozo_address destination);
+wuraketozo_reading wuraketozo_read(const uint8_t *payload, size_t length, wuraketozo_address source, wuraketozo_address destination,
+                                   uint32_t strictness);
 
 /* What an original says. */
 typedef struct {
     uint32_t refusal;                   /* 0, or the reader's number; then every other field is 0 */
-    uint32_t verdict;                   /* WURAKETOZO_NONE .. WURAKETOZO_READ or TAIL, and not UNSAFE, which is refusal 5 */
+    uint32_t verdict;                   /* WURAKETOZO_NONE .. WURAKETOZO_READ, TAIL or PADDED, and not UNSAFE: refusal 5 */
     wuraketozo_original_extent user;    /* the user data */
     wuraketozo_original_extent options; /* the option list with its fill, 0 and 0 unless the verdict is READ */
     size_t count;                       /* options in it, NOP and EOL not counted */
@@ -99,8 +109,8 @@ typedef struct {
 } wuraketozo_rereading;
 
 /* Reads an original again that was put together from fragments. Refusals: 2 over 65,507 bytes, 6 option_start past the end, 5 an
- * unsafe option: nothing of it is to be delivered. */
-wuraketozo_rereading wuraketozo_reread(const uint8_t *original, size_t length, size_t option_start);
+ * unsafe option: nothing of it is to be delivered. With STRICT, one behind eight NOPs in a row is not met: that is PADDED. */
+wuraketozo_rereading wuraketozo_reread(const uint8_t *original, size_t length, size_t option_start, uint32_t strictness);
 
 /* ---- option lists ---- */
 
@@ -110,8 +120,8 @@ typedef struct {
     size_t fill;
 } wuraketozo_listing;
 
-/* Lists the options of a reading as an encoded option list at the front of `buffer`. `verdict` and `options` are the reading's,
- * `payload` what was read. Any other values give a list without options. */
+/* Lists the options of a reading, plain or strict, as an encoded option list at the front of `buffer`. `verdict` and `options` are the
+ * reading's, `payload` what was read. Any other values give a list without options. */
 wuraketozo_listing wuraketozo_list(const uint8_t *payload, size_t length, uint32_t verdict, wuraketozo_extent options, uint8_t *buffer,
                                    size_t room);
 
@@ -174,7 +184,7 @@ typedef struct {
  * the call below with its own layout's number in its name and no other one. The reference to it that stands here goes into every
  * object that includes this header, so that a host does not link against a library of another layout. It answers the bytes of a
  * record, as wuraketozo_record_size does. */
-size_t wuraketozo_layout_2(void);
+size_t wuraketozo_layout_3(void);
 #if defined(__has_attribute)
 #if __has_attribute(retain)
 #define WURAKETOZO_KEPT __attribute__((used, retain))
@@ -184,7 +194,7 @@ size_t wuraketozo_layout_2(void);
 #define WURAKETOZO_KEPT __attribute__((used))
 #endif
 #ifdef WURAKETOZO_KEPT
-static size_t (*const wuraketozo_layout)(void) WURAKETOZO_KEPT = wuraketozo_layout_2;
+static size_t (*const wuraketozo_layout)(void) WURAKETOZO_KEPT = wuraketozo_layout_3;
 #endif
 #if defined(__STDC_VERSION__) && __STDC_VERSION__ >= 201112L
 _Static_assert(sizeof(wuraketozo_client) == 704, "a record is 704 bytes");
@@ -265,10 +275,10 @@ typedef struct {
 } wuraketozo_received;
 
 /* Reads a payload that arrived for client k and, if it is a fragment, offers it with its own flow. What is no fragment touches no
- * record, no store and no out. */
+ * record, no store and no out. The strictness may be another one with each datagram. */
 wuraketozo_received wuraketozo_receive(wuraketozo_client *records, size_t count, uint8_t *store, size_t store_length, size_t k,
                                        uint64_t time, wuraketozo_address source, wuraketozo_address destination,
-                                       const uint8_t *payload, size_t length, uint8_t *out, size_t room);
+                                       uint32_t strictness, const uint8_t *payload, size_t length, uint8_t *out, size_t room);
 
 #ifdef __cplusplus
 }

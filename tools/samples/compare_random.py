@@ -1,7 +1,8 @@
 #!/usr/bin/env python3
 """Compares the program with make_samples.py's reading of the papers on random datagrams that stay close to the rules.
 
-Among 1,000 or more of them each verdict has to come, and tail also in a datagram that FRAG leads."""
+Among 1,000 or more of them each verdict has to come, tail also in a datagram that FRAG leads, and read and piece also with eight NOPs
+in a row: the program is not strict."""
 import os, random, struct, subprocess, sys
 from collections import Counter
 from make_samples import SRC, DST, FIXED, area_of, expected, opt, udp
@@ -37,8 +38,10 @@ def frag(at):
 
 def one_option(at):
     k = rng.random()
-    if k < 0.12:
+    if k < 0.10:
         return b"\x01"
+    if k < 0.12:
+        return b"\x01" * rng.choice([6, 7, 8, 9, 40])
     if k < 0.13:
         return b"\0" + some_bytes(rng.randrange(4))
     if k < 0.14:
@@ -63,7 +66,7 @@ def datagram():
     options = b""
     base = size + size % 2 + 2
     if rng.random() < 0.25:
-        options = b"\x01" * rng.randrange(3)
+        options = b"\x01" * rng.choice([0, 1, 2, 7, 8])
         options += frag(base + len(options))
     for _ in range(rng.choice([0, 1, 2, 3, 5, 8, 31, 32, 33, 34])):
         options += one_option(base + len(options)) if rng.random() < 0.5 else opt(rng.choice([4, 9, 191]), b"\x05\xdc")
@@ -87,12 +90,15 @@ for i in range(COUNT):
     got = subprocess.run([PROGRAM], input=data, stdout=subprocess.PIPE).stdout.decode("latin-1")
     word = want.split("\n")[0] if want.startswith("refused") else want.split("\n")[1]
     seen[word] += 1
+    if word in ("verdict read", "verdict piece") and b"\x01" * 8 in data[18:]:
+        seen[word + ", eight NOPs"] += 1
     if word == "verdict tail" and data[12:14] == b"\0\x08" and data[18:].lstrip(b"\x01")[:1] == b"\x03":
         seen["tail led by FRAG"] += 1
     if got != want:
         print("differs:", data.hex(), "\nwanted:", want, "\ngot:", got)
         sys.exit(1)
 print(COUNT, "agree:", dict(seen))
-missing = [name for name in ["verdict " + word for word in VERDICTS] + ["tail led by FRAG"] if name not in seen]
+wanted = ["verdict " + word for word in VERDICTS] + ["tail led by FRAG", "verdict read, eight NOPs", "verdict piece, eight NOPs"]
+missing = [name for name in wanted if name not in seen]
 if COUNT >= 1000 and missing:
     sys.exit("never came: " + ", ".join(missing))

@@ -1,6 +1,6 @@
 #!/usr/bin/env python3
 """Writes samples/NAME.bin (8 address bytes and a payload) and samples/NAME.txt (what document 01 says is printed of it, with R-2 of
-document 02).
+document 02; by R-6 the program is not strict, so that any number of NOPs is skipped).
 
 The expected text comes from a reading of the papers in this script alone: refusals 1 to 4 in order, the verdicts in order, the walk.
 Each sample also names the first words that it is meant to give, so that a slip in a sample's bytes is seen here."""
@@ -168,6 +168,7 @@ def opt(kind, body, extended=False):
 
 TOKEN = opt(6, struct.pack(">I", 300))
 FRAG = lambda start, last=b"": opt(3, struct.pack(">HIH", start, 7, 8) + last)
+NOPS = lambda count: b"\x01" * count
 CRC_OF_32_ZEROS = bytes.fromhex("aa36918a")
 MIXED = (
     b"\x01" + opt(2, CRC_OF_32_ZEROS) + opt(4, b"\x05\xdc") + opt(5, b"\x20\x00\x04") + b"\x01\x01" + TOKEN + opt(7, b"\xff\xff\xff\xff")
@@ -218,6 +219,24 @@ SAMPLES = {
     "unsafe_before_tail": (SRC + DST + udp(area_of(b"\xc0\0\xff")), "unsafe"),
     "crowded_before_tail": (SRC + DST + udp(area_of(opt(9, b"") * 33 + b"\0\xff")), "crowded"),
     "fragdata_before_tail": (SRC + DST + udp(area_of(FRAG(24) + b"\0\x01", size=10), user=b"ab"), "fragdata"),
+    # runs of NOPs
+    "read_7_nops_before": (SRC + DST + udp(area_of(NOPS(7) + TOKEN, size=10), user=b"ab"), "read"),
+    "read_8_nops_before": (SRC + DST + udp(area_of(NOPS(8) + TOKEN, size=10), user=b"ab"), "read"),
+    "read_7_nops_between": (SRC + DST + udp(area_of(TOKEN + NOPS(7) + opt(9, b"xy"), size=9), user=b"x"), "read"),
+    "read_8_nops_between": (SRC + DST + udp(area_of(TOKEN + NOPS(8) + opt(9, b"xy"), size=9), user=b"x"), "read"),
+    "read_7_nops_behind": (SRC + DST + udp(area_of(TOKEN + NOPS(7))), "read"),
+    "read_8_nops_behind": (SRC + DST + udp(area_of(TOKEN + NOPS(8))), "read"),
+    "read_8_nops_before_fill": (SRC + DST + udp(area_of(TOKEN + NOPS(8) + b"\0\0\0")), "read"),
+    "read_8_nops_as_a_body": (SRC + DST + udp(area_of(opt(9, NOPS(8)))), "read"),
+    "unsafe_behind_8_nops": (SRC + DST + udp(area_of(NOPS(8) + b"\xc0")), "unsafe"),
+    "tail_8_nops_behind_eol": (SRC + DST + udp(area_of(b"\0" + NOPS(8))), "tail"),
+    "piece_behind_7_nops": (SRC + DST + udp(area_of(NOPS(7) + FRAG(27) + b"first")), "piece"),
+    "piece_behind_8_nops": (SRC + DST + udp(area_of(NOPS(8) + FRAG(28) + b"first")), "piece"),
+    "fragdata_behind_8_nops": (SRC + DST + udp(area_of(NOPS(8) + FRAG(30), size=10), user=b"ab"), "fragdata"),
+    "piece_with_7_nops": (SRC + DST + udp(area_of(FRAG(27) + NOPS(7) + b"first")), "piece"),
+    "piece_with_8_nops": (SRC + DST + udp(area_of(FRAG(28) + NOPS(8) + b"first")), "piece"),
+    "read_nops_only": (SRC + DST + udp(area_of(NOPS(1400))), "read"),
+    "read_nops_longest": (SRC + DST + udp(area_of(NOPS(65499) + TOKEN)), "read"),
     "malformed_across_frag_start": (SRC + DST + udp(area_of(FRAG(22) + opt(9, b"ab"))), "malformed"),
     "read_line1": (SRC + DST + udp(bytes.fromhex("f8c506060000012c")), "read"),
     "read_line2": (SRC + DST + udp(bytes.fromhex("00f8c406060000012c"), user=b"x"), "read"),

@@ -74,9 +74,15 @@ static const uint8_t apc_wrong[] = {HEAD(8), 0, 0, 2, 6, 0, 0, 0, 1};
 static const uint8_t piece[] = {HEAD(8), 0, 0, 3, 10, 0, 20, 0, 0, 0, 7, 0, 8, 'a', 'b'};
 static const uint8_t tail[] = {HEAD(8), 0, 0, 6, 6, 0, 0, 1, 44, 0, 0, 1};
 static const uint8_t tail_in_piece[] = {HEAD(8), 0, 0, 3, 10, 0, 22, 0, 0, 0, 7, 0, 8, 0, 1, 'a', 'b'};
+static const uint8_t padded[] = {HEAD(8), 0, 0, 6, 6, 0, 0, 1, 44, 1, 1, 1, 1, 1, 1, 1, 1};
+static const uint8_t padded_piece[] = {HEAD(8), 0, 0, 1, 1, 1, 1, 1, 1, 1, 1, 3, 10, 0, 28, 0, 0, 0, 11, 0, 8, 'a', 'b'};
 static const uint8_t piece_behind_eol[] = {HEAD(8), 0, 0, 3, 10, 0, 21, 0, 0, 0, 9, 0, 8, 0, 1, 'a', 'b'};
 
-#define READ(payload) wuraketozo_read(payload, sizeof(payload), here, there)
+#define READ_AS(payload, strictness) wuraketozo_read(payload, sizeof(payload), here, there, strictness)
+#define READ(payload) READ_AS(payload, WURAKETOZO_PLAIN)
+/* of an original: its bytes are the payload's behind the header */
+#define REREAD_AS(payload, strictness) wuraketozo_reread((payload) + 8, sizeof(payload) - 8, 0, strictness)
+#define REREAD(payload) REREAD_AS(payload, WURAKETOZO_PLAIN)
 
 static void verdicts_and_apc(void)
 {
@@ -88,11 +94,11 @@ static void verdicts_and_apc(void)
         crowded[i + 1] = 2;
     }
     CHECK(written.refusal == 0 && written.size == 10);
-    CHECK(wuraketozo_read(summed, 10, here, there).verdict == WURAKETOZO_READ);
+    CHECK(wuraketozo_read(summed, 10, here, there, WURAKETOZO_STRICT).verdict == WURAKETOZO_READ);
     summed[9] ^= 1;
-    CHECK(wuraketozo_read(summed, 10, here, there).verdict == WURAKETOZO_BADSUM);
+    CHECK(wuraketozo_read(summed, 10, here, there, WURAKETOZO_STRICT).verdict == WURAKETOZO_BADSUM);
     summed[8] = summed[9] = 0;
-    CHECK(wuraketozo_read(summed, 10, here, there).verdict == WURAKETOZO_UNSUMMED);
+    CHECK(wuraketozo_read(summed, 10, here, there, WURAKETOZO_STRICT).verdict == WURAKETOZO_UNSUMMED);
     CHECK(READ(none).verdict == WURAKETOZO_NONE);
     CHECK(READ(short_area).verdict == WURAKETOZO_SHORT);
     CHECK(READ(pad).verdict == WURAKETOZO_PAD);
@@ -103,22 +109,36 @@ static void verdicts_and_apc(void)
     CHECK(READ(piece).verdict == WURAKETOZO_PIECE);
     CHECK(READ(tail).verdict == WURAKETOZO_TAIL);
     CHECK(READ(tail).options.from == 0 && READ(tail).options.to == 0 && READ(tail).count == 0 && READ(tail).fill == 0);
-    CHECK(wuraketozo_read(tail, sizeof tail - 1, here, there).verdict == WURAKETOZO_READ);
-    CHECK(wuraketozo_read(tail, sizeof tail - 1, here, there).fill == 2);
+    CHECK(wuraketozo_read(tail, sizeof tail - 1, here, there, WURAKETOZO_STRICT).verdict == WURAKETOZO_READ);
+    CHECK(wuraketozo_read(tail, sizeof tail - 1, here, there, WURAKETOZO_STRICT).fill == 2);
     CHECK(READ(tail_in_piece).verdict == WURAKETOZO_TAIL && READ(tail_in_piece).part.to == 0);
     CHECK(READ(piece_behind_eol).verdict == WURAKETOZO_PIECE && READ(piece_behind_eol).part.from == 21);
+    CHECK(READ(padded).verdict == WURAKETOZO_READ && READ(padded).count == 1);
+    CHECK(READ(padded_piece).verdict == WURAKETOZO_PIECE && READ(padded_piece).part.from == 28);
+    /* any number but 0 is strict */
+    const uint32_t strict[] = {WURAKETOZO_STRICT, 2, 3, 256, 65536, 0x80000000, UINT32_MAX};
+    for (size_t i = 0; i < sizeof strict / sizeof strict[0]; i++) {
+        wuraketozo_reading found = READ_AS(padded, strict[i]);
+        CHECK(found.refusal == 0 && found.verdict == WURAKETOZO_PADDED && found.user.from == 8 && found.user.to == 8);
+        CHECK(found.options.from == 0 && found.options.to == 0 && found.count == 0 && found.fill == 0);
+        CHECK(wuraketozo_read(padded, sizeof padded - 1, here, there, strict[i]).verdict == WURAKETOZO_READ);
+        CHECK(READ_AS(padded_piece, strict[i]).verdict == WURAKETOZO_PADDED && READ_AS(padded_piece, strict[i]).part.to == 0);
+        CHECK(REREAD_AS(padded, strict[i]).refusal == 0);
+        CHECK(REREAD_AS(padded, strict[i]).verdict == WURAKETOZO_PADDED);
+        CHECK(wuraketozo_reread(padded + 8, sizeof padded - 9, 0, strict[i]).verdict == WURAKETOZO_READ);
+    }
+    CHECK(REREAD(padded).verdict == WURAKETOZO_READ);
     CHECK(READ(read_list).apc == WURAKETOZO_APC_NONE);
     CHECK(READ(apc_right).apc == WURAKETOZO_APC_RIGHT);
     CHECK(READ(apc_wrong).apc == WURAKETOZO_APC_WRONG);
-    /* of an original: its bytes are the payload's behind the header */
-    CHECK(wuraketozo_reread(read_list + 8, 2, 0).verdict == WURAKETOZO_READ);
-    CHECK(wuraketozo_reread(unsafe_kind + 8, 3, 0).refusal == 5);
-    CHECK(wuraketozo_reread(tail + 8, sizeof tail - 8, 0).refusal == 0);
-    CHECK(wuraketozo_reread(tail + 8, sizeof tail - 8, 0).verdict == WURAKETOZO_TAIL);
-    CHECK(wuraketozo_reread(apc_wrong + 8, 8, 0).apc == WURAKETOZO_APC_WRONG);
+    CHECK(REREAD(read_list).verdict == WURAKETOZO_READ);
+    CHECK(REREAD(unsafe_kind).refusal == 5);
+    CHECK(REREAD(tail).refusal == 0);
+    CHECK(REREAD(tail).verdict == WURAKETOZO_TAIL);
+    CHECK(REREAD(apc_wrong).apc == WURAKETOZO_APC_WRONG);
     CHECK(READ(piece).part.from == 20 && READ(piece).part.to == sizeof piece && READ(piece).place == 0);
     CHECK(READ(apc_right).user.from == 8 && READ(apc_right).options.from == 10);
-    CHECK(wuraketozo_reread(apc_right + 8, 8, 0).user.from == 0 && wuraketozo_reread(apc_right + 8, 8, 0).options.from == 2);
+    CHECK(REREAD(apc_right).user.from == 0 && REREAD(apc_right).options.from == 2);
 }
 
 /* ---- the table ---- */
@@ -135,12 +155,13 @@ static wuraketozo_fragment fragment(size_t place, uint32_t last)
 #define OFFER(place, bytes, last) \
     wuraketozo_offer(records, 1, store, sizeof store, 0, fragment(place, last), (const uint8_t *)(bytes), sizeof(bytes) - 1, out, \
                      sizeof out)
-#define RECEIVE(payload) \
-    wuraketozo_receive(records, 1, store, sizeof store, 0, 0, here, there, payload, sizeof(payload), out, sizeof out)
+#define RECEIVE_AS(payload, strictness) \
+    wuraketozo_receive(records, 1, store, sizeof store, 0, 0, here, there, strictness, payload, sizeof(payload), out, sizeof out)
+#define RECEIVE(payload) RECEIVE_AS(payload, WURAKETOZO_PLAIN)
 
 static void outcomes(void)
 {
-    CHECK(wuraketozo_record_size() == sizeof records[0] && wuraketozo_layout_2() == sizeof records[0]);
+    CHECK(wuraketozo_record_size() == sizeof records[0] && wuraketozo_layout_3() == sizeof records[0]);
     CHECK(wuraketozo_share_size() == sizeof store && wuraketozo_out_size() == sizeof out && wuraketozo_client_limit() == 12);
     CHECK(wuraketozo_reset(records, 1, store, sizeof store).outcome == WURAKETOZO_RESET);
     CHECK(OFFER(0, "ab", 0).outcome == WURAKETOZO_STORED);
@@ -159,7 +180,14 @@ static void outcomes(void)
     CHECK(RECEIVE(tail_in_piece).what == WURAKETOZO_DATAGRAM && RECEIVE(tail_in_piece).reading.verdict == WURAKETOZO_TAIL);
     CHECK(RECEIVE(piece_behind_eol).what == WURAKETOZO_FRAGMENT);
     CHECK(wuraketozo_account(records, 1, store, sizeof store, 0).figures.offered == 5);
-    CHECK(wuraketozo_receive(records, 1, store, sizeof store, 0, 0, here, there, none, 7, out, sizeof out).what == WURAKETOZO_UNREAD);
+    CHECK(RECEIVE_AS(padded_piece, WURAKETOZO_STRICT).what == WURAKETOZO_DATAGRAM);
+    CHECK(RECEIVE_AS(padded_piece, UINT32_MAX).reading.verdict == WURAKETOZO_PADDED);
+    CHECK(wuraketozo_account(records, 1, store, sizeof store, 0).figures.offered == 5);
+    CHECK(RECEIVE(padded_piece).what == WURAKETOZO_FRAGMENT);
+    CHECK(RECEIVE_AS(piece, WURAKETOZO_STRICT).answer.outcome == WURAKETOZO_REPEATED);
+    CHECK(wuraketozo_account(records, 1, store, sizeof store, 0).figures.offered == 9);
+    CHECK(wuraketozo_receive(records, 1, store, sizeof store, 0, 0, here, there, WURAKETOZO_STRICT, none, 7, out, sizeof out).what ==
+          WURAKETOZO_UNREAD);
 }
 
 /* ---- NULL with length 0 ---- */
@@ -175,13 +203,16 @@ static void nothing_at_all(void)
     const wuraketozo_extent whole = {0, 0};
     const wuraketozo_original_extent whole_original = {0, 0};
 
-    CHECK(same_reading(wuraketozo_read(NULL, 0, here, there), wuraketozo_read(some, 0, here, there)));
-    CHECK(wuraketozo_read(NULL, 0, here, there).refusal == 1);
-    CHECK(same_rereading(wuraketozo_reread(NULL, 0, 0), wuraketozo_reread(some, 0, 0)));
-    CHECK(wuraketozo_reread(NULL, 0, 0).refusal == 0 && wuraketozo_reread(NULL, 0, 0).verdict == WURAKETOZO_NONE);
-    CHECK(same_rereading(wuraketozo_reread(NULL, 0, 1), wuraketozo_reread(some, 0, 1)));
+    for (uint32_t strictness = WURAKETOZO_PLAIN; strictness <= WURAKETOZO_STRICT; strictness++) {
+        CHECK(same_reading(wuraketozo_read(NULL, 0, here, there, strictness), wuraketozo_read(some, 0, here, there, strictness)));
+        CHECK(wuraketozo_read(NULL, 0, here, there, strictness).refusal == 1);
+        CHECK(same_rereading(wuraketozo_reread(NULL, 0, 0, strictness), wuraketozo_reread(some, 0, 0, strictness)));
+        CHECK(wuraketozo_reread(NULL, 0, 0, strictness).refusal == 0);
+        CHECK(wuraketozo_reread(NULL, 0, 0, strictness).verdict == WURAKETOZO_NONE);
+        CHECK(same_rereading(wuraketozo_reread(NULL, 0, 1, strictness), wuraketozo_reread(some, 0, 1, strictness)));
+    }
 
-    for (uint32_t verdict = WURAKETOZO_NONE; verdict <= WURAKETOZO_TAIL; verdict++) {
+    for (uint32_t verdict = WURAKETOZO_NONE; verdict <= WURAKETOZO_PADDED; verdict++) {
         CHECK(same_listing(wuraketozo_list(NULL, 0, verdict, whole, buffer, sizeof buffer),
                            wuraketozo_list(some, 0, verdict, whole, left, sizeof left)));
         CHECK(memcmp(buffer, left, sizeof left) == 0);
@@ -218,8 +249,8 @@ static void nothing_at_all(void)
         CHECK(same_answer(wuraketozo_reset(r, count, s, size), wuraketozo_reset(without, count, s2, size)));
         CHECK(same_answer(wuraketozo_offer(r, count, s, size, 0, fragment(0, 0), b, length, o, room),
                           wuraketozo_offer(without, count, s2, size, 0, fragment(0, 0), b2, length, o2, room)));
-        CHECK(same_received(wuraketozo_receive(r, count, s, size, 0, 0, here, there, b, length, o, room),
-                            wuraketozo_receive(without, count, s2, size, 0, 0, here, there, b2, length, o2, room)));
+        CHECK(same_received(wuraketozo_receive(r, count, s, size, 0, 0, here, there, WURAKETOZO_STRICT, b, length, o, room),
+                            wuraketozo_receive(without, count, s2, size, 0, 0, here, there, WURAKETOZO_STRICT, b2, length, o2, room)));
         CHECK(same_answer(wuraketozo_account(r, count, s, size, 0), wuraketozo_account(without, count, s2, size, 0)));
         CHECK(same_answer(wuraketozo_advance(r, count, s, size, 0, 9), wuraketozo_advance(without, count, s2, size, 0, 9)));
         CHECK(memcmp(with_null, without, sizeof without) == 0 && dummy == 0);

@@ -8,7 +8,7 @@ import sys
 
 import reader
 from numbers_expected import TABLES, number_lines
-from parts import Packet
+from parts import SETTINGS, Packet
 from vectors import GROUPS
 
 ORDER = ["refusals", "verdicts", "lengths", "lists", "fragments", "large", "rereads"]
@@ -38,10 +38,12 @@ def check():
     for v in every():
         assert v.name not in names, v.name
         names.add(v.name)
-        got = reader.brief(v.answer())
-        if got != v.want:
-            wrong += 1
-            print("DIFFERS", v.name, "table:", v.want, "reader:", got)
+        for setting in SETTINGS:
+            got = reader.brief(v.answer(setting))
+            if got != v.want[setting]:
+                wrong += 1
+                print("DIFFERS", v.name, setting, "table:", v.want[setting], "reader:", got)
+        assert v.want["strict"] in (v.want["plain"], "padded"), v.name
         if v.name in FIGURES:
             size = v.payload()[5]
             assert v.payload()[size:].hex() == FIGURES[v.name], v.name
@@ -74,7 +76,7 @@ def script_line(v):
 
 
 def script():
-    out = ["-- Made by tools/vectors/make.py: each packet's parts, and a remark that names them in order"]
+    out = ["-- Made by tools/vectors/make.py: each packet's parts, and a remark that names them in order. Each is read plainly, then strictly"]
     for module in ORDER:
         out += ["--", f"-- ==== {TITLES[module]}"]
         for _, title, vectors in GROUPS[module]:
@@ -125,4 +127,4 @@ if sys.argv[1] == "numbers":
 if sys.argv[1] == "script":
     print("\n".join(script()))
 if sys.argv[1] == "readings":
-    print("\n".join(reader.line(v.name, v.answer()) for v in every()))
+    print("\n".join(reader.line(f"{v.name} {setting}", v.answer(setting)) for v in every() for setting in SETTINGS))

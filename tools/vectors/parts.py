@@ -22,6 +22,9 @@ def raw(label, text):
 EOL, NOP = Part("EOL", [0]), Part("NOP", [1])
 
 
+def nops(count): return Part(f"{count} NOPs", [1] * count)
+
+
 def APC(value): return Part(f"APC {value:08x}", b"\x02\x06" + n(value, 4))
 def MDS(v): return Part(f"MDS {v}", b"\x04\x04" + n(v, 2))
 def MRDS(v, k): return Part(f"MRDS {v} {k}", b"\x05\x05" + n(v, 2) + n(k, 1))
@@ -58,12 +61,21 @@ def flat(options):
     return [p for o in options for p in (o if isinstance(o, list) else [o])]
 
 
+SETTINGS = ("plain", "strict")
+
+
+def wanted(plain, strict):
+    """What each setting gives."""
+    return dict(zip(SETTINGS, (plain, strict or plain)))
+
+
 class Packet:
-    """`udp` and `ocs` are "right" or the field's value; `size` is L where it is not that of the data."""
+    """`udp` and `ocs` are "right" or the field's value; `size` is L where it is not that of the data. `want` is what plain reading gives,
+    `strict` what strict reading gives where that is something else."""
 
     def __init__(self, name, want, options=None, data=b"", udp="right", ocs="right", pad=0, size=None, surplus=None,
-                 note="", fill=None, addresses=None, whole=None):
-        self.name, self.want, self.note, self.addresses = name, want, note, addresses
+                 note="", fill=None, addresses=None, whole=None, strict=None):
+        self.name, self.want, self.note, self.addresses = name, wanted(want, strict), note, addresses
         self.fill = fill
         if whole is not None:
             self.parts = [Part("", whole)]
@@ -102,16 +114,16 @@ class Packet:
             b += bytes([byte]) * (total - len(b))
         return b
 
-    def answer(self):
+    def answer(self, setting):
         source, destination = self.addresses or (SOURCE, DESTINATION)
-        return reader.read(self.payload(), source, destination)
+        return reader.read(self.payload(), source, destination, setting == "strict")
 
 
 class Original:
     """A reassembled original: user data, then an area whose parity is that of 8 + r."""
 
-    def __init__(self, name, want, options=None, data=b"", ocs="right", pad=0, surplus=None, r=None, note="", fill=None):
-        self.name, self.want, self.note, self.fill = name, want, note, fill
+    def __init__(self, name, want, options=None, data=b"", ocs="right", pad=0, surplus=None, r=None, note="", fill=None, strict=None):
+        self.name, self.want, self.note, self.fill = name, wanted(want, strict), note, fill
         self.r = len(data) if r is None else r
         self.parts = []
         if data:
@@ -123,8 +135,8 @@ class Original:
 
     front, payload = Packet.front, Packet.payload
 
-    def answer(self):
-        return reader.reread(self.payload(), self.r)
+    def answer(self, setting):
+        return reader.reread(self.payload(), self.r, setting == "strict")
 
 
 def shown(data):

@@ -1,4 +1,4 @@
-"""A reader of UDP payloads with RFC 9868 options, written from document 01, R-2 of document 02 and the RFC alone."""
+"""A reader of UDP payloads with RFC 9868 options, written from document 01, R-2 and R-6 of document 02 and the RFC alone."""
 
 FIXED = {2: (6,), 3: (10, 12), 4: (4,), 5: (5,), 6: (6,), 7: (6,), 8: (10,)}
 
@@ -82,11 +82,15 @@ def header(b, at, end):
     return whole, size
 
 
-def walk(b, at, frag_allowed, user_empty):
+def walk(b, at, frag_allowed, user_empty, strict):
     """Walks b[at:]. (count, fill, APC values, piece)."""
     end, count, apcs, piece = len(b), 0, [], None
+    nops = 0
     while at < end:
         kind = b[at]
+        nops = nops + 1 if kind == 1 else 0
+        if strict and nops == 8:
+            raise Verdict("padded")
         if kind == 0:
             if any(b[at + 1:end]):
                 raise Verdict("tail")
@@ -120,7 +124,7 @@ def walk(b, at, frag_allowed, user_empty):
     return count, 0, apcs, piece
 
 
-def area(b, size, origin, udp_zero, frag_allowed, data):
+def area(b, size, origin, udp_zero, frag_allowed, data, strict):
     """The verdict on b[size:], whose parity is that of origin + size, and what goes with it."""
     quiet = dict(count=0, fill=0, apc="none", list=(0, 0), piece=None)
     surplus = b[size:]
@@ -137,7 +141,7 @@ def area(b, size, origin, udp_zero, frag_allowed, data):
     if ocs != 0 and fold(len(surplus) + words(surplus, bool(odd))) != 0xFFFF:
         return "badsum", quiet
     try:
-        count, fill, apcs, piece = walk(b, size + odd + 2, frag_allowed, len(data) == 0)
+        count, fill, apcs, piece = walk(b, size + odd + 2, frag_allowed, len(data) == 0, strict)
     except Verdict as v:
         return str(v), quiet
     if piece:
@@ -146,7 +150,7 @@ def area(b, size, origin, udp_zero, frag_allowed, data):
     return "read", dict(count=count, fill=fill, apc=apc, list=(size + odd + 2, len(b)), piece=None)
 
 
-def read(b, source, destination):
+def read(b, source, destination, strict=False):
     """A refusal's number, or ((from, to), verdict, the rest)."""
     if len(b) < 8:
         return 1
@@ -158,16 +162,16 @@ def read(b, source, destination):
     udp = b[6] << 8 | b[7]
     if udp and fold(words(pseudo(source, destination, size) + b[:size])) != 0xFFFF:
         return 4
-    verdict, rest = area(b, size, 0, udp == 0, True, b[8:size])
+    verdict, rest = area(b, size, 0, udp == 0, True, b[8:size], strict)
     return (8, size), verdict, rest
 
 
-def reread(b, r):
+def reread(b, r, strict=False):
     if len(b) > 65507:
         return 2
     if r > len(b):
         return 6
-    verdict, rest = area(b, r, 8, True, False, b[:r])
+    verdict, rest = area(b, r, 8, True, False, b[:r], strict)
     if verdict == "unsafe":
         return 5
     return (0, r), verdict, rest

@@ -1,4 +1,4 @@
-"""The vectors: groups of packets and originals, each with what document 01 and R-2 of document 02 say of it."""
+"""The vectors: groups of packets and originals, each with what document 01 and R-2 and R-6 of document 02 say of it."""
 import reader
 from parts import *
 from reader import crc32c
@@ -48,6 +48,19 @@ def long_option(whole):
 def bad_fill(size, at, value):
     """So many zeros, but for one byte."""
     return Part(f"{size} zeros, but byte {at} is {value:02x}", bytes(at) + bytes([value]) + bytes(size - at - 1))
+
+
+def runs(name, want, around, data=b"", sizes=(7, 8, 9), sort=P, **more):
+    """A vector for each of these lengths of a run of NOPs, which `around` has among its options; eight or more are padded."""
+    def vector(size):
+        plain = want(size) if callable(want) else want
+        return sort(f"{name}-{size}", plain, around(size), data, strict="padded" if size > 7 else None, **more)
+    return [vector(size) for size in sizes]
+
+
+def spaced(count):
+    """So many options, seven NOPs before each."""
+    return Part(f"{count} times 7 NOPs and kind 9 of 2 bytes", (b"\x01" * 7 + b"\x09\x02") * count)
 
 
 GROUPS = {}
@@ -138,7 +151,7 @@ group("lengths", "kinds", "Each kind at its own length.",
       P("varying-kinds", "read 6", [K(9), K(10, "00"), K(126, "0203"), K(127), K(128, "c0"), K(191, "00000000")], AB),
       P("repeated-kind", "read 3", [REQ(1), REQ(1), REQ(2)], AB),
       P("nops-between", "read 2", [NOP, REQ(1), NOP, NOP, RES(1), NOP], AB),
-      P("nops-only", "read 0", [NOP] * 9, AB),
+      P("nops-only", "read 0", [NOP] * 9, AB, strict="padded"),
       P("body-of-unsafe-bytes", "read 1", [K(9, "ffc003000101")], AB))
 
 group("lengths", "short_of", "A fixed kind one byte short of its own length.",
@@ -236,7 +249,12 @@ group("large", "long_lists", "Long fills, NOPs without end, and unsafe bytes.",
       P("largest-fill-before-the-start", "piece 0 65515-65515", [FRAG(65515, 7, 8)], fill=(0, 65515)),
       P("largest-fill-byte-before-the-start", "tail", [FRAG(65515, 7, 8), EOL, raw("a byte", "01")], fill=(0, 65515)),
       P("largest-piece-behind-eol", "piece 0 21-65515", [FRAG(21, 7, 8), EOL], fill=(0xC0, 65515)),
-      P("largest-nops", "read 0", [], fill=(1, 65515)),
+      P("largest-nops", "read 0", [], fill=(1, 65515), strict="padded"),
+      P("largest-nops-behind-option", "read 1", [REQ(1)], A, fill=(1, 65515), strict="padded"),
+      P("largest-nops-behind-eol", "tail", [nops(7), EOL], fill=(1, 65515)),
+      P("largest-nops-as-a-body", "read 1", [nops(7), raw("kind 9 of 65,498 bytes", "09ffffda")], fill=(1, 65515)),
+      P("largest-nops-before-the-start", "piece 0 65515-65515", [FRAG(65515, 7, 8)], fill=(1, 65515), strict="padded"),
+      P("largest-nops-behind-the-start", "piece 0 27-65515", [FRAG(27, 7, 8)], fill=(1, 65515), note="Seven NOPs, then the fragment."),
       P("largest-unsafe", "unsafe", [], fill=(0xC0, 65515)))
 
 group("large", "refused", "One byte more than the largest payload: refusal 2 comes before 3 and 4.",
@@ -298,6 +316,57 @@ group("lists", "tail_order", "Tail and the tests before it: it is tested when EO
       P("tail-badsum", "badsum", [REQ(1), EOL, raw("a byte", "01")], AB, ocs=0x1234),
       P("tail-bad-pad", "pad", [REQ(1), EOL, raw("a byte", "01")], A, pad=7))
 
+group("lists", "runs_of_nops", "Runs of NOPs: in strict reading the eighth in a row gives padded.",
+      *runs("nops-alone", "read 0", lambda n: [nops(n)], sizes=range(1, 18)),
+      *runs("nops-alone-odd", "read 0", lambda n: [nops(n)], A),
+      *runs("nops-before", "read 1", lambda n: [nops(n), REQ(1)], AB),
+      *runs("nops-before-odd", "read 1", lambda n: [nops(n), REQ(1)], A),
+      *runs("nops-between-options", "read 2", lambda n: [REQ(1), nops(n), RES(2)], AB),
+      *runs("nops-between-options-odd", "read 2", lambda n: [REQ(1), nops(n), RES(2)], A),
+      *runs("nops-behind", "read 1", lambda n: [REQ(1), nops(n)], AB),
+      *runs("nops-behind-odd", "read 1", lambda n: [REQ(1), nops(n)], A),
+      *runs("nops-before-eol", "read 1 fill 3", lambda n: [REQ(1), nops(n), EOL, raw("zeros", "0000")], AB),
+      *runs("nops-before-eol-odd", "read 0 fill 1", lambda n: [nops(n), EOL], A),
+      *runs("nops-no-sums", "read 1", lambda n: [nops(n), REQ(1)], A, udp=0, ocs=0),
+      *runs("nops-no-udp-sum", "read 1", lambda n: [REQ(1), nops(n)], AB, udp=0),
+      *runs("nops-with-apc", "read 1 right", lambda n: [APC(crc32c(AB)), nops(n)], AB),
+      *runs("nops-long", "read 2", lambda n: [REQ(1), nops(n), RES(2)], AB, sizes=(63, 64, 65, 72, 300, 1400)),
+      *runs("nops-long-before-32", "read 32", lambda n: [nops(n), many(32)], AB, sizes=(63, 64, 100, 1400)),
+      *runs("nops-long-odd", "read 2", lambda n: [REQ(1), nops(n), RES(2)], A, sizes=(64, 71, 1400)))
+
+group("lists", "counts_of_nops", "Any other option starts the count again, and what is no NOP of the list does not count.",
+      P("nops-7-option-7", "read 1", [nops(7), REQ(1), nops(7)], AB),
+      P("nops-7-shortest-option-7", "read 1", [nops(7), K(9), nops(7)], A),
+      P("nops-7-options-7", "read 3", [nops(7), K(9), nops(7), MDS(257), nops(7), K(191), nops(7)], AB),
+      P("nops-7-option-8", "read 1", [nops(7), REQ(1), nops(8)], AB, strict="padded"),
+      P("nops-8-option-7", "read 1", [nops(8), REQ(1), nops(7)], A, strict="padded"),
+      P("nops-around-32", "read 32", [spaced(32), nops(7)], AB),
+      P("nops-around-32-and-8", "read 32", [spaced(32), nops(8)], AB, strict="padded"),
+      *(P(f"nops-{n}-as-a-body", "read 1", [K(9, "01" * n)], AB) for n in (7, 8, 9, 40)),
+      P("nops-as-a-body-odd", "read 1", [K(9, "01" * 9)], A),
+      P("nops-7-body-7", "read 1", [nops(7), K(9, "01" * 9), nops(7)], AB),
+      P("nops-as-fields", "read 2", [nops(7), TIME(0x01010101, 0x01010101), REQ(0x01010101), nops(7)], AB),
+      *(P(f"nops-{n}-behind-eol", "tail", [EOL, nops(n)], AB) for n in (7, 8, 9)),
+      P("nops-behind-eol-odd", "tail", [REQ(1), EOL, nops(8)], A),
+      P("nops-7-eol-7", "tail", [nops(7), EOL, nops(7)], AB))
+
+group("lists", "order_of_nops", "Padded and other faults: the first met decides.",
+      *runs("nops-before-unsafe", "unsafe", lambda n: [nops(n), K(192)], AB),
+      *runs("nops-before-malformed", "malformed", lambda n: [nops(n), raw("kind 9, length byte 1", "0901")], A),
+      *runs("nops-before-a-cut-option", "malformed", lambda n: [REQ(1), nops(n), raw("kind 9", "09")], AB),
+      *runs("nops-before-tail", "tail", lambda n: [nops(n), EOL, raw("a byte", "01")], AB),
+      *runs("nops-before-the-33rd", "crowded", lambda n: [many(32), nops(n), many(1)], AB),
+      *runs("nops-behind-32", "read 32", lambda n: [many(32), nops(n)], A),
+      *runs("nops-before-frag-in-the-wrong-place", "malformed", lambda n: [MDS(1), nops(n), FRAG(40, 7, 8)]),
+      P("nops-behind-unsafe", "unsafe", [K(192), nops(9)], AB),
+      P("nops-behind-malformed", "malformed", [raw("kind 9, length byte 0", "0900"), nops(9)], AB),
+      P("nops-behind-33", "crowded", [many(33), nops(9)], AB),
+      P("nops-unsummed", "unsummed", [nops(9)], AB, ocs=0),
+      P("nops-badsum", "badsum", [nops(9)], AB, ocs=0x1234),
+      P("nops-bad-pad", "pad", [nops(9)], A, pad=1),
+      P("nops-bad-checksum", "refused 4", [nops(9)], AB, udp=0x1234),
+      P("nops-of-the-user-data", "none", data=b"\x01" * 9))
+
 group("lists", "counts", "The 33rd option.",
       P("32-options", "read 32", [many(32)]),
       P("33-options", "crowded", [many(33)]),
@@ -357,7 +426,7 @@ group("fragments", "pieces", "FRAG in front.",
       P("last-piece", "piece 4 22-26 last 6", [FRAG(22, 7, 12, 14), fragment("aabbccdd")]),
       P("piece-odd", "piece 100 20-23", [FRAG(20, 0xFFFFFFFF, 108), fragment("aabbcc")]),
       P("piece-behind-nop", "piece 0 21-23", [NOP, FRAG(21, 7, 8), fragment("aabb")]),
-      P("piece-behind-nops", "piece 0 28-30", [NOP] * 8 + [FRAG(28, 7, 8), fragment("aabb")]),
+      P("piece-behind-nops", "piece 0 28-30", [NOP] * 8 + [FRAG(28, 7, 8), fragment("aabb")], strict="padded"),
       P("piece-no-sums", "piece 0 20-22", [FRAG(20, 0, 8), fragment("aabb")], udp=0, ocs=0),
       P("piece-unsummed", "unsummed", [FRAG(20, 7, 8), fragment("aabb")], ocs=0),
       P("piece-badsum", "badsum", [FRAG(20, 7, 8), fragment("aabb")], ocs=0x1234))
@@ -476,6 +545,45 @@ group("fragments", "malformed_with_data", "A FRAG that fails its tests is malfor
       P("data-option-start-7", "malformed", [FRAG(24, 9, 8, 7), fragment("aabb")], A),
       P("data-frag-behind-option", "malformed", [K(9), FRAG(24, 9, 8), fragment("aabb")], AB))
 
+group("fragments", "nops_before", "NOPs before FRAG: padded is met before FRAG and its tests.",
+      *runs("nops-frag", lambda n: f"piece 0 {20 + n}-{22 + n}", lambda n: [nops(n), FRAG(20 + n, 9, 8), fragment("aabb")], sizes=(6, 7, 8, 9, 16)),
+      *runs("nops-last-frag", lambda n: f"piece 0 {22 + n}-{24 + n} last 2", lambda n: [nops(n), FRAG(22 + n, 9, 8, 10), fragment("aabb")]),
+      *runs("nops-frag-no-sums", lambda n: f"piece 0 {20 + n}-{22 + n}", lambda n: [nops(n), FRAG(20 + n, 9, 8), fragment("aabb")], udp=0, ocs=0),
+      *runs("nops-frag-with-data", "fragdata", lambda n: [nops(n), FRAG(22 + n, 9, 8), fragment("aabb")], AB),
+      *runs("nops-frag-with-data-odd", "fragdata", lambda n: [nops(n), FRAG(22 + n, 9, 8), fragment("aabb")], A),
+      *runs("nops-last-frag-with-data", "fragdata", lambda n: [nops(n), FRAG(24 + n, 9, 8, 8), fragment("aabb")], AB),
+      *runs("nops-frag-offset-7", "malformed", lambda n: [nops(n), FRAG(20 + n, 9, 7), fragment("aabb")]),
+      *runs("nops-frag-start-before", "malformed", lambda n: [nops(n), FRAG(19 + n, 9, 8), fragment("aabb")]),
+      *runs("nops-frag-start-past", "malformed", lambda n: [nops(n), FRAG(23 + n, 9, 8), fragment("aabb")]),
+      *runs("nops-frag-11", "malformed", lambda n: [nops(n), FRAG(20 + n, 9, 8, length=11), fragment("aabb")]),
+      *runs("nops-last-frag-option-start-7", "malformed", lambda n: [nops(n), FRAG(22 + n, 9, 8, 7), fragment("aabb")]),
+      *runs("nops-frag-with-data-offset-7", "malformed", lambda n: [nops(n), FRAG(22 + n, 9, 7), fragment("aabb")], AB),
+      *runs("nops-frag-kind-byte", "malformed", lambda n: [nops(n), raw("kind 3", "03")]))
+
+group("fragments", "nops_on_a_piece", "NOPs on a piece: behind FRAG the count starts at 0, and ends at Frag. Start.",
+      *runs("frag-nops", lambda n: f"piece 0 {20 + n}-{22 + n}", lambda n: [FRAG(20 + n, 9, 8), nops(n), fragment("aabb")], sizes=(6, 7, 8, 9, 16)),
+      *runs("last-frag-nops", lambda n: f"piece 0 {22 + n}-{24 + n} last 0", lambda n: [FRAG(22 + n, 9, 8, 8), nops(n), fragment("aabb")]),
+      *runs("frag-nops-no-bytes", lambda n: f"piece 0 {20 + n}-{20 + n}", lambda n: [FRAG(20 + n, 9, 8), nops(n)]),
+      *runs("frag-option-nops", lambda n: f"piece 0 {24 + n}-{26 + n}", lambda n: [FRAG(24 + n, 9, 8), MDS(1500), nops(n), fragment("aabb")]),
+      *runs("frag-nops-option", lambda n: f"piece 0 {24 + n}-{26 + n}", lambda n: [FRAG(24 + n, 9, 8), nops(n), MDS(1500), fragment("aabb")]),
+      *runs("frag-nops-eol", lambda n: f"piece 0 {22 + n}-{24 + n}", lambda n: [FRAG(22 + n, 9, 8), nops(n), EOL, raw("a zero", "00"), fragment("aabb")]),
+      *runs("nops-7-frag-nops", lambda n: f"piece 0 {27 + n}-{29 + n}", lambda n: [nops(7), FRAG(27 + n, 9, 8), nops(n), fragment("aabb")]),
+      *runs("frag-nops-unsafe", "unsafe", lambda n: [FRAG(22 + n, 9, 8), nops(n), K(192), fragment("aabb")]),
+      *runs("frag-nops-malformed", "malformed", lambda n: [FRAG(22 + n, 9, 8), nops(n), raw("kind 9, length byte 1", "0901"), fragment("aabb")]),
+      *runs("frag-nops-tail", "tail", lambda n: [FRAG(22 + n, 9, 8), nops(n), EOL, raw("a byte", "01"), fragment("aabb")]),
+      *runs("frag-31-nops-option", "crowded", lambda n: [FRAG(84 + n, 9, 8), many(31), nops(n), many(1), fragment("aabb")]),
+      P("nops-8-frag-nops-7", "piece 0 35-37", [nops(8), FRAG(35, 9, 8), nops(7), fragment("aabb")], strict="padded"),
+      P("frag-nops-as-the-fragment", "piece 0 20-29", [FRAG(20, 9, 8), nops(9)]),
+      P("frag-nops-across-the-start-7", "piece 0 27-32", [FRAG(27, 9, 8), nops(12)]),
+      P("frag-nops-across-the-start-8", "piece 0 28-32", [FRAG(28, 9, 8), nops(12)], strict="padded"),
+      P("frag-nops-as-a-body", "piece 0 31-33", [FRAG(31, 9, 8), K(9, "01" * 9), fragment("aabb")]),
+      P("frag-nops-behind-eol", "tail", [FRAG(30, 9, 8), EOL, nops(9), fragment("aabb")]),
+      P("frag-unsafe-nops", "unsafe", [FRAG(31, 9, 8), K(192), nops(9), fragment("aabb")]),
+      P("fragdata-before-nops", "fragdata", [FRAG(31, 9, 8), nops(9), fragment("aabb")], AB),
+      P("fragdata-before-nops-odd", "fragdata", [FRAG(31, 9, 8), nops(9), fragment("aabb")], A),
+      P("frag-nops-around-31", "piece 0 313-315", [nops(7), FRAG(313, 9, 8), spaced(31), nops(7), fragment("aabb")]),
+      P("frag-nops-long", "piece 0 1420-1422", [FRAG(1420, 9, 8), nops(1400), fragment("aabb")], strict="padded"))
+
 # ---------------------------------------------------------------- rereads
 group("rereads", "refusals", "Refusals 6 and 5, and originals with no area.",
       O("nothing", "none", note="T 0."),
@@ -553,12 +661,40 @@ group("rereads", "tail_order", "Tail and other faults in an original.",
       O("reread-frag-eol-and-bytes", "malformed", [FRAG(14, 7, 8), EOL, raw("a byte", "01")], AB, ocs=0),
       O("reread-tail-badsum", "badsum", [REQ(1), EOL, raw("a byte", "01")], AB, ocs=0x1234))
 
+group("rereads", "nops", "Runs of NOPs in an original: padded is no refusal.",
+      *runs("reread-nops-alone", "read 0", lambda n: [nops(n)], AB, sort=O),
+      *runs("reread-nops-r-0", "read 0", lambda n: [nops(n)], ocs=0, sort=O),
+      *runs("reread-nops-before", "read 1", lambda n: [nops(n), REQ(1)], AB, sort=O),
+      *runs("reread-nops-before-odd", "read 1", lambda n: [nops(n), REQ(1)], A, sort=O),
+      *runs("reread-nops-between", "read 2", lambda n: [REQ(1), nops(n), RES(2)], AB, ocs=0, sort=O),
+      *runs("reread-nops-between-odd", "read 2", lambda n: [REQ(1), nops(n), RES(2)], A, ocs=0, sort=O),
+      *runs("reread-nops-behind", "read 1", lambda n: [REQ(1), nops(n)], AB, sort=O),
+      *runs("reread-nops-behind-odd", "read 1", lambda n: [REQ(1), nops(n)], A, sort=O),
+      *runs("reread-nops-before-eol", "read 1 fill 2", lambda n: [REQ(1), nops(n), EOL, raw("a zero", "00")], A, sort=O),
+      *runs("reread-nops-with-apc", "read 1 right", lambda n: [nops(n), APC(0x839206E3)], b"123456789", sort=O),
+      *runs("reread-nops-unsafe", "refused 5", lambda n: [nops(n), K(192)], AB, ocs=0, note="Padded is delivered.", sort=O),
+      *runs("reread-nops-frag", "malformed", lambda n: [nops(n), FRAG(40, 7, 8)], AB, ocs=0, sort=O),
+      *runs("reread-nops-malformed", "malformed", lambda n: [nops(n), raw("kind 9, length byte 1", "0901")], A, sort=O),
+      *runs("reread-nops-tail", "tail", lambda n: [nops(n), EOL, raw("a byte", "01")], AB, sort=O),
+      *runs("reread-nops-before-the-33rd", "crowded", lambda n: [many(32), nops(n), many(1)], AB, sort=O),
+      *runs("reread-nops-long", "read 1", lambda n: [nops(n), REQ(1)], AB, sizes=(64, 1400), sort=O),
+      O("reread-nops-7-option-7", "read 1", [nops(7), REQ(1), nops(7)], AB),
+      O("reread-nops-as-a-body", "read 1", [K(9, "01" * 9)], AB),
+      O("reread-nops-behind-eol", "tail", [EOL, nops(9)], A),
+      O("reread-unsafe-before-nops", "refused 5", [K(192), nops(9)], AB),
+      O("reread-33-before-nops", "crowded", [many(33), nops(9)], AB),
+      O("reread-nops-badsum", "badsum", [nops(9)], AB, ocs=0x1234),
+      O("reread-nops-bad-pad", "pad", [nops(9)], A, pad=1),
+      O("reread-nops-r-past", "refused 6", [nops(9)], AB, r=14))
+
 group("rereads", "largest", "The largest original.",
       O("largest-original", "none", r=65507, fill=(0xA5, 65507)),
       O("largest-original-odd", "short", r=65505, fill=(0xA5, 65507)),
       O("largest-original-list", "read 1", [raw("kind 9 of 65,505 bytes", "09ffffe1")], fill=(0xA5, 65507)),
       O("largest-original-fill", "read 1 fill 65499", [REQ(1)], ocs=0, fill=(0, 65507)),
       O("largest-original-tail", "tail", [REQ(1), EOL], ocs=0, fill=(0xA5, 65507)),
+      O("largest-original-nops", "read 0", [], ocs=0, fill=(1, 65507), strict="padded"),
+      O("largest-original-nops-as-a-body", "read 1", [nops(7), raw("kind 9 of 65,498 bytes", "09ffffda")], ocs=0, fill=(1, 65507)),
       O("largest-original-r-past", "refused 6", r=65508, fill=(0, 65507)))
 
 group("rereads", "too_long", "One byte more: 2 comes before 6 and 5.",

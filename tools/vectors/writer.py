@@ -195,6 +195,7 @@ def case(name, data, docket, fill, room):
     """The answer, and the CRC32c of the whole buffer lent; a short payload in hexadecimal."""
     try:
         payload = write(data, docket, fill, room)
+        assert read(payload, SOURCE, DESTINATION) == read(payload, SOURCE, DESTINATION, strict=True)
         answer = f"length {len(payload)}"
     except Refused as refused:
         payload = b""

@@ -5,7 +5,7 @@ use reference as plain;
 use std::cell::RefCell;
 use std::hint::black_box;
 use std::rc::Rc;
-use wuraketozo::Flow;
+use wuraketozo::{Flow, Strictness};
 
 /// One side of a case. `prepare` is not timed; `run` does `calls` calls.
 pub trait Side {
@@ -152,6 +152,9 @@ fn crc32c(size: usize) -> Case {
     )
 }
 
+/// REQ 300.
+const REQ: [u8; 6] = [6, 6, 0, 0, 1, 44];
+
 /// A payload and what the writer makes it of.
 struct Payload {
     /// What it is, in words.
@@ -204,24 +207,42 @@ impl Payload {
         Payload::new(words, 1_472, bytes(1), list, 4 + body)
     }
 
-    /// Eight bytes of user data, REQ 300 and so much fill, EOL counted. It is
-    /// more than the writer adds, so that the option checksum is set here.
-    fn filled(fill: usize) -> Payload {
-        let (list, wire) = (vec![1, 6, 0xAC, 2], 6);
-        let user = bytes(8);
-        let size = 8 + user.len() + 2 + wire;
-        let words = format!(
-            "{} bytes, a fill of {}, even L",
-            shown(size + fill),
-            shown(fill)
-        );
-        let mut payload = Payload::new(words, size, user, list, wire);
-        payload.bytes.resize(size + fill, 0);
-        let area = &mut payload.bytes[16..];
+    /// With an even length of user data and this option list. The writer adds
+    /// neither NOPs nor a long fill, so that the option checksum is set here.
+    fn listed(words: &str, user: usize, options: &[u8]) -> Payload {
+        let size = 8 + user + 2;
+        let words = format!("{} bytes, {words}, even L", shown(size + options.len()));
+        let mut payload = Payload::new(words, size, bytes(user), vec![0], 0);
+        payload.bytes.extend(options);
+        let area = &mut payload.bytes[8 + user..];
         area[..2].fill(0);
         let sum = plain::checksum::sent(plain::checksum::area_sum(area, false));
         area[..2].copy_from_slice(&sum.to_be_bytes());
         payload
+    }
+
+    /// Eight bytes of user data, REQ 300 and so much fill, EOL counted.
+    fn filled(fill: usize) -> Payload {
+        let words = format!("a fill of {}", shown(fill));
+        Payload::listed(&words, 8, &[&REQ, &vec![0; fill][..]].concat())
+    }
+
+    /// 14 bytes of user data and so many NOPs.
+    fn nops(count: usize) -> Payload {
+        let words = format!("{} NOPs", shown(count));
+        Payload::listed(&words, 14, &vec![1; count])
+    }
+
+    /// Eight bytes of user data, REQ 300 and so many NOPs behind it.
+    fn nops_behind(count: usize) -> Payload {
+        let words = format!("{} NOPs behind an option", shown(count));
+        Payload::listed(&words, 8, &[&REQ, &vec![1; count][..]].concat())
+    }
+
+    /// Eight bytes of user data, seven NOPs, the most that strict reading takes
+    /// in a row, and REQ 300.
+    fn seven_nops() -> Payload {
+        Payload::listed("7 NOPs and one option", 8, &[&[1; 7], &REQ[..]].concat())
     }
 
     fn write(&mut self) -> Result<usize, wuraketozo::Refusal> {
@@ -242,15 +263,27 @@ impl Payload {
         )
     }
 
-    /// Whether both read it, and read the same.
-    fn read_alike(&self) -> bool {
-        let one = wuraketozo::read(&self.bytes, FLOW.source, FLOW.destination);
-        let two = plain::read(&self.bytes, FLOW.source, FLOW.destination);
+    fn read(&self, strictness: Strictness) -> Result<wuraketozo::Reading, wuraketozo::Refusal> {
+        let bytes = black_box(&self.bytes);
+        wuraketozo::read(bytes, FLOW.source, FLOW.destination, strictness)
+    }
+
+    fn read_plain(&self, strictness: plain::Strictness) -> Result<plain::Reading, u32> {
+        let bytes = black_box(&self.bytes);
+        plain::read(bytes, FLOW.source, FLOW.destination, strictness)
+    }
+
+    /// Whether both come to this verdict, and read the same.
+    fn read_alike(&self, setting: Setting, verdict: &str) -> bool {
+        let (one, two) = (
+            self.read(setting.library),
+            self.read_plain(setting.reference),
+        );
         let (Ok(one), Ok(two)) = (one, two) else {
             return false;
         };
-        one.verdict == wuraketozo::Verdict::Read
-            && two.verdict == plain::Verdict::Read
+        one.verdict.word() == verdict
+            && two.verdict.word() == verdict
             && one.user == (two.user.from..two.user.to)
             && one.options == (two.options_from..two.options_to)
             && (one.count, one.fill) == (two.count, two.fill)
@@ -270,23 +303,46 @@ impl Payload {
     }
 }
 
-fn read(payload: Payload) -> Case {
+/// The strictness of either side.
+#[derive(Clone, Copy)]
+pub struct Setting {
+    pub library: Strictness,
+    pub reference: plain::Strictness,
+}
+
+pub const PLAIN: Setting = Setting {
+    library: Strictness::Plain,
+    reference: plain::Strictness::Plain,
+};
+
+const STRICT: Setting = Setting {
+    library: Strictness::Strict,
+    reference: plain::Strictness::Strict,
+};
+
+/// A case of reading in this setting, which comes to this verdict.
+fn reading(name: String, payload: Payload, setting: Setting, verdict: &'static str) -> Case {
     case(
-        format!("read {}", payload.words),
+        name,
         payload.bytes.len(),
         payload,
-        |payload| {
-            let bytes = black_box(&payload.bytes);
-            let reading = wuraketozo::read(bytes, FLOW.source, FLOW.destination);
-            let _ = black_box(reading);
+        move |payload| {
+            let _ = black_box(payload.read(setting.library));
         },
-        |payload| {
-            let bytes = black_box(&payload.bytes);
-            let reading = plain::read(bytes, FLOW.source, FLOW.destination);
-            let _ = black_box(reading);
+        move |payload| {
+            let _ = black_box(payload.read_plain(setting.reference));
         },
-        |payload| payload.read_alike(),
+        move |payload| payload.read_alike(setting, verdict),
     )
+}
+
+fn read(payload: Payload) -> Case {
+    reading(format!("read {}", payload.words), payload, PLAIN, "read")
+}
+
+fn read_strictly(payload: Payload, verdict: &'static str) -> Case {
+    let name = format!("read {}, strict", payload.words);
+    reading(name, payload, STRICT, verdict)
 }
 
 fn write(payload: Payload) -> Case {
@@ -322,6 +378,17 @@ fn payloads() -> Vec<Payload> {
     payloads
 }
 
+fn runs_of_nops() -> Vec<Case> {
+    vec![
+        read(Payload::seven_nops()),
+        read_strictly(Payload::seven_nops(), "read"),
+        read(Payload::nops(1_400)),
+        read_strictly(Payload::nops(1_400), "padded"),
+        read(Payload::nops_behind(1_400)),
+        read(Payload::nops(65_000)),
+    ]
+}
+
 pub fn all() -> Vec<Case> {
     let mut cases = Vec::new();
     for size in SIZES {
@@ -332,6 +399,7 @@ pub fn all() -> Vec<Case> {
     cases.extend(SIZES.map(crc32c));
     cases.extend(payloads().into_iter().map(read));
     cases.extend(FILLS.map(|fill| read(Payload::filled(fill))));
+    cases.extend(runs_of_nops());
     cases.extend(payloads().into_iter().map(write));
     cases.extend(tables::all());
     cases

@@ -1,7 +1,7 @@
 //! The table's cases: the same calls on the library's table and on the
 //! reference's, on each of 12 clients.
 
-use crate::cases::{bytes, Case, Side, FLOW, PLAIN_FLOW};
+use crate::cases::{bytes, Case, Side, FLOW, PLAIN, PLAIN_FLOW};
 use reference as plain;
 use reference::Answer;
 use std::hint::black_box;
@@ -154,10 +154,10 @@ impl Record for Client {
                 }
                 Work::Receive(payloads) => {
                     for payload in payloads {
-                        let (from, to) = (FLOW.source, FLOW.destination);
+                        let (from, to, plain) = (FLOW.source, FLOW.destination, PLAIN.library);
                         let payload = black_box(payload);
                         let received =
-                            table.receive(client, 1_000, from, to, payload, &mut host.out);
+                            table.receive(client, 1_000, from, to, plain, payload, &mut host.out);
                         let received = black_box(received);
                         note(&|| match &received {
                             Received::Fragment(answer) => told(answer),
@@ -199,7 +199,8 @@ impl Record for plain::Record {
                 Work::Receive(payloads) => {
                     for payload in payloads {
                         let payload = black_box(payload);
-                        let read = plain::read(payload, FLOW.source, FLOW.destination);
+                        let (from, to) = (FLOW.source, FLOW.destination);
+                        let read = plain::read(payload, from, to, PLAIN.reference);
                         let mut answer = NO_FRAGMENT;
                         if let Ok(plain::Reading {
                             verdict: plain::Verdict::Piece(fragment),

@@ -2,13 +2,16 @@
 //! forged records, and one call per datagram. After each call the answer,
 //! every record, the whole store and the whole out buffer are compared.
 
-use crate::convert::{answer, answer_word, flow, hex, reading, taken, Raw};
+use crate::convert::{
+    answer, answer_word, flow, hex, reading, setting, setting_number, taken, Raw,
+};
 use crate::counts::Counts;
 use crate::payloads::{same, same_bytes, Check};
 use crate::records::{bytes_of, count_completion, patterned};
 use reference as plain;
 use reference::checksum;
 use reference::generate::{self, Ask, Call, Datagram, Lent, Random, World};
+use reference::Strictness;
 use wuraketozo::{raw, Arrival, Client, Place, Received, Table};
 
 /// How a list's fragments reach the table.
@@ -391,11 +394,18 @@ fn as_datagram(random: &mut Random, call: &Call) -> Option<(Datagram, usize, u64
         None
     };
     // What may stand between FRAG and its bytes, and before FRAG.
-    let nops = random.pick(&[0, 0, 0, 1, 2]);
-    let others: &[u8] = if random.one_in(12) {
-        random.pick(&[&[0, 200], &[6, 6, 1, 2, 3, 4, 0, 0, 0, 1]])
+    let nops = if random.one_in(8) {
+        random.pick(&[6, 7, 8, 9])
     } else {
-        random.pick(&[&[], &[], &[6, 6, 1, 2, 3, 4], &[9, 3, 7, 1, 0], &[0, 0, 0]])
+        random.pick(&[0, 0, 0, 1, 2])
+    };
+    let others: &[u8] = match random.below(24) {
+        0 => &[0, 200],
+        1 => &[6, 6, 1, 2, 3, 4, 0, 0, 0, 1],
+        2 => &[1; 7],
+        3 => &[1; 8],
+        4 => &[9, 2, 1, 1, 1, 1, 1, 1, 1, 1, 1, 0],
+        _ => random.pick(&[&[], &[], &[6, 6, 1, 2, 3, 4], &[9, 3, 7, 1, 0], &[0, 0, 0]]),
     };
     let mut payload = Vec::new();
     payload.extend(flow.source_port.to_be_bytes());
@@ -429,7 +439,8 @@ fn as_datagram(random: &mut Random, call: &Call) -> Option<(Datagram, usize, u64
     Some((datagram, *client, *time))
 }
 
-/// One call per datagram, against the reference's reader and table.
+/// One call per datagram, in either setting, against the reference's reader
+/// and table.
 fn receive(
     random: &mut Random,
     counts: &mut Counts,
@@ -447,7 +458,8 @@ fn receive(
     let before = random.byte();
     let mut left = vec![before; room];
     let mut right = left.clone();
-    let read = plain::read(payload, *source, *destination);
+    let strictness = random.pick(&[Strictness::Plain, Strictness::Strict]);
+    let read = plain::read(payload, *source, *destination, strictness);
     let expected = match &read {
         Ok(plain::Reading {
             verdict: plain::Verdict::Piece(fragment),
@@ -490,9 +502,10 @@ fn receive(
             }
         }
     };
+    let number = setting_number(random, strictness);
     let shown = || {
         format!(
-            "receive, client {client}, time {time}, out {room} bytes of {before:02x}, source {}, destination {}, payload {}",
+            "receive, client {client}, time {time}, out {room} bytes of {before:02x}, source {}, destination {}, strictness {number}, payload {}",
             hex(source),
             hex(destination),
             hex(payload)
@@ -506,13 +519,23 @@ fn receive(
             time,
             *source,
             *destination,
+            number,
             payload,
             &mut right,
         );
         same(&expected, &found, &shown)?;
     } else {
         let mut table = Table::new(&mut pair.records, &mut pair.store);
-        match table.receive(client, time, *source, *destination, payload, &mut right) {
+        let strictness = setting(strictness);
+        match table.receive(
+            client,
+            time,
+            *source,
+            *destination,
+            strictness,
+            payload,
+            &mut right,
+        ) {
             Received::Unread(refusal) => {
                 same(
                     &(0, expected.reading.refusal),
@@ -536,10 +559,13 @@ fn receive(
 /// Counts a payload that is no fragment.
 fn count_datagram(counts: &mut Counts, payload: &[u8], reading: &plain::Reading) {
     counts.add("receive", "datagram");
-    if reading.verdict == plain::Verdict::Tail {
-        counts.add("receive", "tail");
-        if generate::led_by_frag(payload, reading) {
-            counts.add("receive", "tail led by FRAG");
-        }
+    if matches!(
+        reading.verdict,
+        plain::Verdict::Tail | plain::Verdict::Padded
+    ) {
+        counts.add("receive", reading.verdict.word());
+    }
+    if let Some(word) = generate::fault_led_by_frag(payload, reading) {
+        counts.add("receive", word);
     }
 }

@@ -1,6 +1,7 @@
 //! The reference's values as the library's.
 
 use reference as plain;
+use reference::generate::Random;
 use wuraketozo::{raw, Account, Flow, Place};
 
 /// Bytes in hex. Of long ones the front: the seed gives the rest.
@@ -12,6 +13,9 @@ pub fn hex(bytes: &[u8]) -> String {
     }
     text
 }
+
+/// The number of "padded".
+pub const PADDED: u32 = 12;
 
 fn verdict_number(verdict: &plain::Verdict) -> u32 {
     match verdict {
@@ -27,6 +31,23 @@ fn verdict_number(verdict: &plain::Verdict) -> u32 {
         plain::Verdict::Read => 9,
         plain::Verdict::Piece(_) => 10,
         plain::Verdict::Tail => 11,
+        plain::Verdict::Padded => PADDED,
+    }
+}
+
+/// The wrapper's word for a setting.
+pub fn setting(strictness: plain::Strictness) -> wuraketozo::Strictness {
+    match strictness {
+        plain::Strictness::Plain => wuraketozo::Strictness::Plain,
+        plain::Strictness::Strict => wuraketozo::Strictness::Strict,
+    }
+}
+
+/// A number in C of a setting: any but 0 is strict.
+pub fn setting_number(random: &mut Random, strictness: plain::Strictness) -> u32 {
+    match strictness {
+        plain::Strictness::Plain => 0,
+        plain::Strictness::Strict => random.pick(&[1, 1, 2, 256, 65_536, u32::MAX]),
     }
 }
 
@@ -154,6 +175,7 @@ fn wrapped_verdict(verdict: plain::Verdict) -> wuraketozo::Verdict {
             option_start: Place(fragment.option_start),
         }),
         plain::Verdict::Tail => wuraketozo::Verdict::Tail,
+        plain::Verdict::Padded => wuraketozo::Verdict::Padded,
     }
 }
 

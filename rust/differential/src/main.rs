@@ -81,6 +81,8 @@ fn run(plan: &Plan, counts: &mut Counts) -> Result<(), String> {
     let swept = if whole {
         payloads::sweep(&mut random(seed, 0, 0), counts).map_err(told)?
             + payloads::fills(&mut random(seed, 0, 4), counts).map_err(told)?
+            + payloads::runs(&mut random(seed, 0, 5), counts).map_err(told)?
+            + payloads::long_runs(&mut random(seed, 0, 6), counts).map_err(told)?
     } else {
         0
     };

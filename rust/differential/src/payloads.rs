@@ -1,10 +1,13 @@
 //! Reading, rereading, listing and writing: the library against the
 //! reference, every field and every byte lent.
 
-use crate::convert::{entry, hex, reading, rereading, rewrapped, wrapped};
+use crate::convert::{
+    entry, hex, reading, rereading, rewrapped, setting, setting_number, wrapped, PADDED,
+};
 use crate::counts::Counts;
 use reference as plain;
 use reference::generate::{self, Datagram, Random};
+use reference::Strictness;
 use wuraketozo::{raw, Place};
 
 /// A difference, told in words.
@@ -135,44 +138,84 @@ fn damage(random: &mut Random, payload: &mut Vec<u8>) {
     }
 }
 
-/// What the reader, the listing and the options say of a payload.
+/// Both settings.
+const SETTINGS: [Strictness; 2] = [Strictness::Plain, Strictness::Strict];
+
+/// Plain reading never says "padded", and any other strict answer is the plain
+/// one: of the library's own answers, with their verdicts.
+fn settings_agree<T: PartialEq + std::fmt::Debug>(
+    [(plain, plain_verdict), (strict, strict_verdict)]: [(T, u32); 2],
+    shown: &dyn Fn() -> String,
+) -> Check {
+    if plain_verdict != PADDED && (strict == plain || strict_verdict == PADDED) {
+        return Ok(());
+    }
+    Err(format!(
+        "{}\n  plain:  {plain:?}\n  strict: {strict:?}",
+        shown()
+    ))
+}
+
+/// What the reader, the listing and the options say of a payload, in each
+/// setting.
 fn read(random: &mut Random, counts: &mut Counts, datagram: &Datagram) -> Check {
+    let mut answers = [raw::Reading::default(); 2];
+    for (answer, strictness) in answers.iter_mut().zip(SETTINGS) {
+        *answer = read_as(random, counts, datagram, strictness)?;
+    }
+    settings_agree(answers.map(|answer| (answer, answer.verdict)), &|| {
+        shown_payload(datagram)
+    })
+}
+
+fn shown_payload(datagram: &Datagram) -> String {
+    format!(
+        "source {}, destination {}, payload {}",
+        hex(&datagram.source),
+        hex(&datagram.destination),
+        hex(&datagram.payload)
+    )
+}
+
+/// The library's answer, after it was compared with the reference's.
+fn read_as(
+    random: &mut Random,
+    counts: &mut Counts,
+    datagram: &Datagram,
+    strictness: Strictness,
+) -> Result<raw::Reading, String> {
     let Datagram {
         source,
         destination,
         payload,
     } = datagram;
-    let expected = plain::read(payload, *source, *destination);
+    let expected = plain::read(payload, *source, *destination, strictness);
     match &expected {
         Err(number) => counts.add("read", &number.to_string()),
         Ok(found) => {
             count_said(counts, "read", &found.verdict, found.fill, found.apc);
-            if found.verdict == plain::Verdict::Tail && generate::led_by_frag(payload, found) {
-                counts.add("read", "tail led by FRAG");
+            if let Some(word) = generate::fault_led_by_frag(payload, found) {
+                counts.add("read", word);
             }
         }
     }
-    let shown = || {
-        format!(
-            "read, source {}, destination {}, payload {}",
-            hex(source),
-            hex(destination),
-            hex(payload)
-        )
-    };
-    same(
-        &reading(&expected),
-        &raw::read(payload, *source, *destination),
-        &shown,
-    )?;
+    let number = setting_number(random, strictness);
+    let shown = || format!("read, strictness {number}, {}", shown_payload(datagram));
+    let answer = raw::read(payload, *source, *destination, number);
+    same(&reading(&expected), &answer, &shown)?;
     same(
         &expected.map(|reading| wrapped(&reading)),
-        &wuraketozo::read(payload, *source, *destination).map_err(|refusal| refusal.number()),
+        &wuraketozo::read(payload, *source, *destination, setting(strictness))
+            .map_err(|refusal| refusal.number()),
         &shown,
     )?;
     let Ok(found) = expected else {
-        return Ok(());
+        return Ok(answer);
     };
+    if strictness == Strictness::Strict && found.verdict != plain::Verdict::Padded {
+        // Listed in plain reading.
+        return Ok(answer);
+    }
     let options = raw::Extent {
         from: found.options_from,
         to: found.options_to,
@@ -188,35 +231,57 @@ fn read(random: &mut Random, counts: &mut Counts, datagram: &Datagram) -> Check 
             .collect(),
         most: payload.len() + 200,
     };
-    listed(random, counts, &ways, &shown)
+    listed(random, counts, &ways, &shown)?;
+    Ok(answer)
 }
 
 /// The same for an original.
 fn reread(random: &mut Random, counts: &mut Counts, original: &[u8], option_start: usize) -> Check {
-    let expected = plain::reread(original, option_start);
+    let mut answers = [raw::Rereading::default(); 2];
+    for (answer, strictness) in answers.iter_mut().zip(SETTINGS) {
+        *answer = reread_as(random, counts, original, option_start, strictness)?;
+    }
+    settings_agree(answers.map(|answer| (answer, answer.verdict)), &|| {
+        shown_original(original, option_start)
+    })
+}
+
+fn shown_original(original: &[u8], option_start: usize) -> String {
+    format!("option start {option_start}, original {}", hex(original))
+}
+
+fn reread_as(
+    random: &mut Random,
+    counts: &mut Counts,
+    original: &[u8],
+    option_start: usize,
+    strictness: Strictness,
+) -> Result<raw::Rereading, String> {
+    let expected = plain::reread(original, option_start, strictness);
     match &expected {
         Err(number) => counts.add("reread", &number.to_string()),
         Ok(found) => count_said(counts, "reread", &found.verdict, found.fill, found.apc),
     }
+    let number = setting_number(random, strictness);
     let shown = || {
-        format!(
-            "reread, option start {option_start}, original {}",
-            hex(original)
-        )
+        let shown = shown_original(original, option_start);
+        format!("reread, strictness {number}, {shown}")
     };
-    same(
-        &rereading(&expected),
-        &raw::reread(original, Place(option_start)),
-        &shown,
-    )?;
+    let answer = raw::reread(original, Place(option_start), number);
+    same(&rereading(&expected), &answer, &shown)?;
     same(
         &expected.map(|found| rewrapped(&found)),
-        &wuraketozo::reread(original, Place(option_start)).map_err(|refusal| refusal.number()),
+        &wuraketozo::reread(original, Place(option_start), setting(strictness))
+            .map_err(|refusal| refusal.number()),
         &shown,
     )?;
     let Ok(found) = expected else {
-        return Ok(());
+        return Ok(answer);
     };
+    if strictness == Strictness::Strict && found.verdict != plain::Verdict::Padded {
+        // Listed in plain reading.
+        return Ok(answer);
+    }
     let options = raw::OriginalExtent {
         from: Place(found.options_from),
         to: Place(found.options_to),
@@ -232,7 +297,8 @@ fn reread(random: &mut Random, counts: &mut Counts, original: &[u8], option_star
             .collect(),
         most: original.len() + 200,
     };
-    listed(random, counts, &ways, &shown)
+    listed(random, counts, &ways, &shown)?;
+    Ok(answer)
 }
 
 fn count_said(
@@ -338,13 +404,13 @@ fn as_raw(result: Result<wuraketozo::Listing, wuraketozo::Refusal>) -> raw::List
 
 /// The list of a reading that no reader gave: the options of the range if
 /// the verdict is "read" and the range lies in the bytes and holds a sound
-/// list; else none. A sound list is what an original may have, so the
-/// reference reads the range as one behind an option checksum of 0.
+/// list; else none. A sound list is what an original may have in plain reading,
+/// so the reference reads the range as one behind an option checksum of 0.
 fn made_up(random: &mut Random, counts: &mut Counts, bytes: &[u8]) -> Check {
     // Longer ones would be too long for an original.
     let bytes = bytes.get(..65_505).unwrap_or(bytes);
     let length = bytes.len();
-    let verdict = random.pick(&[9, 9, 9, 9, 0, 5, 8, 10, 11, 12, u32::MAX]);
+    let verdict = random.pick(&[9, 9, 9, 9, 0, 5, 8, 10, 11, 12, 13, u32::MAX]);
     let mut ends = [random.below(length + 1), random.below(length + 1)];
     ends.sort_unstable();
     let [mut from, mut to] = ends;
@@ -371,7 +437,7 @@ fn made_up(random: &mut Random, counts: &mut Counts, bytes: &[u8]) -> Check {
         apc: plain::Apc::None,
     };
     let call = "list of a made-up reading";
-    let found = match plain::reread(&original, 0) {
+    let found = match plain::reread(&original, 0, Strictness::Plain) {
         Ok(found) if found.verdict == plain::Verdict::Read => found,
         other => {
             if other.is_ok_and(|found| found.verdict == plain::Verdict::Tail) {
@@ -380,12 +446,14 @@ fn made_up(random: &mut Random, counts: &mut Counts, bytes: &[u8]) -> Check {
             none
         }
     };
+    let strict = plain::reread(&original, 0, Strictness::Strict);
     let room = random.pick(&[0, 1, 2, 8, 200, length + 8, length + 8, length + 8]);
     let mut left = vec![0x77; room];
     let mut right = left.clone();
     let expected = plain::list_reread(&original, &found, &mut left);
     match expected {
         Ok(_) if found.count == 0 => counts.add(call, "no option"),
+        Ok(_) if strict != Ok(found) => counts.add(call, "options beside padding"),
         Ok(_) => counts.add(call, "options"),
         Err(number) => counts.add(call, &number.to_string()),
     }
@@ -492,12 +560,7 @@ pub fn sweep(random: &mut Random, counts: &mut Counts) -> Result<u64, String> {
     let mut payloads = 0;
     let mut look = |random: &mut Random, payload: Vec<u8>| {
         payloads += 1;
-        let datagram = Datagram {
-            source: [192, 0, 2, 1],
-            destination: [198, 51, 100, 7],
-            payload,
-        };
-        read(random, counts, &datagram)
+        read(random, counts, &swept(payload))
     };
     // Behind a length byte stand NOPs; zeros, which are a fill; or what would
     // be FRAG's fields: the start is 22 and the offsets are 9.
@@ -527,10 +590,48 @@ pub fn sweep(random: &mut Random, counts: &mut Counts) -> Result<u64, String> {
     Ok(payloads)
 }
 
+/// FRAG with this Frag. Start and Frag. Offset; the last one's option start is
+/// its origin.
+fn frag(start: usize, offset: u8, last: bool) -> Vec<u8> {
+    let [high, low] = (start as u16).to_be_bytes();
+    let mut option = vec![3, 10, high, low, 0, 0, 0, 5, 0, offset];
+    if last {
+        option[1] = 12;
+        option.extend([0, 8]);
+    }
+    option
+}
+
+/// A payload between the sweeps' addresses.
+fn swept(payload: Vec<u8>) -> Datagram {
+    Datagram {
+        source: [192, 0, 2, 1],
+        destination: [198, 51, 100, 7],
+        payload,
+    }
+}
+
+/// The list of a datagram and of an original at either parity, without
+/// checksums, and of a fragment with other bytes behind Frag. Start.
+fn in_each(random: &mut Random, counts: &mut Counts, list: &[u8]) -> Check {
+    reread(random, counts, &[&[0, 0], list].concat(), 0)?;
+    // One byte of user data, the pad, no option checksum.
+    let odd = [&[7, 0, 0, 0], list].concat();
+    reread(random, counts, &odd, 1)?;
+    let frag = frag(HEAD.len() + 10 + list.len(), 9, false);
+    let part = random.bytes(3);
+    for payload in [
+        [&HEAD[..], list].concat(),
+        [&ODD_HEAD[..], &odd].concat(),
+        [&HEAD[..], &frag, list, &part].concat(),
+    ] {
+        read(random, counts, &swept(payload))?;
+    }
+    Ok(())
+}
+
 /// Every fill of up to 70 bytes behind EOL, all zero, or with one bit set in
-/// one byte, each byte in turn, with 0 to 7 NOPs in front: of a datagram and an
-/// original at either parity, without checksums, and of a fragment with other
-/// bytes behind Frag. Start. Counts the fills.
+/// one byte, each byte in turn, with 0 to 7 NOPs in front. Counts the fills.
 pub fn fills(random: &mut Random, counts: &mut Counts) -> Result<u64, String> {
     let mut fills = 0;
     for size in 0..=70 {
@@ -543,29 +644,75 @@ pub fn fills(random: &mut Random, counts: &mut Counts) -> Result<u64, String> {
                 if let Some(byte) = list.get_mut(nops + 1 + bad) {
                     *byte = 1 << random.below(8);
                 }
-                reread(random, counts, &[&[0, 0], &list[..]].concat(), 0)?;
-                // One byte of user data, the pad, no option checksum.
-                let odd = [&[7, 0, 0, 0], &list[..]].concat();
-                reread(random, counts, &odd, 1)?;
-                let start = (HEAD.len() + 10 + list.len()) as u8;
-                let frag = [3, 10, 0, start, 0, 0, 0, 5, 0, 9];
-                let part = random.bytes(3);
-                for payload in [
-                    [&HEAD[..], &list].concat(),
-                    [&ODD_HEAD[..], &odd].concat(),
-                    [&HEAD, &frag, &list[..], &part].concat(),
-                ] {
-                    let datagram = Datagram {
-                        source: [192, 0, 2, 1],
-                        destination: [198, 51, 100, 7],
-                        payload,
-                    };
-                    read(random, counts, &datagram)?;
-                }
+                in_each(random, counts, &list)?;
             }
         }
     }
     Ok(fills)
+}
+
+/// Every run of up to 140 NOPs, in front or behind an option of 2 to 9 bytes,
+/// which ends in a byte that differs from NOP in one bit, each in turn. Counts
+/// the runs.
+pub fn long_runs(random: &mut Random, counts: &mut Counts) -> Result<u64, String> {
+    let mut runs = 0;
+    for count in 0..=140 {
+        for before in 0..=8 {
+            for bit in 0..8 {
+                runs += 1;
+                let mut list = Vec::new();
+                if before > 0 {
+                    list.extend([9, before + 1]);
+                    list.resize(usize::from(before) + 1, 1);
+                }
+                list.extend([1].repeat(count));
+                list.extend([1 ^ 1 << bit, 2, 1, 9, 2]);
+                in_each(random, counts, &list)?;
+            }
+        }
+    }
+    Ok(runs)
+}
+
+/// Two runs of 0 to 16 NOPs each, around nothing, an option, 32 of them, a
+/// body of ones, EOL, FRAG or a fault, with nothing or an option behind: of a
+/// datagram and an original with 0 to 2 bytes of user data, without checksums.
+/// Frag. Start is behind the second run, or in its middle. Counts the lists.
+pub fn runs(random: &mut Random, counts: &mut Counts) -> Result<u64, String> {
+    let mut lists = 0;
+    let nops = |count: usize| [1].repeat(count);
+    for (before, behind) in (0..=16).flat_map(|one| (0..=16).map(move |two| (one, two))) {
+        for user in 0..=2u8 {
+            let mut front = vec![1, 2, 3, 4, 0, 8 + user, 0, 0];
+            front.extend(vec![7; usize::from(user)]);
+            front.extend(vec![0; usize::from(user % 2) + 2]);
+            let start = front.len() + before + behind;
+            for middle in [
+                vec![],
+                vec![9, 2],
+                vec![6, 6, 0, 0, 1, 44],
+                [9, 2].repeat(32),
+                [&[9, 11], &[1; 9][..]].concat(),
+                vec![0],
+                vec![192],
+                vec![9, 1],
+                frag(start + 10, 8, false),
+                frag(start + 12, 8, true),
+                frag(start + 10 - behind / 2, 8, false),
+                frag(start + 10, 7, false),
+                frag(start + 200, 8, false),
+            ] {
+                for end in [&[][..], &[9, 2]] {
+                    lists += 1;
+                    let runs = [&nops(before)[..], &middle, &nops(behind), end].concat();
+                    let payload = [&front[..], &runs].concat();
+                    reread(random, counts, &payload[8..], usize::from(user))?;
+                    read(random, counts, &swept(payload))?;
+                }
+            }
+        }
+    }
+    Ok(lists)
 }
 
 /// Compares two answers.

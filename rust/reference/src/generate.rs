@@ -5,7 +5,9 @@ use crate::book::{Book, OpenPiece};
 use crate::checksum;
 use crate::crc::crc32c;
 use crate::docket::{encode, list_options, list_reread};
-use crate::reader::{read, reread, Apc, Fields, ReadOption, Reading, Verdict};
+use crate::reader::{
+    read, reread, Apc, Fields, ReadOption, Reading, Rereading, Strictness, Verdict,
+};
 use crate::table::{
     bill, clock, fresh, piece, record_test, set_up, Answer, Assembly, Flow, PieceCall, Record,
     Slot, ASSEMBLIES, LIFE, OFFERED_MOST, PIECES, PLACE, SHARE,
@@ -161,11 +163,23 @@ fn put_option(list: &mut Vec<u8>, kind: u8, body: &[u8], extended: bool) {
     list.extend(body);
 }
 
+/// Appends NOPs: about as many as strict reading takes in a row, now and then
+/// many more.
+fn long_run(random: &mut Random, list: &mut Vec<u8>) {
+    let count = match random.below(60) {
+        0 => random.pick(&[1_400, 9_000]),
+        1..=3 => random.pick(&[10, 15, 16, 17, 63, 64, 65, 71, 72, 73, 200]),
+        _ => random.pick(&[6, 7, 7, 8, 9]),
+    };
+    list.extend(vec![1; count]);
+}
+
 /// Appends one sound option, and before it now and then NOPs.
 fn sound_option(random: &mut Random, list: &mut Vec<u8>, user: &[u8]) {
-    if random.one_in(4) {
-        let count = 1 + random.below(3);
-        list.extend(vec![1; count]);
+    match random.below(32) {
+        0 => long_run(random, list),
+        1..=7 => list.extend(vec![1; 1 + random.below(3)]),
+        _ => {}
     }
     match random.below(12) {
         0 | 1 => {
@@ -187,7 +201,12 @@ fn sound_option(random: &mut Random, list: &mut Vec<u8>, user: &[u8]) {
             } else {
                 random.below(6)
             };
-            let body = random.bytes(length);
+            let body = if random.one_in(8) {
+                // Bytes that would be NOPs.
+                vec![1; length + 8]
+            } else {
+                random.bytes(length)
+            };
             let extended = random.one_in(2);
             put_option(list, kind, &body, extended);
         }
@@ -232,7 +251,7 @@ fn fault(random: &mut Random, list: &mut Vec<u8>) {
 }
 
 /// Appends EOL and bytes behind it: mostly zeros, else zeros but for one bit
-/// of the first, the last or any of them, or bytes of any value.
+/// of the first, the last or any of them, bytes of any value, or all 1.
 fn end_list(random: &mut Random, list: &mut Vec<u8>) {
     list.push(0);
     let count = if random.one_in(40) {
@@ -241,12 +260,16 @@ fn end_list(random: &mut Random, list: &mut Vec<u8>) {
         random.pick(&[0, 1, 2, 5, 8, 17, 63, 64, 65, 255, 300])
     };
     let mut behind = vec![0; count];
-    let spot = match random.below(8) {
+    let spot = match random.below(9) {
         0 => 0,
         1 => count.saturating_sub(1),
         2 => random.below(count),
         3 => {
             behind = random.bytes(count);
+            count
+        }
+        4 => {
+            behind.fill(1);
             count
         }
         _ => count,
@@ -269,23 +292,27 @@ fn sound_list(random: &mut Random, user: &[u8]) -> Vec<u8> {
     for _ in 0..count {
         sound_option(random, &mut list, user);
     }
+    if random.one_in(8) {
+        long_run(random, &mut list);
+    }
     if random.one_in(2) {
         end_list(random, &mut list);
     }
     list
 }
 
-/// A list with more than the options allowed, or with a fault or an end as
-/// the 33rd.
+/// A list with more than the options allowed, or with a fault, an end or NOPs
+/// as the 33rd.
 fn crowded_list(random: &mut Random, user: &[u8]) -> Vec<u8> {
     let mut list = Vec::new();
     let count = random.pick(&[32, 33, 33, 34, 60]);
     for _ in 0..count {
         sound_option(random, &mut list, user);
     }
-    match random.below(4) {
+    match random.below(5) {
         0 | 1 => fault(random, &mut list),
         2 => end_list(random, &mut list),
+        3 => long_run(random, &mut list),
         _ => {}
     }
     list
@@ -304,6 +331,9 @@ fn fault_and_end(random: &mut Random, list: &mut Vec<u8>) {
 /// values stand at and around their bounds.
 fn fragment_list(random: &mut Random, from: usize) -> Vec<u8> {
     let mut list = vec![1; random.pick(&[0, 0, 0, 1, 3])];
+    if random.one_in(4) {
+        long_run(random, &mut list);
+    }
     let at = list.len();
     let last = random.one_in(2);
     list.extend([3, if last { 12 } else { 10 }, 0, 0]);
@@ -324,12 +354,18 @@ fn fragment_list(random: &mut Random, from: usize) -> Vec<u8> {
         list.extend(start.to_be_bytes());
     }
     let frag_end = list.len();
+    if random.one_in(6) {
+        long_run(random, &mut list);
+    }
     let options = random.pick(&[0, 0, 0, 1, 2, 31, 32]);
     for _ in 0..options {
         sound_option(random, &mut list, &[]);
     }
     if random.one_in(8) {
         fault(random, &mut list);
+    }
+    if random.one_in(8) {
+        long_run(random, &mut list);
     }
     if random.one_in(3) {
         end_list(random, &mut list);
@@ -1512,12 +1548,41 @@ fn count_answer(coverage: &mut Coverage, call: &Call, answer: &Answer) {
     count(coverage, format!("{}: {name}", call.word()));
 }
 
-/// Whether FRAG is the first option that is no NOP: of a payload whose list
-/// is walked.
-pub fn led_by_frag(payload: &[u8], reading: &Reading) -> bool {
+/// Tail or padded, and where, if FRAG is the first option that is no NOP.
+pub fn fault_led_by_frag(payload: &[u8], reading: &Reading) -> Option<&'static str> {
     let from = reading.user.to + reading.user.to % 2 + 2;
     let list = payload.get(from..).unwrap_or(&[]);
-    list.iter().find(|byte| **byte != 1) == Some(&3)
+    let nops = list.iter().take_while(|byte| **byte == 1).count();
+    if list.get(nops) != Some(&3) {
+        return None;
+    }
+    match reading.verdict {
+        Verdict::Tail => Some("tail led by FRAG"),
+        Verdict::Padded if nops > 7 => Some("padded before FRAG"),
+        Verdict::Padded => Some("padded behind FRAG"),
+        _ => None,
+    }
+}
+
+/// Counts a reading.
+fn count_reading(coverage: &mut Coverage, payload: &[u8], result: &Result<Reading, u32>) {
+    match result {
+        Err(number) => count(coverage, format!("read: refused {number}")),
+        Ok(reading) => {
+            count_result(coverage, "read", &reading.verdict, reading.apc);
+            if let Some(word) = fault_led_by_frag(payload, reading) {
+                count(coverage, format!("read: {word}"));
+            }
+        }
+    }
+}
+
+/// Counts a rereading.
+fn count_rereading(coverage: &mut Coverage, result: &Result<Rereading, u32>) {
+    match result {
+        Err(number) => count(coverage, format!("reread: refused {number}")),
+        Ok(reading) => count_result(coverage, "reread", &reading.verdict, reading.apc),
+    }
 }
 
 /// Runs `rounds` inputs of each sort and counts what came of them.
@@ -1530,25 +1595,20 @@ pub fn coverage(seed: u64, rounds: usize) -> Coverage {
             destination,
             payload,
         } = datagram(&mut random);
-        match read(&payload, source, destination) {
-            Err(number) => count(&mut seen, format!("read: refused {number}")),
-            Ok(reading) => {
-                count_result(&mut seen, "read", &reading.verdict, reading.apc);
-                if reading.verdict == Verdict::Tail && led_by_frag(&payload, &reading) {
-                    count(&mut seen, "read: tail led by FRAG".into());
-                }
+        let (whole, r) = original(&mut random);
+        for strictness in [Strictness::Plain, Strictness::Strict] {
+            let result = read(&payload, source, destination, strictness);
+            count_reading(&mut seen, &payload, &result);
+            if let Ok(reading) = result {
                 let mut buffer = vec![0; random.below(200)];
                 match list_options(&payload, &reading, &mut buffer) {
                     Ok(_) => count(&mut seen, "list: taken".into()),
                     Err(number) => count(&mut seen, format!("list: refused {number}")),
                 }
             }
-        }
-        let (whole, r) = original(&mut random);
-        match reread(&whole, r) {
-            Err(number) => count(&mut seen, format!("reread: refused {number}")),
-            Ok(reading) => {
-                count_result(&mut seen, "reread", &reading.verdict, reading.apc);
+            let result = reread(&whole, r, strictness);
+            count_rereading(&mut seen, &result);
+            if let Ok(reading) = result {
                 let mut buffer = vec![0; random.below(200)];
                 match list_reread(&whole, &reading, &mut buffer) {
                     Ok(_) => count(&mut seen, "list reread: taken".into()),
@@ -1610,6 +1670,7 @@ pub fn wanted() -> Vec<String> {
         "malformed",
         "crowded",
         "tail",
+        "padded",
         "read",
     ] {
         add("read", &[&format!("verdict {word}")]);
@@ -1619,6 +1680,7 @@ pub fn wanted() -> Vec<String> {
         add("read", &[&format!("verdict {word}")]);
     }
     add("read", &["tail led by FRAG"]);
+    add("read", &["padded before FRAG", "padded behind FRAG"]);
     add("list", &["taken", "refused 8"]);
     add("list reread", &["taken", "refused 8"]);
     add("write", &["taken", "refused 7", "refused 8", "refused 9"]);

@@ -1,5 +1,5 @@
-//! A plain reference for document 01 with request R-2 of document 02: the
-//! reader of IPv4 UDP payloads with RFC 9868 options, the writer, the
+//! A plain reference for document 01 with requests of document
+//! 02: the reader of IPv4 UDP payloads with RFC 9868 options, the writer, the
 //! reassembly table, a client's plain book and the program's text. Section
 //! names in comments are document 01's; "RFC" is RFC 9868.
 #![forbid(unsafe_code)]
@@ -18,7 +18,8 @@ pub use book::Book;
 pub use docket::{decode, encode, list_options, list_reread, Listing};
 pub use program::report;
 pub use reader::{
-    read, reread, Apc, Fields, Fragment, Options, Range, ReadOption, Reading, Rereading, Verdict,
+    read, reread, Apc, Fields, Fragment, Options, Range, ReadOption, Reading, Rereading,
+    Strictness, Verdict,
 };
 pub use table::{
     bill, clock, fresh, piece, record_test, set_up, Account, Answer, Assembly, Flow, PieceCall,

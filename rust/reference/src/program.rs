@@ -1,6 +1,6 @@
 //! "The program": its text for given input bytes.
 
-use crate::reader::{read, Fields, Verdict};
+use crate::reader::{read, Fields, Strictness, Verdict};
 use std::fmt::Write;
 
 /// The payload bytes that the program reads at most.
@@ -27,7 +27,8 @@ fn describe(
     source: [u8; 4],
     destination: [u8; 4],
 ) -> std::fmt::Result {
-    let reading = match read(payload, source, destination) {
+    // The program is not strict (document 02, R-6).
+    let reading = match read(payload, source, destination, Strictness::Plain) {
         Ok(reading) => reading,
         Err(number) => return writeln!(text, "refused {number}"),
     };

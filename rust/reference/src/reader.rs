@@ -10,6 +10,16 @@ pub const ORIGINAL_MOST: usize = 65_507;
 /// The most options besides NOP and EOL; one more is "crowded".
 pub const OPTIONS_MOST: usize = 32;
 
+/// How NOPs are read, as the host chooses for each reading (document 02, R-6).
+#[derive(Clone, Copy, Debug, Default, PartialEq, Eq)]
+pub enum Strictness {
+    /// Any number of NOPs is skipped.
+    #[default]
+    Plain,
+    /// The eighth NOP in a row gives "padded".
+    Strict,
+}
+
 /// From `from` up to, not including, `to`.
 #[derive(Clone, Copy, Debug, PartialEq, Eq)]
 pub struct Range {
@@ -44,6 +54,8 @@ pub enum Verdict {
     FragData,
     Crowded,
     Tail,
+    /// In strict reading alone.
+    Padded,
     Read,
     Piece(Fragment),
 }
@@ -62,6 +74,7 @@ impl Verdict {
             Verdict::FragData => "fragdata",
             Verdict::Crowded => "crowded",
             Verdict::Tail => "tail",
+            Verdict::Padded => "padded",
             Verdict::Read => "read",
             Verdict::Piece(_) => "piece",
         }
@@ -138,7 +151,12 @@ impl Rereading {
 }
 
 /// Reads one IPv4 payload: the reading, or refusal 1 to 4.
-pub fn read(payload: &[u8], source: [u8; 4], destination: [u8; 4]) -> Result<Reading, u32> {
+pub fn read(
+    payload: &[u8],
+    source: [u8; 4],
+    destination: [u8; 4],
+    strictness: Strictness,
+) -> Result<Reading, u32> {
     if payload.len() < 8 {
         return Err(1);
     }
@@ -157,7 +175,7 @@ pub fn read(payload: &[u8], source: [u8; 4], destination: [u8; 4]) -> Result<Rea
         from: 8,
         to: length,
     };
-    let examined = examine(payload, user, summed, Setting::Packet);
+    let examined = examine(payload, user, summed, Carrier::Packet, strictness);
     Ok(Reading {
         user,
         verdict: examined.verdict,
@@ -171,7 +189,7 @@ pub fn read(payload: &[u8], source: [u8; 4], destination: [u8; 4]) -> Result<Rea
 
 /// Reads a reassembled original with option start `r`: the reading, or
 /// refusal 2, 6 or 5 ("Walking the list", last paragraph).
-pub fn reread(original: &[u8], r: usize) -> Result<Rereading, u32> {
+pub fn reread(original: &[u8], r: usize, strictness: Strictness) -> Result<Rereading, u32> {
     if original.len() > ORIGINAL_MOST {
         return Err(2);
     }
@@ -180,7 +198,7 @@ pub fn reread(original: &[u8], r: usize) -> Result<Rereading, u32> {
     }
     let user = Range { from: 0, to: r };
     // The UDP checksum is taken as zero.
-    let examined = examine(original, user, false, Setting::Original);
+    let examined = examine(original, user, false, Carrier::Original, strictness);
     if examined.verdict == Verdict::Unsafe {
         return Err(5);
     }
@@ -195,9 +213,9 @@ pub fn reread(original: &[u8], r: usize) -> Result<Rereading, u32> {
     })
 }
 
-/// Whether FRAG may stand in the list.
+/// What the area stands in: FRAG may stand in a packet's alone.
 #[derive(Clone, Copy, PartialEq, Eq)]
-enum Setting {
+enum Carrier {
     Packet,
     Original,
 }
@@ -227,9 +245,15 @@ impl Examined {
 }
 
 /// The verdict on the area `user.to` to the end. The original's user data
-/// starts 8 bytes behind its header, so both settings have the same parity.
+/// starts 8 bytes behind its header, so both carriers have the same parity.
 #[inline(always)]
-fn examine(bytes: &[u8], user: Range, summed: bool, setting: Setting) -> Examined {
+fn examine(
+    bytes: &[u8],
+    user: Range,
+    summed: bool,
+    carrier: Carrier,
+    strictness: Strictness,
+) -> Examined {
     let area = &bytes[user.to..];
     if area.is_empty() {
         return Examined::only(Verdict::None);
@@ -249,24 +273,25 @@ fn examine(bytes: &[u8], user: Range, summed: bool, setting: Setting) -> Examine
     } else if checksum::area_sum(area, pad == 1) != 0xFFFF {
         return Examined::only(Verdict::BadSum);
     }
-    walk(bytes, user, user.to + pad + 2, setting)
+    let from = user.to + pad + 2;
+    walk(bytes, user, from, carrier, strictness).unwrap_or_else(Examined::only)
 }
 
-/// The walk from `from`, behind the option checksum.
+/// The walk from `from`, behind the option checksum; or its fault, or a piece.
 #[inline(always)]
-fn walk(bytes: &[u8], user: Range, from: usize, setting: Setting) -> Examined {
-    let mut first = from;
-    while bytes.get(first) == Some(&1) {
-        first += 1;
-    }
+fn walk(
+    bytes: &[u8],
+    user: Range,
+    from: usize,
+    carrier: Carrier,
+    strictness: Strictness,
+) -> Result<Examined, Verdict> {
+    let first = skip_nops(bytes, from, strictness)?;
     // FRAG must be first, and never stands in an original.
-    if setting == Setting::Packet && bytes.get(first) == Some(&3) {
-        return Examined::only(walk_piece(bytes, user, first));
+    if carrier == Carrier::Packet && bytes.get(first) == Some(&3) {
+        return Err(walk_piece(bytes, user, first, strictness));
     }
-    let list = match walk_list(bytes, first, 0) {
-        Ok(list) => list,
-        Err(verdict) => return Examined::only(verdict),
-    };
+    let list = walk_list(bytes, first, 0, strictness)?;
     let apc = match list.crc {
         None => Apc::None,
         // Two different fields can't both be right.
@@ -274,18 +299,18 @@ fn walk(bytes: &[u8], user: Range, from: usize, setting: Setting) -> Examined {
         Some(field) if field == crc32c(&bytes[user.from..user.to]) => Apc::Right,
         Some(_) => Apc::Wrong,
     };
-    Examined {
+    Ok(Examined {
         verdict: Verdict::Read,
         from,
         to: bytes.len(),
         count: list.count,
         fill: list.fill,
         apc,
-    }
+    })
 }
 
 /// The verdict on a list that starts with FRAG, at `at`.
-fn walk_piece(bytes: &[u8], user: Range, at: usize) -> Verdict {
+fn walk_piece(bytes: &[u8], user: Range, at: usize, strictness: Strictness) -> Verdict {
     let Step::Sound { next, .. } = step(bytes, at) else {
         return Verdict::Malformed;
     };
@@ -296,7 +321,7 @@ fn walk_piece(bytes: &[u8], user: Range, at: usize) -> Verdict {
         return Verdict::FragData;
     }
     // The list ends at Frag. Start.
-    match walk_list(&bytes[..found.from], next, 1) {
+    match walk_list(&bytes[..found.from], next, 1, strictness) {
         Ok(_) => Verdict::Piece(found),
         Err(verdict) => verdict,
     }
@@ -311,10 +336,15 @@ struct List {
     crcs_differ: bool,
 }
 
-/// Walks the list from `at` on, where `count` options stand before and FRAG
-/// may not come; or the fault met first.
+/// Walks the list from `at` on, where `count` options and no NOP stand right
+/// before and FRAG may not come; or the fault met first.
 #[inline(always)]
-fn walk_list(list: &[u8], mut at: usize, mut count: usize) -> Result<List, Verdict> {
+fn walk_list(
+    list: &[u8],
+    mut at: usize,
+    mut count: usize,
+    strictness: Strictness,
+) -> Result<List, Verdict> {
     let mut fill = 0;
     let mut crc = None;
     let mut crcs_differ = false;
@@ -329,7 +359,7 @@ fn walk_list(list: &[u8], mut at: usize, mut count: usize) -> Result<List, Verdi
                 fill = list.len() - at;
                 break;
             }
-            Step::Nop => at += 1,
+            Step::Nop => at = skip_nops(list, at, strictness)?,
             Step::Unsafe => return Err(Verdict::Unsafe),
             Step::Malformed | Step::Sound { kind: 3, .. } => return Err(Verdict::Malformed),
             Step::Sound { kind, body, next } => {
@@ -351,6 +381,47 @@ fn walk_list(list: &[u8], mut at: usize, mut count: usize) -> Result<List, Verdi
         crc,
         crcs_differ,
     })
+}
+
+/// Eight NOPs, one more than strict reading takes in a row.
+const NOPS: u64 = u64::from_ne_bytes([1; 8]);
+
+/// Behind the run of NOPs at `at`, which may be empty; or "padded" (document
+/// 02, R-6). The byte before is no NOP of the list.
+#[inline(always)]
+fn skip_nops(list: &[u8], at: usize, strictness: Strictness) -> Result<usize, Verdict> {
+    let rest = &list[at..];
+    let run = match rest.first_chunk() {
+        Some(eight) if u64::from_ne_bytes(*eight) != NOPS => leading_nops(*eight),
+        // Fewer than eight are left, so the run is short enough.
+        None => rest.iter().take_while(|byte| **byte == 1).count(),
+        Some(_) if strictness == Strictness::Strict => return Err(Verdict::Padded),
+        Some(_) => long_run(rest),
+    };
+    Ok(at + run)
+}
+
+/// How many NOPs stand at the front of eight bytes.
+#[inline]
+fn leading_nops(eight: [u8; 8]) -> usize {
+    (u64::from_le_bytes(eight) ^ NOPS).trailing_zeros() as usize / 8
+}
+
+/// How many NOPs stand at the front: 64 bytes at a step, then eight.
+#[inline(never)]
+fn long_run(bytes: &[u8]) -> usize {
+    let (blocks, _) = bytes.as_chunks::<64>();
+    let all_nops = |block: &&[u8; 64]| block.iter().fold(0, |any, byte| any | (byte ^ 1)) == 0;
+    let whole = blocks.iter().take_while(all_nops).count() * 64;
+    let (eights, last) = bytes[whole..].as_chunks();
+    for (number, eight) in eights.iter().enumerate() {
+        let run = leading_nops(*eight);
+        if run < 8 {
+            return whole + 8 * number + run;
+        }
+    }
+    let run = last.iter().take_while(|byte| **byte == 1).count();
+    bytes.len() - last.len() + run
 }
 
 /// Whether all bytes are 0: 64 bytes at a step, then eight, and the last eight

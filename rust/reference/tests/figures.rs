@@ -26,7 +26,9 @@ fn payload(user: &[u8], area: &[u8]) -> Vec<u8> {
 
 fn verdict(user: &[u8], area: &[u8]) -> Verdict {
     let payload = payload(user, area);
-    read(&payload, SOURCE, DESTINATION).unwrap().verdict
+    read(&payload, SOURCE, DESTINATION, Strictness::Plain)
+        .unwrap()
+        .verdict
 }
 
 struct One {

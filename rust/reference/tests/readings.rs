@@ -4,6 +4,7 @@
 use reference::checksum;
 use reference::crc::crc32c;
 use reference::generate::{datagram, original, Random};
+use reference::Strictness::{Plain, Strict};
 use reference::*;
 use std::collections::BTreeMap;
 
@@ -16,8 +17,58 @@ fn payload(user: &[u8], area: &[u8]) -> Vec<u8> {
     payload
 }
 
+/// The verdicts on an area in plain and in strict reading, without checksums.
+fn verdicts(user: &[u8], area: &[u8]) -> (Verdict, Verdict) {
+    let packet = payload(user, area);
+    let [plain, strict] = by_setting(|strictness| read(&packet, [0; 4], [0; 4], strictness));
+    if plain != strict {
+        let padded = Reading {
+            user: Range {
+                from: 8,
+                to: 8 + user.len(),
+            },
+            verdict: Verdict::Padded,
+            options_from: 0,
+            options_to: 0,
+            count: 0,
+            fill: 0,
+            apc: Apc::None,
+        };
+        assert_eq!(strict, Ok(padded));
+    }
+    (plain.unwrap().verdict, strict.unwrap().verdict)
+}
+
+/// What comes of both settings. Any strict answer but "padded" is the plain
+/// answer, and "padded" is no plain one.
+fn by_setting<R: Answered>(answer: impl Fn(Strictness) -> Result<R, u32>) -> [Result<R, u32>; 2] {
+    let [plain, strict] = [Plain, Strict].map(answer);
+    let padded = |answer: &Result<R, u32>| answer.as_ref().is_ok_and(R::is_padded);
+    assert!(!padded(&plain));
+    assert!(strict == plain || padded(&strict), "{plain:?} {strict:?}");
+    [plain, strict]
+}
+
+/// A reading or a rereading.
+trait Answered: PartialEq + std::fmt::Debug {
+    fn is_padded(&self) -> bool;
+}
+
+impl Answered for Reading {
+    fn is_padded(&self) -> bool {
+        self.verdict == Verdict::Padded
+    }
+}
+
+impl Answered for Rereading {
+    fn is_padded(&self) -> bool {
+        self.verdict == Verdict::Padded
+    }
+}
+
+/// The verdict in plain reading.
 fn verdict(user: &[u8], area: &[u8]) -> Verdict {
-    read(&payload(user, area), [0; 4], [0; 4]).unwrap().verdict
+    verdicts(user, area).0
 }
 
 /// The verdict on a list of an even datagram without checksums.
@@ -27,7 +78,12 @@ fn of_list(list: &[u8]) -> Verdict {
 
 #[test]
 fn refusals_in_order() {
-    let read = |payload: &[u8]| read(payload, [1, 2, 3, 4], [5, 6, 7, 8]).map(|r| r.verdict);
+    let read = |payload: &[u8]| {
+        let read = |strictness| read(payload, [1, 2, 3, 4], [5, 6, 7, 8], strictness);
+        let [plain, strict] = by_setting(read);
+        assert_eq!(plain, strict);
+        plain.map(|reading| reading.verdict)
+    };
     assert_eq!(read(&[]), Err(1));
     assert_eq!(read(&[0; 7]), Err(1));
     assert_eq!(read(&vec![0; 65_516]), Err(2));
@@ -55,7 +111,7 @@ fn before_the_walk() {
     let mut summed = payload(&[], &[0, 0]);
     let sum = checksum::sent(checksum::udp_sum([0; 4], [0; 4], &summed[..8]));
     summed[6..8].copy_from_slice(&sum.to_be_bytes());
-    let reading = read(&summed, [0; 4], [0; 4]).unwrap();
+    let reading = read(&summed, [0; 4], [0; 4], Plain).unwrap();
     assert_eq!(reading.verdict, Verdict::Unsummed);
 }
 
@@ -218,7 +274,7 @@ fn pieces() {
     let area = [&[0, 0][..], &frag(21, 8, None, &[192, 3])].concat();
     assert_eq!(verdict(&[1, 2], &area), Verdict::Malformed);
     let whole = payload(&[], &[&[0, 0][..], &frag(20, 8, None, &[5])].concat());
-    let reading = read(&whole, [0; 4], [0; 4]).unwrap();
+    let reading = read(&whole, [0; 4], [0; 4], Plain).unwrap();
     assert_eq!(reading.user, Range { from: 8, to: 8 });
     assert_eq!((reading.options_from, reading.options_to), (0, 0));
 }
@@ -246,7 +302,7 @@ fn tails() {
     let right = payload(b"ab", &area);
     area.push(4);
     let bad = payload(b"ab", &area);
-    let reading = read(&right, [0; 4], [0; 4]).unwrap();
+    let reading = read(&right, [0; 4], [0; 4], Plain).unwrap();
     assert_eq!((reading.count, reading.fill), (1, 2));
     assert_eq!(reading.apc, Apc::Right);
     let nothing = Reading {
@@ -258,9 +314,9 @@ fn tails() {
         fill: 0,
         apc: Apc::None,
     };
-    assert_eq!(read(&bad, [0; 4], [0; 4]), Ok(nothing));
+    assert_eq!(read(&bad, [0; 4], [0; 4], Plain), Ok(nothing));
     assert_eq!(nothing.options(&bad).count(), 0);
-    let rereading = reread(&bad[8..], 2).unwrap();
+    let rereading = reread(&bad[8..], 2, Plain).unwrap();
     assert_eq!(rereading.user, Range { from: 0, to: 2 });
     assert_eq!(rereading.verdict, Verdict::Tail);
     assert_eq!((rereading.options_from, rereading.options_to), (0, 0));
@@ -279,17 +335,17 @@ fn fills() {
         let start = (frag_end + 1 + count) as u16;
         let list = frag(start, 8, None, &area[2..]);
         let packet = payload(b"ab", &area);
-        let reading = read(&packet, [0; 4], [0; 4]).unwrap();
+        let reading = read(&packet, [0; 4], [0; 4], Plain).unwrap();
         assert_eq!((reading.verdict, reading.fill), (Verdict::Read, 1 + count));
         let piece = of_list(&[&list, &[255; 9][..]].concat());
         assert!(matches!(piece, Verdict::Piece(_)), "{count}");
-        assert_eq!(reread(&area, 0).unwrap().fill, 1 + count);
+        assert_eq!(reread(&area, 0, Plain).unwrap().fill, 1 + count);
         for at in 0..count {
             let bit = 1 << (at % 8);
             let mut area = area.clone();
             area[3 + at] = bit;
             assert_eq!(verdict(b"ab", &area), Verdict::Tail, "{at} of {count}");
-            let again = reread(&area, 0).unwrap().verdict;
+            let again = reread(&area, 0, Plain).unwrap().verdict;
             assert_eq!(again, Verdict::Tail, "{at} of {count}");
             let mut list = list.clone();
             list[frag_end - 10 + 1 + at] = bit;
@@ -298,9 +354,292 @@ fn fills() {
     }
 }
 
+/// The verdicts on a list of an even datagram, in plain and strict reading.
+fn of_both(list: &[u8]) -> (Verdict, Verdict) {
+    verdicts(&[], &[&[0, 0], list].concat())
+}
+
+/// So many NOPs.
+fn nops(count: usize) -> Vec<u8> {
+    vec![1; count]
+}
+
+/// What strict reading makes of a run of NOPs that gives this in plain reading.
+fn strictly(count: usize, plain: Verdict) -> (Verdict, Verdict) {
+    let strict = if count > 7 { Verdict::Padded } else { plain };
+    (plain, strict)
+}
+
+/// Runs of every length to 20, and some long ones.
+fn runs() -> impl Iterator<Item = usize> {
+    (0..=20).chain([63, 64, 65, 71, 72, 73, 127, 128, 129, 1_400, 65_000])
+}
+
+const REQ: [u8; 6] = [6, 6, 0, 0, 1, 44];
+
+/// Document 02, R-6: NOPs before, between and behind options, alone, and
+/// before EOL, in a datagram and in an original, at either parity.
+#[test]
+fn padded() {
+    for count in runs() {
+        let run = nops(count);
+        for (list, options, fill) in [
+            (run.clone(), 0, 0),
+            ([&run[..], &REQ].concat(), 1, 0),
+            ([&REQ, &run[..]].concat(), 1, 0),
+            ([&REQ, &run[..], &REQ].concat(), 2, 0),
+            ([&[9, 2], &run[..], &[9, 3, 1]].concat(), 2, 0),
+            ([&run[..], &[0]].concat(), 0, 1),
+            ([&REQ, &run[..], &[0, 0, 0]].concat(), 1, 3),
+        ] {
+            for user in [&[][..], &[7], &[7, 7]] {
+                let area = [&[0; 3][..user.len() % 2 + 2], &list].concat();
+                let expected = strictly(count, Verdict::Read);
+                assert_eq!(verdicts(user, &area), expected, "{count} {user:?}");
+                let packet = payload(user, &area);
+                let reading = read(&packet, [0; 4], [0; 4], Plain).unwrap();
+                assert_eq!((reading.count, reading.fill), (options, fill));
+                let original = [user, &area].concat();
+                let r = user.len();
+                let [plain, strict] = by_setting(|strictness| reread(&original, r, strictness));
+                let (plain, strict) = (plain.unwrap(), strict.unwrap());
+                assert_eq!((plain.verdict, strict.verdict), expected);
+                assert_eq!((plain.count, plain.fill), (options, fill));
+                assert_eq!(strict.user, Range { from: 0, to: r });
+                if strict != plain {
+                    let reported = (strict.options_from, strict.options_to, strict.count);
+                    assert_eq!(reported, (0, 0, 0));
+                    assert_eq!((strict.fill, strict.apc), (0, Apc::None));
+                }
+            }
+        }
+    }
+}
+
+/// User data is delivered, and no option: the APC would be right.
+#[test]
+fn padded_reports_nothing() {
+    let mut area = vec![0, 0, 2, 6];
+    area.extend(crc32c(b"ab").to_be_bytes());
+    area.extend(nops(8));
+    let packet = payload(b"ab", &area);
+    let plain = read(&packet, [0; 4], [0; 4], Plain).unwrap();
+    assert_eq!((plain.count, plain.apc), (1, Apc::Right));
+    assert_eq!(verdicts(b"ab", &area), (Verdict::Read, Verdict::Padded));
+    let strict = read(&packet, [0; 4], [0; 4], Strict).unwrap();
+    assert_eq!(strict.options(&packet).count(), 0);
+    let mut buffer = [9; 4];
+    let listing = list_options(&packet, &strict, &mut buffer).unwrap();
+    assert_eq!((listing.length, listing.fill, buffer[0]), (1, 0, 0));
+}
+
+/// Any other option starts the count again, and the first fault met decides.
+#[test]
+fn padded_among_others() {
+    for count in runs() {
+        let run = nops(count);
+        let with = |parts: &[&[u8]]| of_both(&parts.concat());
+        let expected = |plain| strictly(count, plain);
+        // A run in front is met first.
+        assert_eq!(with(&[&run, &[192]]), expected(Verdict::Unsafe));
+        assert_eq!(with(&[&run, &[9, 1]]), expected(Verdict::Malformed));
+        assert_eq!(with(&[&run, &[9]]), expected(Verdict::Malformed));
+        assert_eq!(with(&[&run, &[0, 1]]), expected(Verdict::Tail));
+        let late = frag(40, 8, None, &[]);
+        let late = with(&[&REQ, &run, &late]);
+        assert_eq!(late, expected(Verdict::Malformed));
+        // A fault in front of the run is met first, or takes its bytes.
+        let same = |verdict: Verdict| (verdict, verdict);
+        assert_eq!(with(&[&[192], &run]), same(Verdict::Unsafe));
+        assert_eq!(with(&[&[9, 0], &run]), same(Verdict::Malformed));
+        let behind_eol = if count == 0 {
+            Verdict::Read
+        } else {
+            Verdict::Tail
+        };
+        assert_eq!(with(&[&[0], &run]), same(behind_eol));
+        // The run at each place among 32 options and 33, and behind 33.
+        let options = |count: usize| [9, 2].repeat(count);
+        for place in 0..=32 {
+            let all = with(&[&options(place), &run, &options(32 - place)]);
+            assert_eq!(all, expected(Verdict::Read), "{place} {count}");
+            let more = with(&[&options(place), &run, &options(33 - place)]);
+            assert_eq!(more, expected(Verdict::Crowded), "{place} {count}");
+        }
+        assert_eq!(with(&[&options(33), &run]), same(Verdict::Crowded));
+    }
+    // Seven before, between and behind 32 options.
+    let seven = nops(7);
+    let between = [&seven[..], &[9, 2]].concat().repeat(32);
+    let all = [&between[..], &seven].concat();
+    assert_eq!(of_both(&all), (Verdict::Read, Verdict::Read));
+    let eight = [&all[..], &[1]].concat();
+    assert_eq!(of_both(&eight), (Verdict::Read, Verdict::Padded));
+    let eight = [&[1], &all[..]].concat();
+    assert_eq!(of_both(&eight), (Verdict::Read, Verdict::Padded));
+    let another = [&all[..], &[9, 2]].concat();
+    assert_eq!(of_both(&another), (Verdict::Crowded, Verdict::Crowded));
+    // The shortest of other options between two runs.
+    for option in [&[9, 2][..], &[191, 2], &[4, 4, 1, 1], &REQ] {
+        let list = [&seven[..], option, &seven].concat();
+        assert_eq!(of_both(&list), (Verdict::Read, Verdict::Read));
+    }
+}
+
+/// Bytes that are 1 and no NOPs of the walk: in bodies and fields, behind EOL
+/// and behind Frag. Start.
+#[test]
+fn ones_that_are_no_nops() {
+    let same = |verdict: Verdict| (verdict, verdict);
+    for count in 0..=254 - 2 {
+        let option = [&[9, 2 + count as u8][..], &nops(count)].concat();
+        assert_eq!(of_both(&option), same(Verdict::Read));
+        let seven = [&nops(7)[..], &option, &nops(7)].concat();
+        assert_eq!(of_both(&seven), same(Verdict::Read));
+        let eight = [&option[..], &nops(8)].concat();
+        assert_eq!(of_both(&eight), (Verdict::Read, Verdict::Padded));
+    }
+    let extended = [&[9, 255, 1, 1][..], &nops(253)].concat();
+    assert_eq!(of_both(&extended), same(Verdict::Read));
+    let time = [&[8, 10][..], &nops(8)].concat();
+    assert_eq!(of_both(&time), same(Verdict::Read));
+    assert_eq!(
+        of_both(&[&[0][..], &nops(20)].concat()),
+        same(Verdict::Tail)
+    );
+    let piece = of_both(&frag(20, 8, None, &nops(20)));
+    assert_eq!(piece.0.word(), "piece");
+    assert_eq!(piece.0, piece.1);
+    // Behind EOL up to Frag. Start: tail.
+    let list = [&[0][..], &nops(20)].concat();
+    assert_eq!(of_both(&frag(30, 8, None, &list)), same(Verdict::Tail));
+}
+
+/// FRAG of the last piece or another one behind so many NOPs, with this Frag.
+/// Start behind its end, offset, and bytes behind it.
+fn frag_behind(count: usize, last: bool, start: isize, offset: u16, behind: &[u8]) -> Vec<u8> {
+    let end = 10 + count + if last { 12 } else { 10 };
+    let start = end as isize + start;
+    let list = frag(start as u16, offset, last.then_some(8), behind);
+    [&nops(count)[..], &list].concat()
+}
+
+#[test]
+fn padded_before_and_behind_frag() {
+    for last in [false, true] {
+        for before in runs().filter(|count| *count < 60_000) {
+            // A good one, with and without user data.
+            let list = frag_behind(before, last, 0, 8, &[5, 5]);
+            let (plain, strict) = of_both(&list);
+            assert_eq!(plain.word(), "piece");
+            assert_eq!((plain, strict), strictly(before, plain));
+            let list = frag_behind(before + 2, last, 0, 8, &[5, 5]);
+            let area = [&[0, 0], &list[2..]].concat();
+            let expected = strictly(before, Verdict::FragData);
+            assert_eq!(verdicts(b"ab", &area), expected);
+            let area = [&[0, 0, 0], &list[2..]].concat();
+            assert_eq!(verdicts(b"a", &area), expected);
+            // Bad ones.
+            for (start, offset) in [(-1, 8), (3, 8), (0, 7)] {
+                let list = frag_behind(before, last, start, offset, &[5, 5]);
+                assert_eq!(of_both(&list), strictly(before, Verdict::Malformed));
+                let list = frag_behind(before + 2, last, start, offset, &[5, 5]);
+                let area = [&[0, 0], &list[2..]].concat();
+                let expected = strictly(before, Verdict::Malformed);
+                assert_eq!(verdicts(b"ab", &area), expected);
+            }
+            let cut = [&nops(before)[..], &[3]].concat();
+            assert_eq!(of_both(&cut), strictly(before, Verdict::Malformed));
+            let length = [&nops(before)[..], &[3, 11], &[0; 20]].concat();
+            assert_eq!(of_both(&length), strictly(before, Verdict::Malformed));
+            // In its list the count starts again.
+            for behind in 0..=20 {
+                let run = nops(behind);
+                for (rest, plain) in [
+                    (vec![], None),
+                    (vec![0], None),
+                    (vec![9, 2], None),
+                    (vec![192], Some(Verdict::Unsafe)),
+                    (vec![9, 1], Some(Verdict::Malformed)),
+                    (vec![0, 1], Some(Verdict::Tail)),
+                ] {
+                    let list = [&run[..], &rest].concat();
+                    let start = list.len() as isize;
+                    let list = [&list[..], &nops(9)].concat();
+                    let list = frag_behind(before, last, start, 8, &list);
+                    let (found, strict) = of_both(&list);
+                    match plain {
+                        Some(plain) => assert_eq!(found, plain),
+                        None => assert_eq!(found.word(), "piece"),
+                    }
+                    let most = before.max(behind);
+                    assert_eq!((found, strict), strictly(most, found));
+                }
+            }
+        }
+    }
+    // With user data a good FRAG ends the walk before the NOPs behind it.
+    let list = frag(30, 8, None, &nops(8));
+    let area = [&[0, 0], &list[..]].concat();
+    assert_eq!(
+        verdicts(b"ab", &area),
+        (Verdict::FragData, Verdict::FragData)
+    );
+    // Frag. Start within the run: eight before it, or seven.
+    for (start, strict) in [(28, "padded"), (27, "piece")] {
+        let (plain, found) = of_both(&frag(start, 8, None, &nops(12)));
+        assert_eq!((plain.word(), found.word()), ("piece", strict));
+    }
+    // FRAG and 31 options with seven NOPs around each.
+    let list = [&nops(7)[..], &[9, 2]].concat().repeat(31);
+    let list = [&list[..], &nops(7)].concat();
+    let start = list.len() as isize;
+    let (plain, strict) = of_both(&frag_behind(7, true, start, 8, &list));
+    assert_eq!((plain.word(), strict), ("piece", plain));
+}
+
+/// In an original FRAG is malformed; a run of eight before it is met first.
+#[test]
+fn padded_originals() {
+    for count in runs() {
+        let of = |parts: &[&[u8]]| {
+            let original = [&[0, 0], &parts.concat()[..]].concat();
+            by_setting(|strictness| reread(&original, 0, strictness))
+                .map(|result| result.map(|rereading| rereading.verdict))
+        };
+        let run = nops(count);
+        let expected = |plain: Verdict| {
+            let (plain, strict) = strictly(count, plain);
+            [Ok(plain), Ok(strict)]
+        };
+        let first = frag(40, 8, None, &[5; 30]);
+        assert_eq!(of(&[&run, &first]), expected(Verdict::Malformed));
+        let strict = if count > 7 {
+            Ok(Verdict::Padded)
+        } else {
+            Err(5)
+        };
+        assert_eq!(of(&[&run, &[192]]), [Err(5), strict]);
+        assert_eq!(of(&[&[192], &run]), [Err(5), Err(5)]);
+        assert_eq!(of(&[&run, &[0, 7]]), expected(Verdict::Tail));
+    }
+    // The longest original: NOPs alone.
+    let original = [&[0, 0], &nops(65_505)[..]].concat();
+    let verdict = |strictness| reread(&original, 0, strictness).unwrap().verdict;
+    assert_eq!(verdict(Plain), Verdict::Read);
+    assert_eq!(verdict(Strict), Verdict::Padded);
+    let longer = [&original[..], &[1]].concat();
+    assert_eq!(reread(&longer, 0, Strict), Err(2));
+    assert_eq!(reread(&original, 65_508, Strict), Err(6));
+}
+
 #[test]
 fn rereadings() {
-    let of = |bytes: &[u8], r| reread(bytes, r).map(|reading| reading.verdict);
+    let of = |bytes: &[u8], r| {
+        let [plain, strict] = by_setting(|strictness| reread(bytes, r, strictness));
+        assert_eq!(plain, strict);
+        plain.map(|reading| reading.verdict)
+    };
     assert_eq!(of(&[], 0), Ok(Verdict::None));
     assert_eq!(of(&[], 1), Err(6));
     assert_eq!(of(&vec![0; 65_508], usize::MAX), Err(2));
@@ -321,13 +660,13 @@ fn rereadings() {
     assert_eq!(of(&first, 0), Ok(Verdict::Malformed));
     let mut whole = vec![0; 32];
     whole.extend([0, 0, 2, 6, 0xAA, 0x36, 0x91, 0x8A, 0, 0]);
-    let reading = reread(&whole, 32).unwrap();
+    let reading = reread(&whole, 32, Plain).unwrap();
     assert_eq!(reading.user, Range { from: 0, to: 32 });
     assert_eq!((reading.options_from, reading.options_to), (34, 42));
     assert_eq!((reading.count, reading.fill), (1, 2));
     assert_eq!(reading.apc, Apc::Right);
     whole[0] = 1;
-    assert_eq!(reread(&whole, 32).unwrap().apc, Apc::Wrong);
+    assert_eq!(reread(&whole, 32, Plain).unwrap().apc, Apc::Wrong);
 }
 
 #[test]
@@ -429,10 +768,13 @@ fn options_of(words: &[Word]) -> Vec<(u8, Vec<u8>)> {
 }
 
 /// The verdict of words that don't start with FRAG, and none of 33.
-fn judge(words: &[Word], sound_before: usize) -> Verdict {
+fn judge(words: &[Word], sound_before: usize, strictness: Strictness) -> Verdict {
     let mut count = sound_before;
+    let mut nops = 0;
     for word in words {
+        nops = if *word == Word::Nop { nops + 1 } else { 0 };
         match word {
+            Word::Nop if nops == 8 && strictness == Strict => return Verdict::Padded,
             Word::Nop => {}
             Word::Eol { behind } if *behind != vec![0; behind.len()] => return Verdict::Tail,
             Word::Eol { .. } => {}
@@ -444,6 +786,12 @@ fn judge(words: &[Word], sound_before: usize) -> Verdict {
         }
     }
     Verdict::Read
+}
+
+/// The length of the longest run of NOPs.
+fn longest_run(words: &[Word]) -> usize {
+    let runs = words.split(|word| *word != Word::Nop);
+    runs.map(<[Word]>::len).max().unwrap_or(0)
 }
 
 /// What stands behind EOL, told in words.
@@ -469,14 +817,19 @@ fn ending(words: &[Word]) -> String {
     format!("{full}{long}{told}")
 }
 
-/// Counts how often each verdict came with each ending.
+/// Counts how often each verdict came with each ending and each run of NOPs.
 #[derive(Default)]
-struct Endings(BTreeMap<String, usize>);
+struct Sorts(BTreeMap<String, usize>);
 
-impl Endings {
-    fn count(&mut self, second: &Second) {
-        let name = format!("{}: {}", second.verdict.word(), second.ending);
-        *self.0.entry(name).or_default() += 1;
+impl Sorts {
+    fn count(&mut self, second: &Second, strictness: Strictness) {
+        let word = second.verdict.word();
+        for name in [
+            format!("{word}: {}", second.ending),
+            format!("{strictness:?} {word}: a run of {}", second.run),
+        ] {
+            *self.0.entry(name).or_default() += 1;
+        }
     }
 
     /// Each of these has to come often.
@@ -494,16 +847,19 @@ struct Second {
     fill: usize,
     apc: Apc,
     ending: String,
+    /// The longest run of NOPs.
+    run: usize,
 }
 
 /// The second reader, of an area at `start` (a packet offset).
-fn second(packet: &[u8], start: usize, again: bool) -> Second {
+fn second(packet: &[u8], start: usize, again: bool, strictness: Strictness) -> Second {
     let only = |verdict| Second {
         verdict,
         options: Vec::new(),
         fill: 0,
         apc: Apc::None,
         ending: String::new(),
+        run: 0,
     };
     let area = &packet[start..];
     if area.is_empty() {
@@ -532,8 +888,10 @@ fn second(packet: &[u8], start: usize, again: bool) -> Second {
     }
     let from = start + pad + 2;
     let list = words(packet, from, packet.len());
+    let run = longest_run(&list);
     let first = list.iter().position(|word| *word != Word::Nop);
-    if let (Some(first), false) = (first, again) {
+    let padded = first.is_some_and(|first| first > 7) && strictness == Strict;
+    if let (Some(first), false, false) = (first, again, padded) {
         if let Word::Sound { kind: 3, at, body } = &list[first] {
             let frag_start = number(&body[0..2]) as usize;
             let end = at + 2 + body.len();
@@ -548,10 +906,13 @@ fn second(packet: &[u8], start: usize, again: bool) -> Second {
                 return only(Verdict::Malformed);
             }
             if start > 8 {
-                return only(Verdict::FragData);
+                return Second {
+                    run: first,
+                    ..only(Verdict::FragData)
+                };
             }
             let others = words(packet, end, frag_start);
-            let verdict = match judge(&others, 1) {
+            let verdict = match judge(&others, 1, strictness) {
                 Verdict::Read => Verdict::Piece(Fragment {
                     identification: number(&body[2..6]) as u32,
                     place: offset - 8,
@@ -566,11 +927,12 @@ fn second(packet: &[u8], start: usize, again: bool) -> Second {
             let part = if part == 0 { "" } else { ", then its part" };
             return Second {
                 ending: format!("FRAG, {}{part}", ending(&others)),
+                run: longest_run(&others).max(first),
                 ..only(verdict)
             };
         }
     }
-    match judge(&list, 0) {
+    match judge(&list, 0, strictness) {
         Verdict::Read => {
             let options = options_of(&list);
             let used: usize = list
@@ -599,10 +961,12 @@ fn second(packet: &[u8], start: usize, again: bool) -> Second {
                 fill: packet.len() - from - used,
                 apc,
                 ending: ending(&list),
+                run,
             }
         }
         fault => Second {
             ending: ending(&list),
+            run,
             ..only(fault)
         },
     }
@@ -621,37 +985,60 @@ fn wire(option: &ReadOption) -> (u8, Vec<u8>) {
     (option.kind, body)
 }
 
+/// Compares a reading with the second reader's.
+fn compare(payload: &[u8], reading: &Reading, second: &Second) {
+    assert_eq!(reading.verdict, second.verdict, "{payload:02x?}");
+    let options: Vec<_> = reading.options(payload).map(|o| wire(&o)).collect();
+    assert_eq!(options, second.options, "{payload:02x?}");
+    assert_eq!(reading.count, second.options.len());
+    assert_eq!(reading.fill, second.fill, "{payload:02x?}");
+    assert_eq!(reading.apc, second.apc, "{payload:02x?}");
+    assert_eq!(reading.user.from, 8);
+    if reading.verdict == Verdict::Read {
+        let at = reading.user.to + reading.user.to % 2 + 2;
+        assert_eq!(reading.options_from, at);
+        assert_eq!(reading.options_to, payload.len());
+    } else {
+        assert_eq!((reading.options_from, reading.options_to), (0, 0));
+    }
+}
+
 #[test]
 fn against_the_second_reader() {
     let mut random = Random::new(2);
-    let mut endings = Endings::default();
+    let mut sorts = Sorts::default();
     let mut reads = 0;
     for _ in 0..200_000 {
         let input = datagram(&mut random);
         let payload = &input.payload;
-        let Ok(reading) = read(payload, input.source, input.destination) else {
-            continue;
-        };
-        let second = second(payload, reading.user.to, false);
-        endings.count(&second);
-        assert_eq!(reading.verdict, second.verdict, "{payload:02x?}");
-        let options: Vec<_> = reading.options(payload).map(|o| wire(&o)).collect();
-        assert_eq!(options, second.options, "{payload:02x?}");
-        assert_eq!(reading.count, second.options.len());
-        assert_eq!(reading.fill, second.fill, "{payload:02x?}");
-        assert_eq!(reading.apc, second.apc, "{payload:02x?}");
-        assert_eq!(reading.user.from, 8);
-        if reading.verdict == Verdict::Read {
-            reads += 1;
-            let at = reading.user.to + reading.user.to % 2 + 2;
-            assert_eq!(reading.options_from, at);
-            assert_eq!(reading.options_to, payload.len());
-        } else {
-            assert_eq!((reading.options_from, reading.options_to), (0, 0));
+        let read = |strictness| read(payload, input.source, input.destination, strictness);
+        for (strictness, result) in [Plain, Strict].into_iter().zip(by_setting(read)) {
+            let Ok(reading) = result else {
+                continue;
+            };
+            let second = second(payload, reading.user.to, false, strictness);
+            sorts.count(&second, strictness);
+            compare(payload, &reading, &second);
+            reads += usize::from(reading.verdict == Verdict::Read);
         }
     }
-    assert!(reads > 10_000);
-    endings.hold(&[
+    assert!(reads > 20_000);
+    sorts.hold(&[
+        "Plain read: a run of 7",
+        "Plain read: a run of 8",
+        "Plain read: a run of 1400",
+        "Strict read: a run of 6",
+        "Strict read: a run of 7",
+        "Strict padded: a run of 8",
+        "Strict padded: a run of 9",
+        "Strict padded: a run of 64",
+        "Strict padded: a run of 1400",
+        "Strict crowded: a run of 7",
+        "Strict crowded: a run of 8",
+        "Strict tail: a run of 7",
+        "Strict fragdata: a run of 7",
+        "Plain piece: a run of 8",
+        "Strict piece: a run of 7",
         "read: EOL",
         "read: EOL and zeros",
         "read: long EOL and zeros",
@@ -679,38 +1066,51 @@ fn against_the_second_reader() {
 #[test]
 fn rereadings_against_the_second_reader() {
     let mut random = Random::new(3);
-    let mut endings = Endings::default();
+    let mut sorts = Sorts::default();
     for _ in 0..100_000 {
         let (whole, r) = original(&mut random);
         let packet = [&[0; 8], &whole[..]].concat();
-        let expected = if whole.len() > 65_507 {
-            Err(2)
-        } else if r > whole.len() {
-            Err(6)
-        } else {
-            let second = second(&packet, 8 + r, true);
-            match second.verdict {
-                Verdict::Unsafe => Err(5),
-                _ => Ok(second),
+        let results = by_setting(|strictness| reread(&whole, r, strictness));
+        for (strictness, result) in [Plain, Strict].into_iter().zip(results) {
+            let expected = if whole.len() > 65_507 {
+                Err(2)
+            } else if r > whole.len() {
+                Err(6)
+            } else {
+                let second = second(&packet, 8 + r, true, strictness);
+                match second.verdict {
+                    Verdict::Unsafe => Err(5),
+                    _ => Ok(second),
+                }
+            };
+            match (result, expected) {
+                (Err(number), Err(expected)) => assert_eq!(number, expected),
+                (Ok(reading), Ok(second)) => {
+                    sorts.count(&second, strictness);
+                    assert_eq!(reading.verdict, second.verdict, "{r} {whole:02x?}");
+                    let options: Vec<_> = reading.options(&whole).map(|o| wire(&o)).collect();
+                    assert_eq!(options, second.options);
+                    assert_eq!(reading.count, second.options.len());
+                    assert_eq!(reading.fill, second.fill);
+                    assert_eq!(reading.apc, second.apc);
+                    assert_eq!(reading.user, Range { from: 0, to: r });
+                }
+                (Err(number), Ok(_)) => panic!("refused {number}: {r} {whole:02x?}"),
+                (Ok(_), Err(number)) => panic!("not refused {number}: {r} {whole:02x?}"),
             }
-        };
-        match (reread(&whole, r), expected) {
-            (Err(number), Err(expected)) => assert_eq!(number, expected),
-            (Ok(reading), Ok(second)) => {
-                endings.count(&second);
-                assert_eq!(reading.verdict, second.verdict, "{r} {whole:02x?}");
-                let options: Vec<_> = reading.options(&whole).map(|o| wire(&o)).collect();
-                assert_eq!(options, second.options);
-                assert_eq!(reading.count, second.options.len());
-                assert_eq!(reading.fill, second.fill);
-                assert_eq!(reading.apc, second.apc);
-                assert_eq!(reading.user, Range { from: 0, to: r });
-            }
-            (Err(number), Ok(_)) => panic!("refused {number}: {r} {whole:02x?}"),
-            (Ok(_), Err(number)) => panic!("not refused {number}: {r} {whole:02x?}"),
         }
     }
-    endings.hold(&[
+    sorts.hold(&[
+        "Plain read: a run of 8",
+        "Plain read: a run of 1400",
+        "Strict read: a run of 7",
+        "Strict padded: a run of 8",
+        "Strict padded: a run of 9",
+        "Strict padded: a run of 1400",
+        "Strict crowded: a run of 7",
+        "Strict crowded: a run of 8",
+        "Strict malformed: a run of 7",
+        "Strict tail: a run of 7",
         "read: EOL",
         "read: EOL and zeros",
         "read: long EOL and zeros",

@@ -29,7 +29,9 @@ fn writer_reader_listing() {
         assert_eq!(payload[0..2], input.source_port.to_be_bytes());
         assert_eq!(payload[2..4], input.destination_port.to_be_bytes());
         assert_ne!(payload[6..8], [0, 0]);
-        let reading = read(payload, input.source, input.destination).unwrap();
+        let [reading, strict] = [Strictness::Plain, Strictness::Strict]
+            .map(|strictness| read(payload, input.source, input.destination, strictness).unwrap());
+        assert_eq!(strict, reading);
         assert_eq!(reading.verdict, Verdict::Read);
         assert_eq!(payload[8..reading.user.to], input.user);
         assert_eq!(reading.count, options.len());
@@ -178,7 +180,8 @@ fn listings_of_any_reading() {
     let mut buffer = vec![0; 70_000];
     for _ in 0..60_000 {
         let input = datagram(&mut random);
-        if let Ok(reading) = read(&input.payload, input.source, input.destination) {
+        let strictness = random.pick(&[Strictness::Plain, Strictness::Strict]);
+        if let Ok(reading) = read(&input.payload, input.source, input.destination, strictness) {
             let listing = list_options(&input.payload, &reading, &mut buffer).unwrap();
             let options = reading.options(&input.payload).collect();
             check(&buffer[..listing.length], options);
@@ -189,7 +192,7 @@ fn listings_of_any_reading() {
             }
         }
         let (whole, r) = original(&mut random);
-        if let Ok(reading) = reread(&whole, r) {
+        if let Ok(reading) = reread(&whole, r, strictness) {
             let listing = list_reread(&whole, &reading, &mut buffer).unwrap();
             check(&buffer[..listing.length], reading.options(&whole).collect());
             assert_eq!(listing.fill, reading.fill);

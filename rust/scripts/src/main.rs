@@ -1,5 +1,5 @@
 //! Runs a script through the proved library, by its safe wrapper, and prints
-//! a line for each of the script's: `scripts calls|readings|writings <SCRIPT`.
+//! what comes of each of its lines: `scripts calls|readings|writings <SCRIPT`.
 //! What has to come out stands beside each script in `lists/`.
 #![forbid(unsafe_code)]
 

@@ -3,11 +3,12 @@
 //!     packet NAME [from ADDRESS to ADDRESS] bytes BYTES
 //!     original NAME r NUMBER bytes BYTES
 //!
-//! Lines that start with `--` are remarks.
+//! Each has two answers, `NAME plain ..` and `NAME strict ..`. Lines that start
+//! with `--` are remarks.
 
 use crate::words::Words;
 use std::fmt::Write;
-use wuraketozo::{read, reread, Apc, Place, Refusal, Verdict};
+use wuraketozo::{read, reread, Apc, Place, Reading, Refusal, Rereading, Strictness, Verdict};
 
 const SOURCE: [u8; 4] = [192, 0, 2, 1];
 const DESTINATION: [u8; 4] = [198, 51, 100, 7];
@@ -18,17 +19,19 @@ pub fn run(script: &str) -> Result<String, String> {
         let mut words = Words::of(line);
         let what = words.word()?;
         let name = words.word()?;
-        let answer = match what {
+        let [plain, strict] = match what {
             "packet" => packet(&mut words)?,
             "original" => original(&mut words)?,
             _ => return words.wrong("neither packet nor original"),
         };
-        said += &format!("{name}{answer}\n");
+        said += &format!("{name} plain{plain}\n{name} strict{strict}\n");
     }
     Ok(said)
 }
 
-fn packet(words: &mut Words) -> Result<String, String> {
+const SETTINGS: [Strictness; 2] = [Strictness::Plain, Strictness::Strict];
+
+fn packet(words: &mut Words) -> Result<[String; 2], String> {
     let (mut source, mut destination) = (SOURCE, DESTINATION);
     if words.skipped("from") {
         source = words.address()?;
@@ -36,10 +39,12 @@ fn packet(words: &mut Words) -> Result<String, String> {
         destination = words.address()?;
     }
     words.skip("bytes")?;
-    let reading = match read(&words.bytes()?, source, destination) {
-        Err(refusal) => return Ok(refused(refusal)),
-        Ok(reading) => reading,
-    };
+    let payload = words.bytes()?;
+    let read = |strictness| read(&payload, source, destination, strictness);
+    Ok(SETTINGS.map(|strictness| read(strictness).map_or_else(refused, told_of_packet)))
+}
+
+fn told_of_packet(reading: Reading) -> String {
     let mut text = told(
         (reading.user.start, reading.user.end),
         &reading.verdict,
@@ -59,22 +64,25 @@ fn packet(words: &mut Words) -> Result<String, String> {
             fragment.option_start.0,
         );
     }
-    Ok(text)
+    text
 }
 
-fn original(words: &mut Words) -> Result<String, String> {
+fn original(words: &mut Words) -> Result<[String; 2], String> {
     words.skip("r")?;
-    let option_start = words.number()?;
+    let option_start = Place(words.number()?);
     words.skip("bytes")?;
-    Ok(match reread(&words.bytes()?, Place(option_start)) {
-        Err(refusal) => refused(refusal),
-        Ok(rereading) => told(
-            (rereading.user.start.0, rereading.user.end.0),
-            &rereading.verdict,
-            (rereading.count, rereading.fill, rereading.apc),
-            (rereading.options.start.0, rereading.options.end.0),
-        ),
-    })
+    let original = words.bytes()?;
+    let read = |strictness| reread(&original, option_start, strictness);
+    Ok(SETTINGS.map(|strictness| read(strictness).map_or_else(refused, told_of_original)))
+}
+
+fn told_of_original(rereading: Rereading) -> String {
+    told(
+        (rereading.user.start.0, rereading.user.end.0),
+        &rereading.verdict,
+        (rereading.count, rereading.fill, rereading.apc),
+        (rereading.options.start.0, rereading.options.end.0),
+    )
 }
 
 fn refused(refusal: Refusal) -> String {

@@ -2,7 +2,7 @@
 
 use wuraketozo::{
     entries, list, relist, reread, write, Answer, Apc, Client, Entry, Flow, Listing, Received,
-    Refusal, Table, Value, Verdict, ORIGINAL_LIMIT, SHARE,
+    Refusal, Strictness, Table, Value, Verdict, ORIGINAL_LIMIT, SHARE,
 };
 
 const GAUGE: Flow = Flow {
@@ -11,6 +11,9 @@ const GAUGE: Flow = Flow {
     source_port: 4_660,
     destination_port: 53,
 };
+
+/// More than seven NOPs in a row would be the verdict `Padded`.
+const STRICTNESS: Strictness = Strictness::Strict;
 
 fn show_option(option: &Entry) {
     match option.value {
@@ -63,7 +66,8 @@ fn main() -> Result<(), Refusal> {
     let mut buffer = [0; 256];
     for (time, payload) in arrivals.iter().enumerate() {
         let time = time as u64;
-        match table.receive(1, time, GAUGE.source, GAUGE.destination, payload, &mut out) {
+        let (source, destination) = (GAUGE.source, GAUGE.destination);
+        match table.receive(1, time, source, destination, STRICTNESS, payload, &mut out) {
             Received::Unread(refusal) => println!("{refusal}"),
             Received::Datagram(reading) => {
                 let listing = list(payload, &reading, &mut buffer)?;
@@ -75,7 +79,7 @@ fn main() -> Result<(), Refusal> {
                 option_start,
             })) => {
                 let original = &out[..length];
-                let rereading = reread(original, option_start)?;
+                let rereading = reread(original, option_start, STRICTNESS)?;
                 let listing = relist(original, &rereading, &mut buffer)?;
                 let user = rereading.user_data(original);
                 show(user, &rereading.verdict, rereading.apc, &buffer, listing);

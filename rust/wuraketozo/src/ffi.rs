@@ -130,11 +130,13 @@ mod c {
             length: usize,
             source: Address,
             destination: Address,
+            strictness: u32,
         ) -> Reading;
         pub fn wuraketozo_reread(
             original: *const u8,
             length: usize,
             option_start: Place,
+            strictness: u32,
         ) -> Rereading;
         pub fn wuraketozo_list(
             payload: *const u8,
@@ -165,7 +167,7 @@ mod c {
             buffer: *mut u8,
             room: usize,
         ) -> Written;
-        pub fn wuraketozo_layout_2() -> usize;
+        pub fn wuraketozo_layout_3() -> usize;
         pub fn wuraketozo_share_size() -> usize;
         pub fn wuraketozo_out_size() -> usize;
         pub fn wuraketozo_client_limit() -> usize;
@@ -211,6 +213,7 @@ mod c {
             time: u64,
             source: Address,
             destination: Address,
+            strictness: u32,
             payload: *const u8,
             length: usize,
             out: *mut u8,
@@ -222,10 +225,10 @@ mod c {
 /// A library of another layout has no symbol of this name, so that nothing
 /// that uses this crate links against it.
 #[used]
-static LAYOUT: unsafe extern "C" fn() -> usize = c::wuraketozo_layout_2;
+static LAYOUT: unsafe extern "C" fn() -> usize = c::wuraketozo_layout_3;
 
 #[inline]
-pub fn read(payload: &[u8], source: [u8; 4], destination: [u8; 4]) -> Reading {
+pub fn read(payload: &[u8], source: [u8; 4], destination: [u8; 4], strictness: u32) -> Reading {
     // SAFETY: see the head of this file.
     unsafe {
         c::wuraketozo_read(
@@ -233,14 +236,15 @@ pub fn read(payload: &[u8], source: [u8; 4], destination: [u8; 4]) -> Reading {
             payload.len(),
             Address::of(source),
             Address::of(destination),
+            strictness,
         )
     }
 }
 
 #[inline]
-pub fn reread(original: &[u8], option_start: Place) -> Rereading {
+pub fn reread(original: &[u8], option_start: Place, strictness: u32) -> Rereading {
     // SAFETY: see the head of this file.
-    unsafe { c::wuraketozo_reread(original.as_ptr(), original.len(), option_start) }
+    unsafe { c::wuraketozo_reread(original.as_ptr(), original.len(), option_start, strictness) }
 }
 
 pub fn list(payload: &[u8], verdict: u32, options: Extent, buffer: &mut [u8]) -> Listing {
@@ -312,7 +316,7 @@ pub fn sizes() -> [usize; 4] {
     // SAFETY: these take nothing and touch nothing.
     unsafe {
         [
-            c::wuraketozo_layout_2(),
+            c::wuraketozo_layout_3(),
             c::wuraketozo_share_size(),
             c::wuraketozo_out_size(),
             c::wuraketozo_client_limit(),
@@ -392,6 +396,7 @@ pub fn receive(
     time: u64,
     source: [u8; 4],
     destination: [u8; 4],
+    strictness: u32,
     payload: &[u8],
     out: &mut [u8],
 ) -> Received {
@@ -406,6 +411,7 @@ pub fn receive(
             time,
             Address::of(source),
             Address::of(destination),
+            strictness,
             payload.as_ptr(),
             payload.len(),
             out.as_mut_ptr(),
@@ -489,6 +495,7 @@ layouts! {
 mod tests {
     use super::LAYOUTS;
     use crate::reading::tests::verdicts;
+    use crate::Strictness;
     use std::io::Write;
     use std::process::{Command, Stdio};
 
@@ -507,6 +514,11 @@ mod tests {
         }
         for verdict in verdicts() {
             let (word, number) = (verdict.word(), verdict.number());
+            let name = format!("WURAKETOZO_{}", word.to_uppercase());
+            text += &format!("_Static_assert({name} == {number}, \"{word}\");\n");
+        }
+        for strictness in [Strictness::Plain, Strictness::Strict] {
+            let (word, number) = (format!("{strictness:?}"), strictness.number());
             let name = format!("WURAKETOZO_{}", word.to_uppercase());
             text += &format!("_Static_assert({name} == {number}, \"{word}\");\n");
         }

@@ -18,7 +18,7 @@ mod table;
 mod writing;
 
 pub use options::{entries, list, relist, Entries, Entry, Listing, Value};
-pub use reading::{read, reread, Apc, Fragment, Reading, Rereading, Verdict};
+pub use reading::{read, reread, Apc, Fragment, Reading, Rereading, Strictness, Verdict};
 pub use record::{
     Account, Assembly, Client, Flow, Held, Place, CLIENT_LIMIT, ORIGINAL_LIMIT, SHARE,
 };

@@ -33,9 +33,9 @@ pub fn list(payload: &[u8], reading: &Reading, buffer: &mut [u8]) -> Result<List
 /// Lists the options of a rereading in the same way.
 ///
 /// ```
-/// use wuraketozo::{entries, relist, reread, Entry, Place, Value};
+/// use wuraketozo::{entries, relist, reread, Entry, Place, Strictness, Value};
 /// let original = [0, 0, 6, 6, 0, 0, 1, 0x2C, 0];
-/// let rereading = reread(&original, Place(0))?;
+/// let rereading = reread(&original, Place(0), Strictness::Plain)?;
 /// let mut buffer = [0; 64];
 /// let listing = relist(&original, &rereading, &mut buffer)?;
 /// assert_eq!(buffer[..listing.size], [1, 6, 0xAC, 2]);

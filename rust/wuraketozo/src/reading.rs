@@ -5,6 +5,47 @@ use crate::record::Place;
 use crate::refusal::Refusal;
 use core::ops::Range;
 
+/// How NOPs are read, chosen for each call that reads. An answer of strict
+/// reading that is not [`Verdict::Padded`] is the answer of plain reading too.
+///
+/// RFC 9868 (section 11.2) says that packets should not have more than seven
+/// NOPs in a row, and that a receiver which keeps meeting more should log it as
+/// a possible attack. A host that wants to go by that reads strictly and logs
+/// `Padded`.
+///
+/// ```
+/// use wuraketozo::{read, Strictness, Verdict};
+/// // UDP length 8, no checksums, eight NOPs.
+/// let payload = [0x12, 0x34, 0, 53, 0, 8, 0, 0, 0, 0, 1, 1, 1, 1, 1, 1, 1, 1];
+/// let verdict = |payload: &[u8], strictness| {
+///     let reading = read(payload, [192, 0, 2, 1], [198, 51, 100, 7], strictness)?;
+///     Ok(reading.verdict)
+/// };
+/// assert_eq!(verdict(&payload, Strictness::Plain)?, Verdict::Read);
+/// assert_eq!(verdict(&payload, Strictness::Strict)?, Verdict::Padded);
+/// assert_eq!(verdict(&payload[..17], Strictness::Strict)?, Verdict::Read);
+/// # Ok::<(), wuraketozo::Refusal>(())
+/// ```
+#[derive(Clone, Copy, Debug, Default, PartialEq, Eq)]
+pub enum Strictness {
+    /// Any number of NOPs is skipped.
+    #[default]
+    Plain,
+    /// The eighth NOP in a row gives `Padded`. Seven are fine, and any other
+    /// option starts the count again.
+    Strict,
+}
+
+impl Strictness {
+    /// The number in the header.
+    pub const fn number(self) -> u32 {
+        match self {
+            Strictness::Plain => 0,
+            Strictness::Strict => 1,
+        }
+    }
+}
+
 /// What a fragment's datagram says of it.
 #[derive(Clone, Debug, PartialEq, Eq)]
 pub struct Fragment {
@@ -49,6 +90,9 @@ pub enum Verdict {
     /// A byte behind EOL is not zero. A datagram led by a fragment's option is
     /// no fragment then.
     Tail,
+    /// In strict reading only: eight NOPs in a row. A datagram led by a
+    /// fragment's option is no fragment then.
+    Padded,
 }
 
 impl Verdict {
@@ -67,6 +111,7 @@ impl Verdict {
             Verdict::Read => "read",
             Verdict::Piece(_) => "piece",
             Verdict::Tail => "tail",
+            Verdict::Padded => "padded",
         }
     }
 
@@ -85,6 +130,7 @@ impl Verdict {
             Verdict::Read => 9,
             Verdict::Piece(_) => 10,
             Verdict::Tail => 11,
+            Verdict::Padded => 12,
         }
     }
 
@@ -104,6 +150,7 @@ impl Verdict {
             9 => Verdict::Read,
             10 => Verdict::Piece(fragment().ok_or(Refusal::Unknown)?),
             11 => Verdict::Tail,
+            12 => Verdict::Padded,
             _ => return Err(Refusal::Unknown),
         })
     }
@@ -224,40 +271,51 @@ impl Rereading {
 /// Reads one IPv4 UDP payload. Refusals 1 to 4.
 ///
 /// ```
-/// use wuraketozo::{read, Verdict};
+/// use wuraketozo::{read, Strictness, Verdict};
 /// // Ports 4660 and 53, UDP length 8, checksum; option checksum, REQ 300.
 /// let payload = [
 ///     0x12, 0x34, 0x00, 0x35, 0x00, 0x08, 0x01, 0x39, //
 ///     0xF8, 0xC5, 0x06, 0x06, 0x00, 0x00, 0x01, 0x2C,
 /// ];
-/// let reading = read(&payload, [192, 0, 2, 1], [198, 51, 100, 7])?;
+/// let (source, destination) = ([192, 0, 2, 1], [198, 51, 100, 7]);
+/// let reading = read(&payload, source, destination, Strictness::Plain)?;
 /// assert_eq!(reading.verdict, Verdict::Read);
 /// assert_eq!(reading.options, 10..16);
 /// assert_eq!(reading.count, 1);
 /// # Ok::<(), wuraketozo::Refusal>(())
 /// ```
 #[inline]
-pub fn read(payload: &[u8], source: [u8; 4], destination: [u8; 4]) -> Result<Reading, Refusal> {
-    Reading::of(ffi::read(payload, source, destination))
+pub fn read(
+    payload: &[u8],
+    source: [u8; 4],
+    destination: [u8; 4],
+    strictness: Strictness,
+) -> Result<Reading, Refusal> {
+    Reading::of(ffi::read(payload, source, destination, strictness.number()))
 }
 
 /// Reads an original again that was put together from fragments. Refusals
-/// 2, 6 and 5; with 5 nothing of it is to be delivered.
+/// 2, 6 and 5; with 5 nothing of it is to be delivered. In strict reading an
+/// unsafe option behind eight NOPs in a row is not met: that is `Padded`.
 ///
 /// ```
-/// use wuraketozo::{reread, Place, Refusal, Verdict};
+/// use wuraketozo::{reread, Place, Refusal, Strictness, Verdict};
 /// // "ok", then the option checksum 0 (none) and REQ 300.
 /// let original = [b'o', b'k', 0, 0, 6, 6, 0, 0, 1, 0x2C];
-/// let rereading = reread(&original, Place(2))?;
+/// let rereading = reread(&original, Place(2), Strictness::Plain)?;
 /// assert_eq!(rereading.user_data(&original), b"ok");
 /// assert_eq!(rereading.verdict, Verdict::Read);
-/// let past = reread(&original, Place(11));
+/// let past = reread(&original, Place(11), Strictness::Plain);
 /// assert_eq!(past, Err(Refusal::OptionStartPastOriginal));
 /// # Ok::<(), Refusal>(())
 /// ```
 #[inline]
-pub fn reread(original: &[u8], option_start: Place) -> Result<Rereading, Refusal> {
-    Rereading::of(ffi::reread(original, option_start))
+pub fn reread(
+    original: &[u8],
+    option_start: Place,
+    strictness: Strictness,
+) -> Result<Rereading, Refusal> {
+    Rereading::of(ffi::reread(original, option_start, strictness.number()))
 }
 
 #[cfg(test)]
@@ -285,10 +343,10 @@ pub(crate) mod tests {
         let verdicts = verdicts();
         let numbers: Vec<u32> = verdicts.iter().map(Verdict::number).collect();
         let words: Vec<&str> = verdicts.iter().map(Verdict::word).collect();
-        assert_eq!(numbers, [0, 1, 2, 3, 4, 5, 6, 7, 8, 9, 10, 11]);
+        assert_eq!(numbers, [0, 1, 2, 3, 4, 5, 6, 7, 8, 9, 10, 11, 12]);
         assert_eq!(
             words.join(" "),
-            "none short pad unsummed badsum malformed unsafe fragdata crowded read piece tail"
+            "none short pad unsummed badsum malformed unsafe fragdata crowded read piece tail padded"
         );
         assert_eq!(Verdict::of(10, || None), Err(Refusal::Unknown));
     }

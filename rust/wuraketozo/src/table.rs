@@ -1,7 +1,7 @@
 //! The reassembly table.
 
 use crate::ffi;
-use crate::reading::Reading;
+use crate::reading::{Reading, Strictness};
 use crate::record::{Account, Client, Flow, Place};
 use crate::refusal::Refusal;
 
@@ -162,13 +162,16 @@ impl<'a> Table<'a> {
 
     /// Reads a payload that arrived for a client and, if it is a fragment,
     /// offers it with its own flow. What is no fragment touches no record,
-    /// no store and no out buffer.
+    /// no store and no out buffer. The strictness may be another one with each
+    /// datagram.
+    #[allow(clippy::too_many_arguments)]
     pub fn receive(
         &mut self,
         client: usize,
         time: u64,
         source: [u8; 4],
         destination: [u8; 4],
+        strictness: Strictness,
         payload: &[u8],
         out: &mut [u8],
     ) -> Received {
@@ -179,6 +182,7 @@ impl<'a> Table<'a> {
             time,
             source,
             destination,
+            strictness.number(),
             payload,
             out,
         );

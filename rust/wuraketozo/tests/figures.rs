@@ -19,15 +19,22 @@ fn area(user: &[u8], list: &[u8], fill: u8) -> Vec<u8> {
 
 /// The verdict on an area behind user data, with UDP checksum 0.
 fn verdict(user: &[u8], area: &[u8]) -> Verdict {
+    verdicts(user, area).0
+}
+
+/// The verdict in plain and in strict reading. A strict one but `Padded` is the
+/// plain one.
+fn verdicts(user: &[u8], area: &[u8]) -> (Verdict, Verdict) {
     let length = (8 + user.len()) as u16;
     let mut payload = vec![0, 1, 0, 2];
     payload.extend(length.to_be_bytes());
     payload.extend([0, 0]);
     payload.extend(user);
     payload.extend(area);
-    read(&payload, FLOW.source, FLOW.destination)
-        .unwrap()
-        .verdict
+    let read = |strictness| read(&payload, FLOW.source, FLOW.destination, strictness).unwrap();
+    let (plain, strict) = (read(Strictness::Plain), read(Strictness::Strict));
+    assert!(strict == plain || strict.verdict == Verdict::Padded);
+    (plain.verdict, strict.verdict)
 }
 
 /// A table of one client, and calls with fewer words.
@@ -111,7 +118,8 @@ fn tails() {
     let payload = [
         0, 1, 0, 2, 0, 10, 0, 0, b'o', b'k', 0, 0, 6, 6, 0, 0, 1, 0x2C, 0, 0, 5,
     ];
-    let reading = read(&payload, FLOW.source, FLOW.destination).unwrap();
+    let plain = Strictness::default();
+    let reading = read(&payload, FLOW.source, FLOW.destination, plain).unwrap();
     assert_eq!(reading.user_data(&payload), b"ok");
     assert_eq!(reading.verdict, Verdict::Tail);
     assert_eq!(reading.options, 0..0);
@@ -122,13 +130,121 @@ fn tails() {
     assert_eq!((listing.size, listing.fill, buffer[0]), (1, 0, 0));
     // The same as an original: delivered, and no refusal.
     let original = &payload[8..];
-    let rereading = reread(original, Place(2)).unwrap();
+    let rereading = reread(original, Place(2), plain).unwrap();
     assert_eq!(rereading.user_data(original), b"ok");
     assert_eq!(rereading.verdict, Verdict::Tail);
     assert_eq!(rereading.options, Place(0)..Place(0));
     assert_eq!((rereading.count, rereading.fill), (0, 0));
     let listing = relist(original, &rereading, &mut buffer).unwrap();
     assert_eq!((listing.size, listing.fill, buffer[0]), (1, 0, 0));
+}
+
+/// Document 02, R-6: more than seven NOPs in a row.
+#[test]
+fn padded() {
+    let with = |parts: &[&[u8]]| verdicts(&[], &[&[0, 0], &parts.concat()[..]].concat());
+    for count in 0..20 {
+        let run = [1].repeat(count);
+        let strict = |plain: Verdict| if count < 8 { plain } else { Verdict::Padded };
+        for list in [
+            with(&[&run]),
+            with(&[&run, &[9, 2]]),
+            with(&[&[9, 2], &run, &[9, 2]]),
+            with(&[&[9, 2], &run, &[0, 0]]),
+        ] {
+            assert_eq!(list, (Verdict::Read, strict(Verdict::Read)));
+        }
+        // What stands in front is met first.
+        let run_first = with(&[&run, &[192]]);
+        assert_eq!(run_first, (Verdict::Unsafe, strict(Verdict::Unsafe)));
+        let fault_first = with(&[&[192], &run]);
+        assert_eq!(fault_first, (Verdict::Unsafe, Verdict::Unsafe));
+        // Before a fragment's option, with user data.
+        let start = 22 + count as u8;
+        let area = [&[0, 0], &run[..], &[3, 10, 0, start, 0, 0, 0, 7, 0, 8]].concat();
+        let found = verdicts(b"ok", &area);
+        assert_eq!(found, (Verdict::FragData, strict(Verdict::FragData)));
+    }
+    let seven = [1; 7];
+    let around = with(&[&seven, &[9, 2], &seven]);
+    assert_eq!(around, (Verdict::Read, Verdict::Read));
+    // A body of ones, and ones behind EOL.
+    let body = with(&[&[9, 12], &[1; 10]]);
+    assert_eq!(body, (Verdict::Read, Verdict::Read));
+    let behind_eol = with(&[&[0], &[1; 10]]);
+    assert_eq!(behind_eol, (Verdict::Tail, Verdict::Tail));
+}
+
+#[test]
+fn padded_reports_nothing() {
+    // User data and REQ 300, then eight NOPs.
+    let mut payload = vec![0, 1, 0, 2, 0, 10, 0, 0, b'o', b'k', 0, 0];
+    payload.extend([6, 6, 0, 0, 1, 0x2C, 1, 1, 1, 1, 1, 1, 1, 1]);
+    let strict = Strictness::Strict;
+    let reading = read(&payload, FLOW.source, FLOW.destination, strict).unwrap();
+    assert_eq!(reading.user_data(&payload), b"ok");
+    assert_eq!(reading.verdict, Verdict::Padded);
+    assert_eq!(reading.options, 0..0);
+    assert_eq!((reading.count, reading.fill), (0, 0));
+    assert_eq!(reading.apc, Apc::None);
+    let mut buffer = [0xEE; 8];
+    let listing = list(&payload, &reading, &mut buffer).unwrap();
+    assert_eq!((listing.size, listing.fill, buffer[0]), (1, 0, 0));
+    // The same as an original: delivered, and no refusal.
+    let original = &payload[8..];
+    let rereading = reread(original, Place(2), strict).unwrap();
+    assert_eq!(rereading.user_data(original), b"ok");
+    assert_eq!(rereading.verdict, Verdict::Padded);
+    assert_eq!(rereading.options, Place(0)..Place(0));
+    assert_eq!((rereading.count, rereading.fill), (0, 0));
+    let listing = relist(original, &rereading, &mut buffer).unwrap();
+    assert_eq!((listing.size, listing.fill, buffer[0]), (1, 0, 0));
+    // Plain reading reads and lists it.
+    let rereading = reread(original, Place(2), Strictness::Plain).unwrap();
+    assert_eq!(rereading.verdict, Verdict::Read);
+    let listing = relist(original, &rereading, &mut buffer).unwrap();
+    assert_eq!(buffer[..listing.size], [1, 6, 0xAC, 2]);
+}
+
+/// A fragment with eight NOPs before or behind its option is none in strict
+/// reading, and touches nothing.
+#[test]
+fn padded_fragments() {
+    let head = [0x12, 0x34, 0, 53, 0, 8, 0, 0, 0, 0];
+    let mut one = One::new();
+    let mut out = [0; ORIGINAL_LIMIT];
+    let mut receive = |before: usize, behind: usize, identification: u8, strictness| {
+        let start = (20 + before + behind) as u8;
+        let frag = [3, 10, 0, start, 0, 0, 0, identification, 0, 8];
+        let payload = [
+            &head[..],
+            &[1].repeat(before),
+            &frag,
+            &[1].repeat(behind),
+            b"ab",
+        ]
+        .concat();
+        one.table().receive(
+            0,
+            5,
+            FLOW.source,
+            FLOW.destination,
+            strictness,
+            &payload,
+            &mut out,
+        )
+    };
+    for (before, behind) in [(8, 0), (0, 8), (20, 20)] {
+        let Received::Datagram(reading) = receive(before, behind, 1, Strictness::Strict) else {
+            panic!("no datagram");
+        };
+        assert_eq!((reading.verdict, reading.user), (Verdict::Padded, 8..8));
+    }
+    let stored = Received::Fragment(Ok(Answer::Stored));
+    assert_eq!(receive(7, 7, 1, Strictness::Strict), stored);
+    assert_eq!(receive(8, 8, 2, Strictness::Plain), stored);
+    let account = one.account();
+    assert_eq!((account.offered, account.held), (4, 4));
 }
 
 #[test]
@@ -224,7 +340,9 @@ fn written_read_and_listed() {
     let mut payload = [0xEE; 64];
     let length = write(&FLOW, b"level 412 cm", &list_in, 1, &mut payload).unwrap();
     let payload = &payload[..length];
-    let reading = read(payload, FLOW.source, FLOW.destination).unwrap();
+    let read = |strictness| read(payload, FLOW.source, FLOW.destination, strictness);
+    let reading = read(Strictness::Plain).unwrap();
+    assert_eq!(read(Strictness::Strict).as_ref(), Ok(&reading));
     assert_eq!(reading.user_data(payload), b"level 412 cm");
     assert_eq!(reading.verdict, Verdict::Read);
     assert_eq!((reading.count, reading.fill), (3, 1));
@@ -253,8 +371,9 @@ fn one_call_for_each_datagram() {
     let mut one = One::new();
     let mut out = [0; ORIGINAL_LIMIT];
     let mut table = one.table();
+    let (source, destination, plain) = (FLOW.source, FLOW.destination, Strictness::Plain);
     let mut receive =
-        |payload: &[u8]| table.receive(0, 5, FLOW.source, FLOW.destination, payload, &mut out);
+        |payload: &[u8]| table.receive(0, 5, source, destination, plain, payload, &mut out);
     assert_eq!(receive(&last), Received::Fragment(Ok(Answer::Stored)));
     assert_eq!(receive(&last), Received::Fragment(Ok(Answer::Repeated)));
     let delivered = Answer::Delivered {
@@ -288,10 +407,11 @@ fn one_call_for_each_datagram() {
 #[test]
 fn empty_slices_and_misfits_are_refused() {
     assert_eq!(
-        read(&[], FLOW.source, FLOW.destination),
+        read(&[], FLOW.source, FLOW.destination, Strictness::Strict),
         Err(Refusal::PayloadTooShort)
     );
-    assert_eq!(reread(&[], Place(0)).unwrap().verdict, Verdict::Bare);
+    let rereading = reread(&[], Place(0), Strictness::Strict).unwrap();
+    assert_eq!(rereading.verdict, Verdict::Bare);
     let empty = write(&FLOW, &[], &[], 0, &mut []);
     assert_eq!(empty, Err(Refusal::UnreadableList));
     let mut table = Table::new(&mut [], &mut []);
