@@ -1,19 +1,20 @@
--- The walk of a list that FRAG leads computes: EOL in a piece's options, up to Frag. Start. The list stands at packet offset 10, behind the option
+-- The walk of a list that FRAG leads computes: EOL in a piece's options, up to Frag. Start, and NOPs in a row, before FRAG and behind it. The list stands at packet offset 10, behind the option
 -- checksum of a datagram without user data.
 -- Assumes nothing.
 use mathlib.Core.Path.{_≡_, refl}
 use mathlib.Core.Bool.{true, false}
 use mathlib.Core.List.{List, [], _∷_}
-use Prim.Native.Nat.{ℕ}
+use Prim.Native.Nat.{ℕ, zero, suc}
 use Rattle.number_octets.specs.Octets.{number}
 use Rattle.number_octets.specs.Zeros.{allZero}
 use Rattle.number_offsets.specs.Offsets.{udpHeader, placeOf}
 use Rattle.wire_options.specs.Kinds.{classOf}
 use Rattle.wire_options.specs.Step.{headerOf, stepOf}
-use Rattle.wire_options.specs.Nops.{nopsOf}
+use Rattle.wire_options.specs.Nops.{nopLimit, nopsOf}
+use Rattle.wire_options.specs.Strict.{strictFrom}
 use Rattle.wire_options.specs.Walk.{walkFrom, optionLimit}
-use Rattle.wire_options.specs.declared.nops.Strictness.the-variants.{Plain}
-use Rattle.wire_options.specs.declared.walk.Fault.the-variants.{FragData, Tail}
+use Rattle.wire_options.specs.declared.nops.Strictness.the-variants.{Plain, Strict}
+use Rattle.wire_options.specs.declared.walk.Fault.the-variants.{FragData, Tail, Padded}
 use Rattle.wire_area.specs.Area.{fieldsOf, fragmentOf, AreaWalk, piece, fault, areaOf}
 
 -- FRAG with this Frag. Start, identification 7, place 0, and what stands behind it
@@ -53,3 +54,45 @@ with-data = refl
 frag-behind-eol : areaOf Plain true 10 (0x00 ∷ led 22 (0xAA ∷ [])) ≡ fault Tail
 unfolding number allZero placeOf udpHeader classOf headerOf stepOf walkFrom optionLimit nopsOf fieldsOf fragmentOf areaOf
 frag-behind-eol = refl
+
+-- ---- NOPs in a row (document 02, R-6)
+
+-- so many NOPs before a list
+abbrev padded : ℕ → List ℕ → List ℕ
+padded zero l = l
+padded (suc n) l = 0x01 ∷ padded n l
+
+-- seven and eight before FRAG, with and without user data, and eight in plain reading; FRAG ends at 27 behind seven
+seven-before-frag : areaOf Strict true 10 (padded 7 (led 27 (0xAA ∷ []))) ≡ fragment 27 28
+unfolding number placeOf udpHeader classOf headerOf stepOf walkFrom strictFrom nopLimit optionLimit nopsOf fieldsOf fragmentOf areaOf
+seven-before-frag = refl
+
+eight-before-frag : areaOf Strict true 10 (padded 8 (led 28 (0xAA ∷ []))) ≡ fault Padded
+unfolding number placeOf udpHeader classOf headerOf stepOf walkFrom strictFrom nopLimit optionLimit nopsOf fieldsOf fragmentOf areaOf
+eight-before-frag = refl
+
+eight-with-data : areaOf Strict false 10 (padded 8 (led 28 (0xAA ∷ []))) ≡ fault Padded
+unfolding number placeOf udpHeader classOf headerOf stepOf walkFrom strictFrom nopLimit optionLimit nopsOf fieldsOf fragmentOf areaOf
+eight-with-data = refl
+
+eight-before-plainly : areaOf Plain true 10 (padded 8 (led 28 (0xAA ∷ []))) ≡ fragment 28 29
+unfolding number placeOf udpHeader classOf headerOf stepOf walkFrom optionLimit nopsOf fieldsOf fragmentOf areaOf
+eight-before-plainly = refl
+
+-- seven before FRAG and seven behind it: FRAG starts the count again; eight behind it, up to Frag. Start and past it
+seven-around-frag : areaOf Strict true 10 (padded 7 (led 34 (padded 7 (0xAA ∷ [])))) ≡ fragment 34 35
+unfolding number placeOf udpHeader classOf headerOf stepOf walkFrom strictFrom nopLimit optionLimit nopsOf fieldsOf fragmentOf areaOf
+seven-around-frag = refl
+
+eight-in-piece : areaOf Strict true 10 (led 28 (padded 8 (0xAA ∷ []))) ≡ fault Padded
+unfolding number placeOf udpHeader classOf headerOf stepOf walkFrom strictFrom nopLimit optionLimit nopsOf fieldsOf fragmentOf areaOf
+eight-in-piece = refl
+
+eight-past-start : areaOf Strict true 10 (led 27 (padded 8 [])) ≡ fragment 27 28
+unfolding number placeOf udpHeader classOf headerOf stepOf walkFrom strictFrom nopLimit optionLimit nopsOf fieldsOf fragmentOf areaOf
+eight-past-start = refl
+
+-- with user data a good FRAG is met before the NOPs behind it
+data-before-nops : areaOf Strict false 10 (led 28 (padded 8 (0xAA ∷ []))) ≡ fault FragData
+unfolding number placeOf udpHeader classOf headerOf stepOf walkFrom strictFrom nopLimit optionLimit nopsOf fieldsOf fragmentOf areaOf
+data-before-nops = refl

@@ -1,4 +1,4 @@
--- The walk computes: EOL with zeros behind it, with other bytes, and what is met before it.
+-- The walk computes: EOL with zeros behind it, with other bytes, and what is met before it; NOPs in a row, in plain and in strict reading.
 -- Assumes nothing.
 use mathlib.Core.Path.{_≡_, refl}
 use mathlib.Core.List.{List, [], _∷_}
@@ -7,8 +7,11 @@ use Rattle.number_octets.specs.Octets.{number}
 use Rattle.number_octets.specs.Zeros.{allZero}
 use Rattle.wire_options.specs.Kinds.{classOf}
 use Rattle.wire_options.specs.Step.{headerOf, stepOf}
-use Rattle.wire_options.specs.Walk.{listed, faulty, walkFrom, optionLimit}
-use Rattle.wire_options.specs.declared.walk.Fault.the-variants.{Malformed, Unsafe, Crowded, Tail}
+use Rattle.wire_options.specs.Walk.{Item, listed, faulty, walkFrom, optionLimit}
+use Rattle.wire_options.specs.Nops.{nopLimit}
+use Rattle.wire_options.specs.Strict.{strictFrom, walkBy}
+use Rattle.wire_options.specs.declared.nops.Strictness.the-variants.{Plain, Strict}
+use Rattle.wire_options.specs.declared.walk.Fault.the-variants.{Malformed, Unsafe, Crowded, Tail, Padded}
 
 -- EOL alone, and with zeros behind it: the fill
 one : walkFrom optionLimit 0 (0x00 ∷ []) ≡ listed [] 1
@@ -53,3 +56,61 @@ full = refl
 crowded : walkFrom optionLimit 0 (many 33) ≡ faulty Crowded
 unfolding number allZero classOf headerOf stepOf walkFrom optionLimit
 crowded = refl
+
+-- ---- NOPs in a row (document 02, R-6)
+
+-- so many NOPs before a list
+abbrev padded : ℕ → List ℕ → List ℕ
+padded zero l = l
+padded (suc n) l = 0x01 ∷ padded n l
+
+-- MDS 8, and what a list with one comes to
+abbrev mds : List ℕ → List ℕ
+mds l = 0x04 ∷ 0x04 ∷ 0x00 ∷ 0x08 ∷ l
+
+abbrev oneMds : Item
+oneMds = record { kind = 4; body = 0x00 ∷ 0x08 ∷ [] }
+
+-- seven, eight and nine before an option, and eight in plain reading
+seven-before : walkBy Strict optionLimit 0 (padded 7 (mds [])) ≡ listed (oneMds ∷ []) 0
+unfolding number classOf headerOf stepOf walkFrom strictFrom nopLimit optionLimit
+seven-before = refl
+
+eight-before : walkBy Strict optionLimit 0 (padded 8 (mds [])) ≡ faulty Padded
+unfolding number classOf headerOf stepOf walkFrom strictFrom nopLimit optionLimit
+eight-before = refl
+
+nine-before : walkBy Strict optionLimit 0 (padded 9 (mds [])) ≡ faulty Padded
+unfolding number classOf headerOf stepOf walkFrom strictFrom nopLimit optionLimit
+nine-before = refl
+
+eight-plain : walkBy Plain optionLimit 0 (padded 8 (mds [])) ≡ listed (oneMds ∷ []) 0
+unfolding number classOf headerOf stepOf walkFrom optionLimit
+eight-plain = refl
+
+-- seven on either side of an option, and eight behind it
+seven-around : walkBy Strict optionLimit 0 (padded 7 (mds (padded 7 []))) ≡ listed (oneMds ∷ []) 0
+unfolding number classOf headerOf stepOf walkFrom strictFrom nopLimit optionLimit
+seven-around = refl
+
+eight-behind : walkBy Strict optionLimit 0 (mds (padded 8 [])) ≡ faulty Padded
+unfolding number classOf headerOf stepOf walkFrom strictFrom nopLimit optionLimit
+eight-behind = refl
+
+-- eight as the body of an option, and behind EOL, where they are a tail
+eight-in-body : walkBy Strict optionLimit 0 (0x09 ∷ 0x0A ∷ padded 8 []) ≡ listed (record { kind = 9; body = padded 8 [] } ∷ []) 0
+unfolding number classOf headerOf stepOf walkFrom strictFrom nopLimit optionLimit
+eight-in-body = refl
+
+eight-behind-eol : walkBy Strict optionLimit 0 (0x00 ∷ padded 8 []) ≡ faulty Tail
+unfolding number allZero classOf headerOf stepOf walkFrom strictFrom nopLimit optionLimit
+eight-behind-eol = refl
+
+-- what is met first decides: an unsafe option before the eighth NOP, and behind it
+unsafe-eighth : walkBy Strict optionLimit 0 (padded 7 (0xC0 ∷ 0x01 ∷ [])) ≡ faulty Unsafe
+unfolding number classOf headerOf stepOf walkFrom strictFrom nopLimit optionLimit
+unsafe-eighth = refl
+
+unsafe-ninth : walkBy Strict optionLimit 0 (padded 8 (0xC0 ∷ [])) ≡ faulty Padded
+unfolding number classOf headerOf stepOf walkFrom strictFrom nopLimit optionLimit
+unsafe-ninth = refl
