@@ -64,10 +64,10 @@ pub enum Area {
 pub fn walk_area(list: &[u8], base: PacketOffset, empty: bool, strictness: Strictness) -> Area
     ensures { λ r. ⌜ r ≡ areaAnswer (areaOf strictness empty (base .0) (now (list .entry))) ⌝ }
 {
-    let nops = nops::leading_nops(list);
-    if nops::is_padding(strictness, nops) {
+    if nops::is_padded(list, strictness) {
         return Area::Faulty(Fault::Padded);
     }
+    let nops = nops::leading_nops(list);
     if nops < list.len() {
         if list[nops] == FRAG {
             return led(list, base, nops, empty, strictness);

@@ -3,7 +3,7 @@
 use mathlib.Core.Path.{_≡_, refl, sym, ap, _∙_}
 use mathlib.Core.Bool.{Bool, true, false, cond}
 use mathlib.Core.List.{List, [], _∷_, reverse}
-use Prim.Native.Nat.{ℕ, suc, _+_, _*_, _≤_, _<_}
+use Prim.Native.Nat.{ℕ, zero, suc, _+_, _*_, _≤_, _<_}
 use native.Mathlib.Numerals.{add-one}
 use native.Mathlib.Omega.{arith}
 use borrow.Author.Tests.{eq-eqb, ne-eqb, eqb-true, eqb-false, lt-ltb, le-ltb, ltb-true, ltb-false}
@@ -13,8 +13,7 @@ use lib.Seq.{drop-cons}
 use Rattle.number_octets.specs.Octets.{number, part}
 use Rattle.number_octets.proofs.Laws.{little-four}
 use Rattle.wire_options.specs.Kinds.{nop}
-use Rattle.wire_options.specs.Step.{stepOf}
-use Rattle.wire_options.specs.Walk.{Walked, faulty, walkAt, walkFrom}
+use Rattle.wire_options.specs.Walk.{faulty, walkAt, walkFrom}
 use Rattle.wire_options.specs.Nops.{nopLimit, nopsOf, isPadding}
 use Rattle.wire_options.specs.Strict.{strictAt, strictFrom, walkBy}
 use Rattle.wire_options.specs.declared.nops.Strictness.{Strictness}
@@ -85,6 +84,44 @@ nops-four l i h small e =
     let n3 : nopsOf (drop (i + 3) l) ≡ 1 + nopsOf (drop (i + 4) l) =
     nops-one l (i + 3) (omega arith) (three .1) ∙ ap (λ (k : ℕ). 1 + nopsOf (drop k l)) at3 in
     omega arith
+
+-- .. and NOPs are four NOPs as one number
+nops-are : (l : List ℕ) (i : ℕ) → i < nopsOf l → getD l i 0 ≡ nop
+unfolding nopsOf
+nops-are [] i h = absurd (omega arith)
+nops-are (b ∷ bs) i h = go (eqb b nop) refl i h (nops-are bs)
+  where
+    go : (t : Bool) → eqb b nop ≡ t → (i : ℕ) → i < cond t (1 + nopsOf bs) 0 → ((k : ℕ) → k < nopsOf bs → getD bs k 0 ≡ nop) → getD (b ∷ bs) i 0 ≡ nop
+    go false e i h rest = absurd (omega arith)
+    go true e zero h rest = eqb-true b nop e
+    go true e (suc i) h rest = rest i (omega arith)
+
+nops-word : (l : List ℕ) (i : ℕ) → i + 4 ≤ nopsOf l → number (reverse (part i 4 l)) ≡ 16843009
+nops-word l i h =
+    let a = nops-are l i (omega arith) in
+    let b = nops-are l (i + 1) (omega arith) in
+    let c = nops-are l (i + 2) (omega arith) in
+    let d = nops-are l (i + 3) (omega arith) in
+    little-four i l (omega (arith, nops-within l)) ∙ omega arith
+
+-- ---- padding
+
+pub padding-many : (l : List ℕ) → 8 ≤ nopsOf l → isPadding Strict (nopsOf l) ≡ true
+unfolding nopLimit
+padding-many l h = lt-ltb 7 (nopsOf l) h
+
+pub padding-few : (l : List ℕ) → nopsOf l < 8 → isPadding Strict (nopsOf l) ≡ false
+unfolding nopLimit
+padding-few l h = le-ltb 7 (nopsOf l) (omega arith)
+
+-- another word among the first eight bytes ends the row before the eighth
+pub padding-word : (l : List ℕ) (i : ℕ) → i ≤ 4 → (number (reverse (part i 4 l)) ≡ 16843009 → ⊥) → isPadding Strict (nopsOf l) ≡ false
+unfolding nopLimit
+padding-word l i h d = go (ltb 7 (nopsOf l)) refl
+  where
+    go : (t : Bool) → ltb 7 (nopsOf l) ≡ t → t ≡ false
+    go false e = refl
+    go true e = absurd (d (nops-word l i (omega (arith, ltb-true 7 (nopsOf l) e))))
 
 -- ---- the walk
 

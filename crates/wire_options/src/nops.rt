@@ -10,21 +10,38 @@ pub enum Strictness {
     Strict,
 }
 
-// How many NOPs may stand in a row where reading is strict.
-pub const NOP_LIMIT: usize = 7;
+// How many NOPs in a row are padding where reading is strict.
+const PADDING: usize = 8;
 
 const NOP: u8 = 1;
 
 // Four NOPs as one number.
 const FOUR_NOPS: u32 = 16843009;
 
-pub fn is_padding(strictness: Strictness, nops: usize) -> bool
-    ensures { λ r. ⌜ r ≡ isPadding strictness nops ⌝ }
+// In strict reading eight NOPs at the front are padding, whatever stands behind them.
+pub fn is_padded(list: &[u8], strictness: Strictness) -> bool
+    ensures { λ r. ⌜ r ≡ isPadding strictness (nopsOf (now (list .entry))) ⌝ }
 {
     match strictness {
         Strictness::Plain => false,
-        Strictness::Strict => NOP_LIMIT < nops,
+        Strictness::Strict => starts_padded(list),
     }
+}
+
+// The same in strict reading. No byte behind the eighth is looked at.
+fn starts_padded(list: &[u8]) -> bool
+    ensures { λ r. ⌜ r ≡ isPadding Strictness.Strict (nopsOf (now (list .entry))) ⌝ }
+{
+    if list.len() < PADDING {
+        return false;
+    }
+    if list[0] != NOP {
+        return false;
+    }
+    if number_octets::get_u32_little(list, 0) != FOUR_NOPS {
+        return false;
+    }
+    number_octets::get_u32_little(list, 4) == FOUR_NOPS
 }
 
 pub fn leading_nops(list: &[u8]) -> usize

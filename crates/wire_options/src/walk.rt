@@ -131,10 +131,10 @@ fn progress_at(rest: &[u8], room: usize, strictness: Strictness) -> Progress
 fn nops_at(rest: &[u8], room: usize, strictness: Strictness) -> Progress
     ensures { λ r. ⌜ r ≡ nopProgress strictness room (nopsOf (now (rest .entry))) ⌝ }
 {
-    let nops = nops::leading_nops(rest);
-    if nops::is_padding(strictness, nops) {
+    if nops::is_padded(rest, strictness) {
         return Progress::Failed(Fault::Padded);
     }
+    let nops = nops::leading_nops(rest);
     on(room, nops, Apcs::Absent)
 }
 

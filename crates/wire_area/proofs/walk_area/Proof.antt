@@ -40,31 +40,26 @@ leads-is how empty base l t p e =
     padding-is how empty base l false p
     ∙ ap (λ (x : Bool). cond x (ledBy how empty l base (nopsOf l) (stepOf (drop (nopsOf l) l))) (plainly (walkBy how optionLimit 0 l))) e
 
--- the code's test is the definition's
-tested : (c : tie.After-is-padding) → let a = c .before .before .before .args in isPadding (a .strictness) (nopsOf (a .list .now)) ≡ c .is-padding .result
-tested c = let a = c .before .before .before .args in
-    ap (isPadding (a .strictness)) (sym (c .before .leading-nops .ensures .0)) ∙ sym (c .is-padding .ensures)
-
 -- no FRAG leads: nothing is behind the NOPs, or something else
 not-led : (c : tie.Joined2) → let l = c .before .before .before .before .before .args .list .now in eqb (getD l (nopsOf l) eol) frag ≡ false
 not-led c =
     let l = c .before .before .before .before .before .args .list .now in
-    let n = c .before .before .before .leading-nops in
+    let n = c .before .leading-nops in
     ⊎-elim
     (λ w. ne-eqb _ frag (λ e. w .2 .left (ap (λ (k : ℕ). getD l k 0) (n .ensures .0) ∙ e)))
     (λ w. ap (λ (k : ℕ). eqb k frag) (ap (λ (k : ℕ). getD l k 0) (sym (n .ensures .0)) ∙ List·getD-eq-default l 0 (w .left)))
     (c .if2 .came)
 
-leading-nops-requires : tie.Need-leading-nops-requires
-leading-nops-requires c κs = search needs
-
-is-padding-requires : tie.Need-is-padding-requires
-is-padding-requires c κs = search needs
+is-padded-requires : tie.Need-is-padded-requires
+is-padded-requires c κs = search needs
 
 returns : tie.Need-returns
 returns c =
-    let a = c .before .before .before .before .args in
-    sym (ap areaAnswer (padding-is (a .strictness) (a .empty) (a .base .0) (a .list .now) true (tested (c .before) ∙ c .if1 .taken)))
+    let a = c .before .before .before .args in
+    sym (ap areaAnswer (padding-is (a .strictness) (a .empty) (a .base .0) (a .list .now) true (sym (c .before .is-padded .ensures) ∙ c .if1 .taken)))
+
+leading-nops-requires : tie.Need-leading-nops-requires
+leading-nops-requires c κs = search needs
 
 shared-slice-read-if3 : tie.Need-shared-slice-read-if3
 shared-slice-read-if3 c = search needs
@@ -76,12 +71,13 @@ returns-2 : tie.Need-returns-2
 returns-2 c =
     let a = c .before .before .before .before .before .before .before .before .args in
     let place = c .before .before .before .before .before in
-    let nops = place .before .leading-nops in
+    let nops = c .before .before .before .before .leading-nops in
+    let few : isPadding (a .strictness) (nopsOf (a .list .now)) ≡ false = sym (place .before .is-padded .ensures) ∙ place .if1 .left in
     let led-here : eqb (getD (a .list .now) (nopsOf (a .list .now)) eol) frag ≡ true =
     eq-eqb _ frag (ap (λ (n : ℕ). getD (a .list .now) n 0) (sym (nops .ensures .0)) ∙ c .before .if3 .taken) in
     c .led .ensures
     ∙ ap (λ (n : ℕ). areaAnswer (ledBy (a .strictness) (a .empty) (a .list .now) (a .base .0) n (stepOf (drop n (a .list .now))))) (nops .ensures .0)
-    ∙ sym (ap areaAnswer (leads-is (a .strictness) (a .empty) (a .base .0) (a .list .now) true (tested place ∙ c .before .before .before .before .if1 .left) led-here))
+    ∙ sym (ap areaAnswer (leads-is (a .strictness) (a .empty) (a .base .0) (a .list .now) true few led-here))
 
 sub-walk-list : tie.Need-sub-walk-list
 sub-walk-list c = search needs
@@ -103,8 +99,9 @@ unfolding optionLimit
 returns-3 c =
     let a = c .before .before .before .before .before .before .before .before .args in
     let joined = c .before .before .before in
-    let few : isPadding (a .strictness) (nopsOf (a .list .now)) ≡ false = tested (joined .before .before) ∙ joined .before .if1 .left in
-    let nops = joined .before .before .before .leading-nops in
+    let few : isPadding (a .strictness) (nopsOf (a .list .now)) ≡ false =
+    sym (joined .before .before .before .is-padded .ensures) ∙ joined .before .before .if1 .left in
+    let nops = joined .before .leading-nops in
     c .as-area .ensures ∙ ap asArea (c .before .walk-list .ensures)
     ∙ ap (λ (l : List ℕ). asArea (walkAnswer (walkBy (a .strictness) 32 0 l)))
     (part-rest (nops .result) (a .list .now) ∙ ap (λ (n : ℕ). drop n (a .list .now)) (nops .ensures .0))
@@ -116,9 +113,9 @@ pub walk-area-spec : {M : Type 1} → statement M
 walk-area-spec =
     tie.close
     (tie.spec
-    leading-nops-requires
-    is-padding-requires
+    is-padded-requires
     returns
+    leading-nops-requires
     shared-slice-read-if3
     led-requires
     returns-2
