@@ -83,7 +83,7 @@ before-padded : (item : Item) (w : Walked) → before item w ≡ faulty Padded �
 before-padded item (listed items fill) e = absurd (let z : _≡_ {A = ℕ} 0 1 = cc in omega arith)
 before-padded item (faulty f) e = e
 
-cause-from : (l : List ℕ) (nops room skip : ℕ) → nops ≤ 7 → strictFrom nops room skip l ≡ faulty Padded → Cause nops room (drop skip l)
+cause-from : (l : List ℕ) (nops room skip : ℕ) → nops ≤ nopLimit → strictFrom nops room skip l ≡ faulty Padded → Cause nops room (drop skip l)
 unfolding strictFrom nopLimit
 cause-from [] nops room skip few q = absurd (let z : _≡_ {A = ℕ} 0 1 = cc in omega arith)
 cause-from (b ∷ bs) nops room (suc skip) few q = cause-from bs nops room skip few q
@@ -96,16 +96,16 @@ cause-from (b ∷ bs) nops room zero few q = go (stepOf (b ∷ bs)) refl q (λ n
     strict n left skip = strictFrom n left skip bs
 
     Rest : Type 0
-    Rest = (n left skip : ℕ) → n ≤ 7 → strictFrom n left skip bs ≡ faulty Padded → Cause n left (drop skip bs)
+    Rest = (n left skip : ℕ) → n ≤ nopLimit → strictFrom n left skip bs ≡ faulty Padded → Cause n left (drop skip bs)
 
     over : b ≡ nop → Padding room bs → Padding room l
     over e p = subst (λ (k : ℕ). Padding room (k ∷ bs)) (sym e) (record { left = p .left; rest = p .rest; comes = over-nop (p .comes) })
 
-    counted : b ≡ nop → (t : Bool) → ltb 7 (suc nops) ≡ t → cond t (faulty Padded) (strict (suc nops) room 0) ≡ faulty Padded → Rest → Cause nops room l
-    counted e true p q ih = inr (omega (arith, ltb-true 7 (suc nops) p, nops-some b bs e .0))
+    counted : b ≡ nop → (t : Bool) → ltb nopLimit (suc nops) ≡ t → cond t (faulty Padded) (strict (suc nops) room 0) ≡ faulty Padded → Rest → Cause nops room l
+    counted e true p q ih = inr (omega (arith, ltb-true nopLimit (suc nops) p, nops-some b bs e .0))
     counted e false p q ih =
         ⊎-elim (λ c. inl (over e c)) (λ c. inr (omega (arith, nops-some b bs e .1)))
-        (ih (suc nops) room 0 (omega (arith, ltb-false 7 (suc nops) p)) q)
+        (ih (suc nops) room 0 (omega (arith, ltb-false nopLimit (suc nops) p)) q)
 
     option : (r kind header size : ℕ) → stepOf l ≡ Found kind header size → (kind ≡ frag → ⊥) → Cause 0 r (drop (size - 1) bs) → Cause nops (suc r) l
     option r kind header size e other c =
@@ -131,7 +131,7 @@ cause-from (b ∷ bs) nops room zero few q = go (stepOf (b ∷ bs)) refl q (λ n
     go Eol e q ih = ended (fillIsZero l) q
     go Unsound e q ih = absurd (let z : _≡_ {A = ℕ} 0 1 = cc in omega arith)
     go Outlawed e q ih = absurd (let z : _≡_ {A = ℕ} 0 1 = cc in omega arith)
-    go Nop e q ih = counted (nop-byte b bs e) (ltb 7 (suc nops)) refl q ih
+    go Nop e q ih = counted (nop-byte b bs e) (ltb nopLimit (suc nops)) refl q ih
     go (Found kind header size) e q ih = found kind header size (eqb kind frag) room e refl q ih
 
 pub padded-cause : (s : Strictness) (room : ℕ) (l : List ℕ) → walkBy s room 0 l ≡ faulty Padded → (s ≡ Strict) × Padding room l
@@ -144,17 +144,17 @@ pub eight-many : (rest : List ℕ) → 8 ≤ nopsOf (eightNops rest)
 unfolding nopsOf
 eight-many rest = omega arith
 
-met-from : {room left : ℕ} {l m : List ℕ} → Comes room l left m → (rest : List ℕ) → m ≡ eightNops rest → (nops : ℕ) → nops ≤ 7
+met-from : {room left : ℕ} {l m : List ℕ} → Comes room l left m → (rest : List ℕ) → m ≡ eightNops rest → (nops : ℕ) → nops ≤ nopLimit
     → strictFrom nops room 0 l ≡ faulty Padded
 unfolding nopLimit
 met-from (here {left} {m}) rest e nops few =
     ap (strictFrom nops left 0) e ∙ strict-padded nops left (eightNops rest) few (omega (arith, eight-many rest))
-met-from (over-nop {room} {left} {bs} {m} c) rest e nops few = strict-nop nops room bs ∙ go (ltb 7 (suc nops)) refl (met-from c rest e (suc nops))
+met-from (over-nop {room} {left} {bs} {m} c) rest e nops few = strict-nop nops room bs ∙ go (ltb nopLimit (suc nops)) refl (met-from c rest e (suc nops))
   where
-    go : (t : Bool) → ltb 7 (suc nops) ≡ t → (suc nops ≤ 7 → strictFrom (suc nops) room 0 bs ≡ faulty Padded)
+    go : (t : Bool) → ltb nopLimit (suc nops) ≡ t → (suc nops ≤ nopLimit → strictFrom (suc nops) room 0 bs ≡ faulty Padded)
         → cond t (faulty Padded) (strictFrom (suc nops) room 0 bs) ≡ faulty Padded
     go true p ih = refl
-    go false p ih = ih (omega (arith, ltb-false 7 (suc nops) p))
+    go false p ih = ih (omega (arith, ltb-false nopLimit (suc nops) p))
 met-from (over-option {room} {left} {l} {m} kind header size s other c) rest e nops few =
     strict-found nops room l kind header size s other ∙ ap (before (itemOf kind header size l)) (met-from c rest e 0 (omega arith))
 
