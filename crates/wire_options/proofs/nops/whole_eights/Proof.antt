@@ -16,14 +16,11 @@ Inv-loop list n₀ n = (n ≤ length list) × (nopsOf list ≡ n + nopsOf (drop 
 abbrev μ-loop : tie.MeasureT-loop
 μ-loop list n₀ n = length list - n
 
-shared-slice-read-if1 : tie.Need-shared-slice-read-if1 Inv-loop μ-loop
-shared-slice-read-if1 c = search needs
-
-returns : tie.Need-returns Inv-loop μ-loop
-returns c = (omega arith, omega arith)
+whole-blocks-requires : tie.Need-whole-blocks-requires Inv-loop μ-loop
+whole-blocks-requires c κs = search needs
 
 loop-holds : tie.Need-loop-holds Inv-loop μ-loop
-loop-holds c = (omega arith, omega arith)
+loop-holds c = c .whole-blocks .ensures
 
 sub-loop : tie.Need-sub-loop Inv-loop μ-loop
 sub-loop c = omega arith
@@ -31,8 +28,8 @@ sub-loop c = omega arith
 get-u32-little-requires : tie.Need-get-u32-little-requires Inv-loop μ-loop
 get-u32-little-requires c κs = omega arith
 
-returns-2 : tie.Need-returns-2 Inv-loop μ-loop
-returns-2 c = c .before .before .before .loop .inv
+returns : tie.Need-returns Inv-loop μ-loop
+returns c = c .before .before .before .loop .inv
 
 add-get-u32-little : tie.Need-add-get-u32-little Inv-loop μ-loop
 add-get-u32-little c = omega arith
@@ -40,8 +37,8 @@ add-get-u32-little c = omega arith
 get-u32-little-requires-2 : tie.Need-get-u32-little-requires-2 Inv-loop μ-loop
 get-u32-little-requires-2 c κs = omega arith
 
-returns-3 : tie.Need-returns-3 Inv-loop μ-loop
-returns-3 c = c .before .before .before .before .before .loop .inv
+returns-2 : tie.Need-returns-2 Inv-loop μ-loop
+returns-2 c = c .before .before .before .before .before .loop .inv
 
 add-n : tie.Need-add-n Inv-loop μ-loop
 add-n c = omega arith
@@ -51,18 +48,18 @@ loop-less c = omega arith
 
 loop-again : tie.Need-loop-again Inv-loop μ-loop
 loop-again c =
-    let l = c .before .before .before .before .before .before .before .before .before .args .list .now in
+    let l = c .before .before .before .before .before .before .before .before .args .list .now in
     let n : ℕ = c .before .before .before .before .before .loop .n in
     let at : n + 4 + 4 ≡ n + 8 = omega arith in
-    let octets : (k : ℕ) → getD l k 0 < 256 = λ k. omega (arith, c .before .before .before .before .before .before .before .before .shared-slice-known .given k) in
+    let octets : (k : ℕ) → getD l k 0 < 256 = λ k. omega (arith, c .before .before .before .before .before .before .before .shared-slice-known .given k) in
     let one : nopsOf (drop n l) ≡ 4 + nopsOf (drop (n + 4) l) =
-    nops-four l n (omega arith) octets (sym (c .before .before .before .get-u32-little .ensures) ∙ c .before .before .if2 .left) in
+    nops-four l n (omega arith) octets (sym (c .before .before .before .get-u32-little .ensures) ∙ c .before .before .if1 .left) in
     let two : nopsOf (drop (n + 4) l) ≡ 4 + nopsOf (drop (n + 8) l) =
-    nops-four l (n + 4) (omega arith) octets (sym (c .before .get-u32-little2 .ensures) ∙ c .if3 .left) ∙ ap (λ (k : ℕ). 4 + nopsOf (drop k l)) at in
+    nops-four l (n + 4) (omega arith) octets (sym (c .before .get-u32-little2 .ensures) ∙ c .if2 .left) ∙ ap (λ (k : ℕ). 4 + nopsOf (drop k l)) at in
     (omega arith, omega arith)
 
-returns-4 : tie.Need-returns-4 Inv-loop μ-loop
-returns-4 c = c .before .loop .inv
+returns-3 : tie.Need-returns-3 Inv-loop μ-loop
+returns-3 c = c .before .loop .inv
 
 pub whole-eights-spec : {M : Type 1} → statement M
 whole-eights-spec =
@@ -70,16 +67,15 @@ whole-eights-spec =
     (tie.spec
     Inv-loop
     μ-loop
-    shared-slice-read-if1
-    returns
+    whole-blocks-requires
     loop-holds
     sub-loop
     get-u32-little-requires
-    returns-2
+    returns
     add-get-u32-little
     get-u32-little-requires-2
-    returns-3
+    returns-2
     add-n
     loop-less
     loop-again
-    returns-4)
+    returns-3)
