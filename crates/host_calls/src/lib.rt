@@ -1,5 +1,5 @@
 // The library for C and Rust: the calls of include/wuraketozo.h under their names there. A slice is a pointer and a length in C. No
-// call asks anything of the values of its arguments.
+// call asks anything of the values of its arguments. `host_wire` does the work of those that have no table.
 use client_record::Client;
 use host_readings::Reading;
 use host_readings::Rereading;
@@ -10,8 +10,6 @@ use host_values::Listing;
 use host_values::Received;
 use host_values::Written;
 use number_offsets::OriginalOffset;
-use wire_datagram::parts;
-use wire_datagram::reading;
 use wire_datagram::reading::Extent;
 use wire_original::OriginalExtent;
 ghost use mathlib.Core.Path.{_≡_};
@@ -28,7 +26,8 @@ ghost use Rattle.host_readings.specs.Reading.{hostReading, hostRereading};
 ghost use Rattle.host_readings.specs.Listable.{verdictFor};
 ghost use Rattle.host_readings.specs.Setting.{strictnessFor};
 ghost use Rattle.host_values.specs.Answer.{arrivalFrom};
-ghost use Rattle.host_calls.specs.Left.{recordSize, Lists, Writes, Leaves, Receives};
+ghost use Rattle.host_wire.specs.Left.{Lists, Writes};
+ghost use Rattle.host_calls.specs.Left.{recordSize, Leaves, Receives};
 
 // ---- reading
 
@@ -42,10 +41,7 @@ pub extern "C" fn wuraketozo_read(
 ) -> Reading
     ensures { λ r. ⌜ r ≡ hostReading (reading (strictnessFor strictness) (now (payload .entry)) (source .octets) (destination .octets)) ⌝ }
 {
-    let from = source.octets;
-    let to = destination.octets;
-    let how = host_readings::strictness_for(strictness);
-    host_readings::reading_of(parts::outcome_of(reading::examine(payload, from, to, how)))
+    host_wire::read(payload, source, destination, strictness)
 }
 
 // Reads an original again that was put together from fragments, plainly or strictly.
@@ -57,8 +53,7 @@ pub extern "C" fn wuraketozo_reread(
 ) -> Rereading
     ensures { λ r. ⌜ r ≡ hostRereading (rereading (strictnessFor strictness) (now (original .entry)) («option_start» .0)) ⌝ }
 {
-    let how = host_readings::strictness_for(strictness);
-    host_readings::rereading_of(wire_original::reread(original, option_start, how))
+    host_wire::reread(original, option_start, strictness)
 }
 
 // ---- option lists and payloads
@@ -73,8 +68,7 @@ pub extern "C" fn wuraketozo_list(
 ) -> Listing
     ensures { λ r. ⌜ Lists (walkOfValue (now (payload .entry)) (verdictFor verdict) (options .from .0) (options .to .0)) (now (buffer .entry)) r (now (buffer .exit)) ⌝ }
 {
-    let reading = host_readings::reading_for(verdict, options);
-    host_values::listing_of(list_readings::list_reading(payload, reading, buffer))
+    host_wire::list(payload, verdict, options, buffer)
 }
 
 // Lists the options of a rereading of `original`.
@@ -87,8 +81,7 @@ pub extern "C" fn wuraketozo_relist(
 ) -> Listing
     ensures { λ r. ⌜ Lists (walkOfValue (now (original .entry)) (verdictFor verdict) (options .from .0) (options .to .0)) (now (buffer .entry)) r (now (buffer .exit)) ⌝ }
 {
-    let rereading = host_readings::rereading_for(verdict, options);
-    host_values::listing_of(list_readings::list_rereading(original, rereading, buffer))
+    host_wire::relist(original, verdict, options, buffer)
 }
 
 // Writes a whole payload.
@@ -107,18 +100,16 @@ pub extern "C" fn wuraketozo_write(
         (written (datagramFor (source .octets) (destination .octets) «source_port» «destination_port» (now (user .entry)) fill) (now (list .entry)) (now (buffer .entry)))
         r (now (buffer .exit)) ⌝ }
 {
-    let from = source.octets;
-    let to = destination.octets;
-    host_values::written_of(list_writer::write(
-        from,
-        to,
+    host_wire::write(
+        source,
+        destination,
         source_port,
         destination_port,
         user,
         list,
         fill,
         buffer,
-    ))
+    )
 }
 
 // ---- sizes

@@ -1,9 +1,9 @@
--- `host_calls::wuraketozo_list` meets its contract: the value that it lists has the numbers it was given.
+-- `host_wire::list` meets its contract: the value that it lists has the numbers it was given.
 -- Assumes nothing.
-use Rattle.host_calls.proofs.Facts.{lists}
+use Rattle.host_wire.proofs.Facts.{lists}
 use borrow.Author.Needs.{needs}
-use Rattle.host_calls.proofs.wuraketozo_list.Statement.{statement}
-use Rattle.host_calls.proofs.wuraketozo_list.Tie as tie
+use Rattle.host_wire.proofs.list.Statement.{statement}
+use Rattle.host_wire.proofs.list.Tie as tie
 
 reading-for-requires : tie.Need-reading-for-requires
 reading-for-requires c κs = search needs
@@ -23,7 +23,7 @@ returns c =
     let a = p .before .before .before .before .before .args in
     lists (a .payload .now) (a .verdict) (a .options) (p .before .before .reading-for .ensures) (p .list-reading .ensures) (c .listing-of .ensures)
 
-pub wuraketozo-list-spec : {M : Type 1} → statement M
-wuraketozo-list-spec =
+pub list-spec : {M : Type 1} → statement M
+list-spec =
     tie.close
     (tie.spec reading-for-requires list-reading-requires listing-of-requires same-length returns)

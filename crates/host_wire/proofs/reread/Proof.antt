@@ -1,12 +1,12 @@
--- `host_calls::wuraketozo_reread` meets its contract: the value of the rereading.
+-- `host_wire::reread` meets its contract: the value of the rereading.
 -- Assumes nothing.
 use mathlib.Core.Path.{ap, _∙_}
 use Rattle.wire_options.specs.declared.nops.Strictness.{Strictness}
 use Rattle.wire_original.specs.Rereading.{rereading}
 use Rattle.host_readings.specs.Reading.{hostRereading}
 use borrow.Author.Needs.{needs}
-use Rattle.host_calls.proofs.wuraketozo_reread.Statement.{statement}
-use Rattle.host_calls.proofs.wuraketozo_reread.Tie as tie
+use Rattle.host_wire.proofs.reread.Statement.{statement}
+use Rattle.host_wire.proofs.reread.Tie as tie
 
 strictness-for-requires : tie.Need-strictness-for-requires
 strictness-for-requires c κs = search needs
@@ -24,5 +24,5 @@ returns c =
     ∙ ap hostRereading (c .before .reread .ensures
     ∙ ap (λ (how : Strictness). rereading how (a .original .now) (a .option-start .0)) (c .before .before .strictness-for .ensures))
 
-pub wuraketozo-reread-spec : {M : Type 1} → statement M
-wuraketozo-reread-spec = tie.close (tie.spec strictness-for-requires reread-requires rereading-of-requires returns)
+pub reread-spec : {M : Type 1} → statement M
+reread-spec = tie.close (tie.spec strictness-for-requires reread-requires rereading-of-requires returns)

@@ -1,4 +1,4 @@
--- `host_calls::wuraketozo_read` meets its contract: the value of the reading.
+-- `host_wire::read` meets its contract: the value of the reading.
 -- Assumes nothing.
 use mathlib.Core.Path.{ap, _∙_}
 use Rattle.wire_options.specs.declared.nops.Strictness.{Strictness}
@@ -6,8 +6,8 @@ use Rattle.wire_datagram.specs.Reading.{reading, answerOf}
 use Rattle.wire_datagram.specs.declared.reading.Outcome.{Outcome}
 use Rattle.host_readings.specs.Reading.{hostReading}
 use borrow.Author.Needs.{needs}
-use Rattle.host_calls.proofs.wuraketozo_read.Statement.{statement}
-use Rattle.host_calls.proofs.wuraketozo_read.Tie as tie
+use Rattle.host_wire.proofs.read.Statement.{statement}
+use Rattle.host_wire.proofs.read.Tie as tie
 
 strictness-for-requires : tie.Need-strictness-for-requires
 strictness-for-requires c κs = search needs
@@ -28,5 +28,5 @@ returns c =
     ∙ ap hostReading (c .before .before .examine .ensures
     ∙ ap (λ (how : Strictness). reading how (a .payload .now) (a .source .octets) (a .destination .octets)) (c .before .before .before .strictness-for .ensures))
 
-pub wuraketozo-read-spec : {M : Type 1} → statement M
-wuraketozo-read-spec = tie.close (tie.spec strictness-for-requires examine-requires outcome-of-requires reading-of-requires returns)
+pub read-spec : {M : Type 1} → statement M
+read-spec = tie.close (tie.spec strictness-for-requires examine-requires outcome-of-requires reading-of-requires returns)

@@ -1,9 +1,9 @@
--- `host_calls::wuraketozo_relist` meets its contract: the value that it lists has the numbers it was given.
+-- `host_wire::relist` meets its contract: the value that it lists has the numbers it was given.
 -- Assumes nothing.
-use Rattle.host_calls.proofs.Facts.{relists}
+use Rattle.host_wire.proofs.Facts.{relists}
 use borrow.Author.Needs.{needs}
-use Rattle.host_calls.proofs.wuraketozo_relist.Statement.{statement}
-use Rattle.host_calls.proofs.wuraketozo_relist.Tie as tie
+use Rattle.host_wire.proofs.relist.Statement.{statement}
+use Rattle.host_wire.proofs.relist.Tie as tie
 
 rereading-for-requires : tie.Need-rereading-for-requires
 rereading-for-requires c κs = search needs
@@ -23,7 +23,7 @@ returns c =
     let a = p .before .before .before .before .before .args in
     relists (a .original .now) (a .verdict) (a .options) (p .before .before .rereading-for .ensures) (p .list-rereading .ensures) (c .listing-of .ensures)
 
-pub wuraketozo-relist-spec : {M : Type 1} → statement M
-wuraketozo-relist-spec =
+pub relist-spec : {M : Type 1} → statement M
+relist-spec =
     tie.close
     (tie.spec rereading-for-requires list-rereading-requires listing-of-requires same-length returns)

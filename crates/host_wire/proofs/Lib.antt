@@ -1,0 +1,2 @@
+-- `Facts` has what the calls leave, from what the crates below leave.
+pub mod Facts
