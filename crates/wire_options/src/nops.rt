@@ -56,8 +56,8 @@ pub fn leading_nops(list: &[u8]) -> usize
     nop_run(list)
 }
 
-// The same, for a list with a NOP at its front: whole blocks, then whole eights, then the bytes that are left, one by one.
-pub fn nop_run(list: &[u8]) -> usize
+// The same of a list with a NOP at its front: whole blocks, then whole eights, then the bytes that are left, one by one.
+fn nop_run(list: &[u8]) -> usize
     ensures { λ r. ⌜ (r ≡ nopsOf (now (list .entry))) × (r ≤ length (now (list .entry))) ⌝ }
 {
     let mut n = whole_eights(list);

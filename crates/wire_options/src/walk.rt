@@ -134,7 +134,7 @@ fn nops_at(rest: &[u8], room: usize, strictness: Strictness) -> Progress
     if nops::is_padded(rest, strictness) {
         return Progress::Failed(Fault::Padded);
     }
-    let nops = nops::nop_run(rest);
+    let nops = nops::leading_nops(rest);
     on(room, nops, Apcs::Absent)
 }
 

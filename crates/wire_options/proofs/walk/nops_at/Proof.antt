@@ -19,8 +19,8 @@ returns c =
     let a = c .before .before .before .args in
     sym (ap (λ (t : Bool). cond t (Failed Padded) (On (a .room) (nopsOf (a .rest .now)) Absent)) (sym (c .before .is-padded .ensures) ∙ c .if1 .taken))
 
-nop-run-requires : tie.Need-nop-run-requires
-nop-run-requires c κs = search needs
+leading-nops-requires : tie.Need-leading-nops-requires
+leading-nops-requires c κs = search needs
 
 on-requires : tie.Need-on-requires
 on-requires c κs = search needs
@@ -29,9 +29,9 @@ returns-2 : tie.Need-returns-2
 returns-2 c =
     let a = c .before .before .before .before .before .args in
     c .on .ensures
-    ∙ ap (λ (n : ℕ). On (a .room) n Absent) (c .before .nop-run .ensures .0)
+    ∙ ap (λ (n : ℕ). On (a .room) n Absent) (c .before .leading-nops .ensures .0)
     ∙ sym (ap (λ (t : Bool). cond t (Failed Padded) (On (a .room) (nopsOf (a .rest .now)) Absent)) (sym (c .before .before .before .is-padded .ensures) ∙ c .before .before .if1 .left))
 
 pub nops-at-spec : {M : Type 1} → statement M
 nops-at-spec =
-    tie.close (tie.spec is-padded-requires returns nop-run-requires on-requires returns-2)
+    tie.close (tie.spec is-padded-requires returns leading-nops-requires on-requires returns-2)
