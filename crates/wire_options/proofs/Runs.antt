@@ -7,6 +7,7 @@ use Prim.Native.Nat.{ℕ, zero, suc, _+_, _*_, _≤_, _<_}
 use native.Mathlib.Numerals.{add-one}
 use native.Mathlib.Omega.{arith}
 use borrow.Author.Tests.{eq-eqb, ne-eqb, eqb-true, eqb-false, lt-ltb, le-ltb, ltb-true, ltb-false}
+use lib.Bits.{bitOr, bitXor, or-add-and, xor-add-and, and-le-l, and-le-r}
 use lib.Dec.{eqb, ltb}
 use lib.ListN.{length, drop, getD, drop-of-length-le}
 use lib.Seq.{drop-cons}
@@ -85,7 +86,17 @@ nops-four l i h small e =
     nops-one l (i + 3) (omega arith) (three .1) ∙ ap (λ (k : ℕ). 1 + nopsOf (drop k l)) at3 in
     omega arith
 
--- .. and NOPs are four NOPs as one number
+-- words among which no bit is different from four NOPs are four NOPs
+pub none-different : (bits word : ℕ) → bitOr bits (bitXor word 16843009) ≡ 0 → (bits ≡ 0) × (word ≡ 16843009)
+none-different bits word e =
+    let d : ℕ = bitXor word 16843009 in
+    let or-sum = or-add-and bits d in
+    let none : d ≡ 0 = omega (arith, or-sum, and-le-l bits d) in (
+      omega (arith, or-sum, and-le-r bits d),
+      omega (arith, none, xor-add-and word 16843009, and-le-l word 16843009, and-le-r word 16843009),
+    )
+
+-- NOPs are four NOPs as one number
 nops-are : (l : List ℕ) (i : ℕ) → i < nopsOf l → getD l i 0 ≡ nop
 unfolding nopsOf
 nops-are [] i h = absurd (omega arith)

@@ -1,6 +1,6 @@
 // NOPs in a row: how many stand at the front of a list, and when they are padding (RFC 9868 section 11.2).
 ghost use mathlib.Core.Path.{_≡_};
-ghost use Prim.Native.Nat.{_+_, _≤_, _<_};
+ghost use Prim.Native.Nat.{_+_, _≤_};
 ghost use lib.ListN.{length, drop};
 ghost use Rattle.wire_options.specs.Nops.{nopsOf, isPadding};
 
@@ -18,6 +18,9 @@ const NOP: u8 = 1;
 // Four NOPs as one number.
 const FOUR_NOPS: u32 = 16843009;
 
+// How many bytes of a long row of NOPs are looked at together.
+const BLOCK: usize = 32;
+
 // In strict reading eight NOPs at the front are padding, whatever stands behind them.
 pub fn is_padded(list: &[u8], strictness: Strictness) -> bool
     ensures { λ r. ⌜ r ≡ isPadding strictness (nopsOf (now (list .entry))) ⌝ }
@@ -33,9 +36,6 @@ fn starts_padded(list: &[u8]) -> bool
     ensures { λ r. ⌜ r ≡ isPadding Strictness.Strict (nopsOf (now (list .entry))) ⌝ }
 {
     if list.len() < PADDING {
-        return false;
-    }
-    if list[0] != NOP {
         return false;
     }
     if number_octets::get_u32_little(list, 0) != FOUR_NOPS {
@@ -56,12 +56,11 @@ pub fn leading_nops(list: &[u8]) -> usize
     nop_run(list)
 }
 
-// The same of a list with a NOP at its front, eight bytes at a step as long as they are NOPs.
+// The same of a list with a NOP at its front: whole blocks, then whole fours, then the bytes that are left, one by one.
 fn nop_run(list: &[u8]) -> usize
-    requires { ⌜ 0 < length (now list) ⌝ }
     ensures { λ r. ⌜ (r ≡ nopsOf (now (list .entry))) × (r ≤ length (now (list .entry))) ⌝ }
 {
-    let mut n = whole_eights(list);
+    let mut n = whole_fours(list);
     while n < list.len() {
         if list[n] != NOP {
             return n;
@@ -71,23 +70,51 @@ fn nop_run(list: &[u8]) -> usize
     n
 }
 
-// So many NOPs at least, in whole eights.
-fn whole_eights(list: &[u8]) -> usize
-    requires { ⌜ 0 < length (now list) ⌝ }
+// So many NOPs at least, in whole fours.
+fn whole_fours(list: &[u8]) -> usize
     ensures { λ r. ⌜ (r ≤ length (now (list .entry))) × (nopsOf (now (list .entry)) ≡ r + nopsOf (drop r (now (list .entry)))) ⌝ }
 {
-    if list[0] != NOP {
-        return 0;
-    }
-    let mut n = 0;
-    while 8 <= list.len() - n {
+    let mut n = whole_blocks(list);
+    while 4 <= list.len() - n {
         if number_octets::get_u32_little(list, n) != FOUR_NOPS {
             return n;
         }
-        if number_octets::get_u32_little(list, n + 4) != FOUR_NOPS {
-            return n;
-        }
-        n += 8;
+        n += 4;
     }
     n
+}
+
+// So many NOPs at least, in whole blocks. A short row costs no more than a look at the last byte of the first block.
+fn whole_blocks(list: &[u8]) -> usize
+    ensures { λ r. ⌜ (r ≤ length (now (list .entry))) × (nopsOf (now (list .entry)) ≡ r + nopsOf (drop r (now (list .entry)))) ⌝ }
+{
+    if list.len() < BLOCK {
+        return 0;
+    }
+    if list[BLOCK - 1] != NOP {
+        return 0;
+    }
+    let mut n = 0;
+    while BLOCK <= list.len() - n {
+        if block_difference(list, n) != 0 {
+            return n;
+        }
+        n += BLOCK;
+    }
+    n
+}
+
+// The bits in which a word of the block at `at` is not four NOPs. Nothing is tested before the block's end: so a compiler takes as many
+// words at a time as a register has room for.
+fn block_difference(list: &[u8], at: usize) -> u32
+    requires { ⌜ at + 32 ≤ length (now list) ⌝ }
+    ensures { λ r. ⌜ (r ≡ 0 → nopsOf (drop at (now (list .entry))) ≡ 32 + nopsOf (drop (at + 32) (now (list .entry)))) ⌝ }
+{
+    let mut different: u32 = 0;
+    let mut k: usize = 0;
+    while k < BLOCK / 4 {
+        different = different | (number_octets::get_u32_little(list, at + 4 * k) ^ FOUR_NOPS);
+        k += 1;
+    }
+    different
 }
