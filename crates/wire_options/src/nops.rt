@@ -19,7 +19,7 @@ const NOP: u8 = 1;
 const FOUR_NOPS: u32 = 16843009;
 
 // How many bytes of a long row of NOPs are looked at together.
-const BLOCK: usize = 64;
+const BLOCK: usize = 32;
 
 // In strict reading eight NOPs at the front are padding, whatever stands behind them.
 pub fn is_padded(list: &[u8], strictness: Strictness) -> bool
@@ -56,11 +56,11 @@ pub fn leading_nops(list: &[u8]) -> usize
     nop_run(list)
 }
 
-// The same of a list with a NOP at its front: whole blocks, then whole eights, then the bytes that are left, one by one.
+// The same of a list with a NOP at its front: whole blocks, then whole fours, then the bytes that are left, one by one.
 fn nop_run(list: &[u8]) -> usize
     ensures { λ r. ⌜ (r ≡ nopsOf (now (list .entry))) × (r ≤ length (now (list .entry))) ⌝ }
 {
-    let mut n = whole_eights(list);
+    let mut n = whole_fours(list);
     while n < list.len() {
         if list[n] != NOP {
             return n;
@@ -70,19 +70,16 @@ fn nop_run(list: &[u8]) -> usize
     n
 }
 
-// So many NOPs at least, in whole eights.
-fn whole_eights(list: &[u8]) -> usize
+// So many NOPs at least, in whole fours.
+fn whole_fours(list: &[u8]) -> usize
     ensures { λ r. ⌜ (r ≤ length (now (list .entry))) × (nopsOf (now (list .entry)) ≡ r + nopsOf (drop r (now (list .entry)))) ⌝ }
 {
     let mut n = whole_blocks(list);
-    while 8 <= list.len() - n {
+    while 4 <= list.len() - n {
         if number_octets::get_u32_little(list, n) != FOUR_NOPS {
             return n;
         }
-        if number_octets::get_u32_little(list, n + 4) != FOUR_NOPS {
-            return n;
-        }
-        n += 8;
+        n += 4;
     }
     n
 }
@@ -110,8 +107,8 @@ fn whole_blocks(list: &[u8]) -> usize
 // The bits in which a word of the block at `at` is not four NOPs. Nothing is tested before the block's end: so a compiler takes as many
 // words at a time as a register has room for.
 fn block_difference(list: &[u8], at: usize) -> u32
-    requires { ⌜ at + 64 ≤ length (now list) ⌝ }
-    ensures { λ r. ⌜ (r ≡ 0 → nopsOf (drop at (now (list .entry))) ≡ 64 + nopsOf (drop (at + 64) (now (list .entry)))) ⌝ }
+    requires { ⌜ at + 32 ≤ length (now list) ⌝ }
+    ensures { λ r. ⌜ (r ≡ 0 → nopsOf (drop at (now (list .entry))) ≡ 32 + nopsOf (drop (at + 32) (now (list .entry)))) ⌝ }
 {
     let mut different: u32 = 0;
     let mut k: usize = 0;

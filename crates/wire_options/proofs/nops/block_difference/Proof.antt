@@ -10,10 +10,10 @@ use Rattle.wire_options.proofs.nops.block_difference.Statement.{stateme
 use Rattle.wire_options.proofs.nops.block_difference.Tie as tie
 
 abbrev Inv-loop : tie.InvT-loop
-Inv-loop list at different₀ k₀ different k = (k ≤ 16) × (different ≡ 0 → nopsOf (drop at list) ≡ 4 * k + nopsOf (drop (at + 4 * k) list))
+Inv-loop list at different₀ k₀ different k = (k ≤ 8) × (different ≡ 0 → nopsOf (drop at list) ≡ 4 * k + nopsOf (drop (at + 4 * k) list))
 
 abbrev μ-loop : tie.MeasureT-loop
-μ-loop list at different₀ k₀ different k = 16 - k
+μ-loop list at different₀ k₀ different k = 8 - k
 
 loop-holds : tie.Need-loop-holds Inv-loop μ-loop
 loop-holds c =
@@ -59,7 +59,7 @@ returns : tie.Need-returns Inv-loop μ-loop
 returns c =
     let l = c .before in
     let a = l .before .before .args in
-    let all : l .loop .k ≡ 16 = omega arith in
+    let all : l .loop .k ≡ 8 = omega arith in
     λ e. l .loop .inv .1 e ∙ ap (λ (k : ℕ). 4 * k + nopsOf (drop (a .at + 4 * k) (a .list .now))) all
 
 pub block-difference-spec : {M : Type 1} → statement M

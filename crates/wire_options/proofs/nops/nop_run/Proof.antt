@@ -16,11 +16,11 @@ Inv-loop list n₀ n = (n ≤ length list) × (nopsOf list ≡ n + nopsOf (drop 
 abbrev μ-loop : tie.MeasureT-loop
 μ-loop list n₀ n = length list - n
 
-whole-eights-requires : tie.Need-whole-eights-requires Inv-loop μ-loop
-whole-eights-requires c κs = search needs
+whole-fours-requires : tie.Need-whole-fours-requires Inv-loop μ-loop
+whole-fours-requires c κs = search needs
 
 loop-holds : tie.Need-loop-holds Inv-loop μ-loop
-loop-holds c = c .whole-eights .ensures
+loop-holds c = c .whole-fours .ensures
 
 shared-slice-read-if1 : tie.Need-shared-slice-read-if1 Inv-loop μ-loop
 shared-slice-read-if1 c = omega arith
@@ -55,7 +55,7 @@ nop-run-spec =
     (tie.spec
     Inv-loop
     μ-loop
-    whole-eights-requires
+    whole-fours-requires
     loop-holds
     shared-slice-read-if1
     returns
