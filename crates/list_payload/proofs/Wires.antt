@@ -23,7 +23,6 @@ use Rattle.wire_options.specs.Strict.{strictFrom, walkBy}
 use Rattle.wire_options.specs.declared.step.Class.{Class}
 use Rattle.wire_options.specs.declared.step.Class.the-variants.{Fixed, Varying}
 use Rattle.wire_options.specs.declared.step.Header.the-variants.{Sound}
-use Rattle.wire_options.specs.declared.step.Step.{Step}
 use Rattle.wire_options.specs.declared.step.Step.the-variants.{Eol, Found}
 use Rattle.wire_options.specs.declared.walk.Fault.the-variants.{Tail}
 use Rattle.wire_options.proofs.Stricts.{walk-other, walk-found}

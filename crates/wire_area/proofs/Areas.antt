@@ -5,7 +5,7 @@ use mathlib.Core.Path.{_≡_, refl, sym, ap, _∙_}
 use mathlib.Core.Bool.{Bool, true, false, cond, _&&_}
 use mathlib.Core.List.{List}
 use mathlib.Core.Logic.{⊎-elim}
-use Prim.Native.Nat.{ℕ, _+_, _-_, _≤_, _<_}
+use Prim.Native.Nat.{ℕ, _+_, _-_, _≤_}
 use native.Mathlib.Omega.{arith}
 use borrow.Author.Tests.{leb-true}
 use lib.Dec.{eqb, leb}
@@ -19,7 +19,6 @@ use Rattle.wire_options.specs.Step.{stepOf}
 use Rattle.wire_options.specs.Walk.{Item, Walked, listed, faulty, walkFrom, optionLimit}
 use Rattle.wire_options.specs.Strict.{walkBy}
 use Rattle.wire_options.specs.declared.nops.Strictness.{Strictness}
-use Rattle.wire_options.specs.declared.nops.Strictness.the-variants.{Plain, Strict}
 use Rattle.wire_area.specs.Area.{
   AreaWalk,
   plain,
@@ -44,7 +43,7 @@ use Rattle.wire_area.specs.declared.Fragment.{Fragment}
 use Rattle.wire_area.specs.declared.Placed.{Placed}
 use Rattle.wire_area.specs.declared.Placed.the-variants.{Sound, Refused}
 use Rattle.wire_options.proofs.Steps.{step-found}
-use Rattle.wire_options.proofs.Stricts.{padded-or-plain, listed-plain}
+use Rattle.wire_options.proofs.Stricts.{listed-plain}
 
 -- ---- FRAG
 

@@ -1,7 +1,7 @@
 -- A fault that is neither malformed nor fragdata comes of a walk: of the whole list or, where FRAG leads it and there is no user data, of the options
 -- up to Frag. Start. No byte behind Frag. Start is looked at for it.
 -- Assumes nothing.
-use mathlib.Core.Path.{_≡_, refl, sym, ap, _∙_}
+use mathlib.Core.Path.{_≡_, refl, ap, _∙_}
 use mathlib.Core.Bool.{Bool, true, false, cond}
 use mathlib.Core.List.{List}
 use mathlib.Core.Logic.{_⊎_, inl, inr}
@@ -20,7 +20,7 @@ use Rattle.wire_options.specs.declared.step.Step.the-variants.{End, Eol, Nop, F
 use Rattle.wire_options.specs.declared.walk.Fault.{Fault}
 use Rattle.wire_options.specs.declared.walk.Fault.the-variants.{Malformed, FragData, Padded}
 use Rattle.wire_options.proofs.Runs.{run-padded}
-use Rattle.wire_area.specs.Area.{AreaWalk, fieldsOf, fragmentOf, fault, plainly, pieceWith, upToStart, behindFrag, ledBy, behindNops, areaOf}
+use Rattle.wire_area.specs.Area.{fieldsOf, fragmentOf, fault, plainly, pieceWith, upToStart, behindFrag, ledBy, behindNops, areaOf}
 use Rattle.wire_area.specs.declared.Fragment.{Fragment}
 use Rattle.wire_area.specs.declared.Placed.{Placed}
 use Rattle.wire_area.specs.declared.Placed.the-variants.{Sound, Refused}

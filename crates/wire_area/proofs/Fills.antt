@@ -1,7 +1,7 @@
 -- Of a piece, too, the fill is zero bytes (document 02, R-2): its options, from behind FRAG up to Frag. Start, are walked like any list, and a piece
 -- with a fault in them is none.
 -- Assumes nothing.
-use mathlib.Core.Path.{_≡_, refl, sym, _∙_}
+use mathlib.Core.Path.{_≡_, refl}
 use mathlib.Core.Bool.{Bool, true, false}
 use mathlib.Core.List.{List}
 use Prim.Native.Nat.{ℕ, _+_, _-_}

@@ -18,7 +18,7 @@ use Rattle.wire_options.specs.declared.step.Step.{Step}
 use Rattle.wire_options.specs.declared.step.Step.the-variants.{End, Eol, Nop, Found, Malformed as Unsound, Outlawed}
 use Rattle.wire_options.specs.declared.walk.Fault.the-variants.{Padded}
 use Rattle.wire_options.proofs.Stricts.{padded-or-plain}
-use Rattle.wire_area.specs.Area.{AreaWalk, fault, fieldsOf, fragmentOf, plainly, pieceWith, upToStart, behindFrag, ledBy, behindNops, areaOf}
+use Rattle.wire_area.specs.Area.{AreaWalk, fault, fieldsOf, fragmentOf, plainly, pieceWith, upToStart, behindFrag, ledBy, areaOf}
 use Rattle.wire_area.specs.declared.Placed.{Placed}
 use Rattle.wire_area.specs.declared.Placed.the-variants.{Sound, Refused}
 

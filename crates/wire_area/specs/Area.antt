@@ -1,9 +1,9 @@
 -- The walk over the option list of a surplus area, where FRAG may lead (document 01, "Walking the list"; RFC 9868 section 11.4).
 use mathlib.Core.Bool.{Bool, true, false, cond, _&&_}
-use mathlib.Core.List.{List, [], _∷_}
+use mathlib.Core.List.{List}
 use Prim.Native.Nat.{ℕ, _+_, _-_}
 use lib.Dec.{eqb, leb}
-use lib.ListN.{length, getD, take, drop}
+use lib.ListN.{length, getD, drop}
 use Rattle.number_octets.specs.Octets.{number, part}
 use Rattle.number_offsets.specs.Offsets.{udpHeader, placeOf}
 use Rattle.number_offsets.specs.declared.Origin.{Origin}

@@ -1,7 +1,6 @@
 -- A reading whose verdict is a fault of its list comes of an area's walk that came to that fault: every other end of a reading has another verdict.
 -- Assumes nothing.
 use mathlib.Core.Path.{_≡_, refl, sym, ap, _∙_}
-use mathlib.Core.Bool.{Bool}
 use mathlib.Core.List.{List}
 use mathlib.Core.Option.{Option, none, some}
 use Prim.Native.Nat.{ℕ, _+_}

@@ -1,19 +1,19 @@
 -- Where the strict walk comes to "padded" (document 02, R-6): at eight NOPs in a row, behind NOPs and sound options only. So no other fault is called
 -- padded, a fault in front is met first, and NOPs in bodies or behind EOL are not met.
 -- Assumes nothing.
-use mathlib.Core.Path.{_≡_, refl, sym, ap, ap₂, subst, _∙_}
+use mathlib.Core.Path.{_≡_, refl, sym, ap, subst, _∙_}
 use mathlib.Core.Bool.{Bool, true, false, cond}
 use mathlib.Core.List.{List, [], _∷_}
 use mathlib.Core.Logic.{_⊎_, inl, inr, ⊎-elim}
-use Prim.Native.Nat.{ℕ, zero, suc, _+_, _-_, _≤_, _<_}
+use Prim.Native.Nat.{ℕ, zero, suc, _+_, _-_, _≤_}
 use native.Mathlib.Omega.{arith}
 use borrow.Author.Tests.{eqb-true, eqb-false, ltb-true, ltb-false}
 use lib.Dec.{eqb, ltb}
 use lib.ListN.{length, drop}
 use Rattle.wire_options.specs.Kinds.{nop, frag}
 use Rattle.wire_options.specs.Step.{stepOf}
-use Rattle.wire_options.specs.Walk.{Item, Walked, listed, faulty, before, itemOf, sound, fillIsZero, walkAt}
-use Rattle.wire_options.specs.Nops.{nopLimit, nopsOf, isPadding}
+use Rattle.wire_options.specs.Walk.{Item, Walked, listed, faulty, before, itemOf, sound, fillIsZero}
+use Rattle.wire_options.specs.Nops.{nopLimit, nopsOf}
 use Rattle.wire_options.specs.Strict.{strictAt, strictFrom, walkBy}
 use Rattle.wire_options.specs.declared.nops.Strictness.{Strictness}
 use Rattle.wire_options.specs.declared.nops.Strictness.the-variants.{Plain, Strict}

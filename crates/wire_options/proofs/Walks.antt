@@ -13,7 +13,7 @@ use lib.Seq.{drop-drop}
 use Rattle.wire_options.specs.Kinds.{frag}
 use Rattle.wire_options.specs.Step.{stepOf}
 use Rattle.wire_options.specs.Progress.{roomProgress, nopProgress, progressIn, progressOf}
-use Rattle.wire_options.specs.Walk.{Item, Walked, listed, faulty, before, itemOf, sound, fillIsZero, walkAt, walkFrom, joined, apcOf, apcsOf, walkAnswer}
+use Rattle.wire_options.specs.Walk.{Item, Walked, listed, faulty, before, itemOf, sound, fillIsZero, walkFrom, joined, apcOf, apcsOf, walkAnswer}
 use Rattle.wire_options.specs.Nops.{nopsOf, isPadding}
 use Rattle.wire_options.specs.Strict.{strictFrom, walkBy}
 use Rattle.wire_options.specs.declared.nops.Strictness.{Strictness}

@@ -1,7 +1,7 @@
 -- Refusal 5 of a rereading has one cause, an unsafe option that the walk of the original's list meets. "tail" (document 02, R-2) and "padded" (R-6) have
 -- one each too, a tail or eight NOPs in a row that the walk comes to, and with either the user data is delivered.
 -- Assumes nothing.
-use mathlib.Core.Path.{_≡_, refl, sym, ap, subst, _∙_}
+use mathlib.Core.Path.{_≡_, refl, ap, _∙_}
 use mathlib.Core.Bool.{Bool, true, false}
 use mathlib.Core.List.{List, [], _∷_}
 use mathlib.Core.Option.{Option, none, some}

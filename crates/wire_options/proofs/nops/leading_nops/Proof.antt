@@ -1,7 +1,6 @@
 -- `wire_options::nops::leading_nops` meets its contract: a list without a NOP at its front has none there.
 -- Assumes nothing.
-use mathlib.Core.Path.{_≡_, sym}
-use Prim.Native.Nat.{_≤_}
+use mathlib.Core.Path.{sym}
 use native.Mathlib.Omega.{arith}
 use Rattle.wire_options.proofs.Runs.{nops-other, nops-none}
 use borrow.Author.Needs.{needs}
