@@ -1,4 +1,5 @@
--- The walk of a list that FRAG leads computes: EOL in a piece's options, up to Frag. Start, and NOPs in a row, before FRAG and behind it. The list stands at packet offset 10, behind the option
+-- The walk of a list that FRAG leads computes: EOL in a piece's options, up to Frag. Start, and NOPs in a row, before FRAG and behind it.
+-- The list stands at packet offset 10, behind the option
 -- checksum of a datagram without user data.
 -- Assumes nothing.
 use mathlib.Core.Path.{_≡_, refl}

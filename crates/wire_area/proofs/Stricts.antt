@@ -1,6 +1,6 @@
 -- Strict reading of an area's list (document 02, R-6): it comes to "padded", or to what plain reading comes to.
 -- Assumes nothing.
-use mathlib.Core.Path.{_≡_, refl, sym, ap, _∙_}
+use mathlib.Core.Path.{_≡_, refl, ap}
 use mathlib.Core.Bool.{Bool, true, false, cond}
 use mathlib.Core.List.{List}
 use mathlib.Core.Logic.{_⊎_, inl, inr, ⊎-elim}
@@ -53,8 +53,3 @@ module _ (how : Strictness) (empty : Bool) (base : ℕ) (l : List ℕ) where
       front true u = inl refl
       front false true = led-or-plain (nopsOf l) (stepOf (drop (nopsOf l) l))
       front false false = ⊎-elim (λ e. inl (ap plainly e)) (λ e. inr (ap plainly e)) (padded-or-plain how optionLimit l)
-
--- whatever else it comes to, plain reading comes to
-pub area-plainly : (how : Strictness) (empty : Bool) (base : ℕ) (l : List ℕ) (w : AreaWalk) → areaOf how empty base l ≡ w → (w ≡ fault Padded → ⊥)
-    → areaOf Plain empty base l ≡ w
-area-plainly how empty base l w e other = ⊎-elim (λ p. absurd (other (sym e ∙ p))) (λ p. sym p ∙ e) (area-or-plain how empty base l)

@@ -1,19 +1,17 @@
 -- Where the walk of an area's list comes to "tail" (document 02, R-2): the list has one, or, where FRAG leads it and there is no user data, the
 -- options up to Frag. Start have one.
 -- Assumes nothing.
-use mathlib.Core.Path.{_≡_, sym, _∙_}
+use mathlib.Core.Path.{_≡_}
 use mathlib.Core.Bool.{Bool, true}
 use mathlib.Core.List.{List}
 use mathlib.Core.Logic.{_⊎_, inl, inr, ⊎-elim}
 use Prim.Native.Nat.{ℕ, _+_, _-_}
 use native.Mathlib.Omega.{arith}
 use Rattle.wire_options.specs.Nops.{nopsOf}
-use Rattle.wire_options.specs.Walk.{faulty, optionLimit}
-use Rattle.wire_options.specs.Strict.{walkBy}
+use Rattle.wire_options.specs.Walk.{optionLimit}
 use Rattle.wire_options.specs.declared.nops.Strictness.{Strictness}
-use Rattle.wire_options.specs.declared.walk.Fault.the-variants.{Padded, Tail}
-use Rattle.wire_options.proofs.Stricts.{padded-or-plain}
-use Rattle.wire_options.proofs.Tails.{Tailed, tail-cause}
+use Rattle.wire_options.specs.declared.walk.Fault.the-variants.{Tail}
+use Rattle.wire_options.proofs.Tails.{Tailed, tailed-by}
 use Rattle.wire_area.specs.Area.{fault, upToStart, areaOf}
 use Rattle.wire_area.specs.declared.Fragment.{Fragment}
 use Rattle.wire_area.proofs.Areas.{Leads}
@@ -24,13 +22,6 @@ pub record PieceTail (base : ℕ) (l : List ℕ) : Type 0 where
   pub fragment : Fragment
   pub led : Leads base l fragment
   pub tailed : Tailed (optionLimit - 1) 0 (upToStart fragment base (nopsOf l + led .size) l)
-
-pub tailed-by : (how : Strictness) (room : ℕ) (l : List ℕ) → walkBy how room 0 l ≡ faulty Tail → Tailed room 0 l
-tailed-by how room l q =
-    ⊎-elim
-    (λ p. absurd (let both : faulty Padded ≡ faulty Tail = sym p ∙ q in let z : _≡_ {A = ℕ} 0 1 = cc in omega arith))
-    (λ p. tail-cause room l (sym p ∙ q))
-    (padded-or-plain how room l)
 
 pub area-tail : (how : Strictness) (empty : Bool) (base : ℕ) (l : List ℕ) → areaOf how empty base l ≡ fault Tail
     → (Tailed optionLimit 0 l) ⊎ ((empty ≡ true) × PieceTail base l)

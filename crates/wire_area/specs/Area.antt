@@ -114,7 +114,7 @@ areaAnswer (plain items fill) = Listed (length items) fill (apcsOf items)
 areaAnswer (piece f) = Piece f
 areaAnswer (fault f) = Faulty f
 
--- ---- what the answer of a plain walk becomes in the answer of an area's walk
+-- ---- what the answer of a list's walk becomes in the answer of an area's walk
 
 abbrev pub asPiece : Fragment → Walk → Area
 asPiece f (WalkListed count fill apcs) = Piece f

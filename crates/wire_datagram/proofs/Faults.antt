@@ -44,10 +44,15 @@ fault-named crowdedList = refl
 fault-named tailed = refl
 fault-named paddedList = refl
 
--- the list at packet offset `from` came to it
+-- where the option list of a payload starts: `at` bytes into the area behind L, behind pad and option checksum
+abbrev pub ListStarts : List ℕ → ℕ → Type 0
+ListStarts p at = startOf (isOdd (udpLength p)) (eqb (udpChecksum p) 0) (drop (udpLength p) p) ≡ ListAt at
+
+-- the walk of that list came to a fault
 pub record ListFaults (how : Strictness) (p : List ℕ) (x : Fault) : Type 0 where
-  pub from : ℕ
-  pub faults : areaOf how (noData (udpLength p)) from (drop from p) ≡ fault x
+  pub at : ℕ
+  pub starts : ListStarts p at
+  pub faults : areaOf how (noData (udpLength p)) (udpLength p + at) (drop (udpLength p + at) p) ≡ fault x
 
 module _ (how : Strictness) (p : List ℕ) (x : Fault) where
   walked-fault : (from : ℕ) (w : AreaWalk) → faultIn (walked p (udpLength p) from w .verdict) ≡ some x → w ≡ fault x
@@ -55,18 +60,21 @@ module _ (how : Strictness) (p : List ℕ) (x : Fault) where
   walked-fault from (piece f) v = absurd (let z : _≡_ {A = ℕ} 0 1 = cc in omega arith)
   walked-fault from (fault y) v = let same : some y ≡ some x = sym (fault-named y) ∙ v in cc
 
-  started-fault : (start : Start) → faultIn (started how p (udpLength p) start .verdict) ≡ some x → ListFaults how p x
-  started-fault Empty v = absurd (let z : _≡_ {A = ℕ} 0 1 = cc in omega arith)
-  started-fault shortArea v = absurd (let z : _≡_ {A = ℕ} 0 1 = cc in omega arith)
-  started-fault badPad v = absurd (let z : _≡_ {A = ℕ} 0 1 = cc in omega arith)
-  started-fault noSum v = absurd (let z : _≡_ {A = ℕ} 0 1 = cc in omega arith)
-  started-fault badSum v = absurd (let z : _≡_ {A = ℕ} 0 1 = cc in omega arith)
-  started-fault (ListAt at) v =
+  abbrev begins : Start
+  begins = startOf (isOdd (udpLength p)) (eqb (udpChecksum p) 0) (drop (udpLength p) p)
+
+  started-fault : (start : Start) → begins ≡ start → faultIn (started how p (udpLength p) start .verdict) ≡ some x → ListFaults how p x
+  started-fault Empty e v = absurd (let z : _≡_ {A = ℕ} 0 1 = cc in omega arith)
+  started-fault shortArea e v = absurd (let z : _≡_ {A = ℕ} 0 1 = cc in omega arith)
+  started-fault badPad e v = absurd (let z : _≡_ {A = ℕ} 0 1 = cc in omega arith)
+  started-fault noSum e v = absurd (let z : _≡_ {A = ℕ} 0 1 = cc in omega arith)
+  started-fault badSum e v = absurd (let z : _≡_ {A = ℕ} 0 1 = cc in omega arith)
+  started-fault (ListAt at) e v =
       let from : ℕ = udpLength p + at in
-      record { from = from; faults = walked-fault from (areaOf how (noData (udpLength p)) from (drop from p)) v }
+      record { at = at; starts = e; faults = walked-fault from (areaOf how (noData (udpLength p)) from (drop from p)) v }
 
   pub reading-fault : (s d : List ℕ) (r : Reading) → reading how p s d ≡ reads r → r .verdict ≡ verdictOf x → ListFaults how p x
   unfolding accepted
   reading-fault s d r e v =
-      started-fault (startOf (isOdd (udpLength p)) (eqb (udpChecksum p) 0) (drop (udpLength p) p))
+      started-fault begins refl
       (ap (λ (y : Reading). faultIn (y .verdict)) (met-none how p s d r e .1) ∙ ap faultIn v ∙ fault-named x)

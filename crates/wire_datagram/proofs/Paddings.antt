@@ -5,7 +5,7 @@ use mathlib.Core.Path.{_≡_}
 use mathlib.Core.Bool.{true}
 use mathlib.Core.List.{List}
 use mathlib.Core.Logic.{_⊎_}
-use Prim.Native.Nat.{ℕ}
+use Prim.Native.Nat.{ℕ, _+_}
 use native.Mathlib.Omega.{arith}
 use lib.ListN.{drop}
 use Rattle.wire_options.specs.Walk.{optionLimit}
@@ -17,19 +17,22 @@ use Rattle.wire_area.proofs.Paddings.{PiecePadding, area-padded}
 use Rattle.wire_datagram.specs.Reading.{noData, udpLength, reads, reading}
 use Rattle.wire_datagram.specs.declared.reading.Reading.{Reading}
 use Rattle.wire_datagram.specs.declared.reading.Verdict.the-variants.{Padded}
-use Rattle.wire_datagram.proofs.Faults.{reading-fault}
+use Rattle.wire_datagram.proofs.Faults.{ListStarts, reading-fault}
 
--- the walk of the list at packet offset `from`, or of a piece's options up to Frag. Start, comes to eight NOPs in a row
+-- the walk of the option list, `at` bytes behind L, or of a piece's options up to Frag. Start, comes to eight NOPs in a row
 pub record ReadPadding (p : List ℕ) : Type 0 where
-  pub from : ℕ
-  pub cause : (Padding optionLimit (drop from p)) ⊎ ((noData (udpLength p) ≡ true) × PiecePadding from (drop from p))
+  pub at : ℕ
+  pub starts : ListStarts p at
+  pub cause : (Padding optionLimit (drop (udpLength p + at) p))
+      ⊎ ((noData (udpLength p) ≡ true) × PiecePadding (udpLength p + at) (drop (udpLength p + at) p))
 
 pub reading-padded : (how : Strictness) (p s d : List ℕ) (r : Reading) → reading how p s d ≡ reads r → r .verdict ≡ Padded
     → (how ≡ Strict) × ReadPadding p
 reading-padded how p s d r e v =
     let f = reading-fault how p paddedList s d r e v in
-    let c = area-padded how (noData (udpLength p)) (f .from) (drop (f .from) p) (f .faults) in
-    (c .0, record { from = f .from; cause = c .1 })
+    let from : ℕ = udpLength p + f .at in
+    let c = area-padded how (noData (udpLength p)) from (drop from p) (f .faults) in
+    (c .0, record { at = f .at; starts = f .starts; cause = c .1 })
 
 pub plain-not-padded : (p s d : List ℕ) (r : Reading) → reading Plain p s d ≡ reads r → r .verdict ≡ Padded → ⊥
 plain-not-padded p s d r e v = let c : Plain ≡ Strict = reading-padded Plain p s d r e v .0 in let z : _≡_ {A = ℕ} 0 1 = cc in omega arith

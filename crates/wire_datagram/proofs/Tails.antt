@@ -4,7 +4,7 @@ use mathlib.Core.Path.{_≡_}
 use mathlib.Core.Bool.{true}
 use mathlib.Core.List.{List}
 use mathlib.Core.Logic.{_⊎_}
-use Prim.Native.Nat.{ℕ}
+use Prim.Native.Nat.{ℕ, _+_}
 use lib.ListN.{drop}
 use Rattle.wire_options.specs.Walk.{optionLimit}
 use Rattle.wire_options.specs.declared.nops.Strictness.{Strictness}
@@ -14,14 +14,17 @@ use Rattle.wire_area.proofs.Tails.{PieceTail, area-tail}
 use Rattle.wire_datagram.specs.Reading.{noData, udpLength, reads, reading}
 use Rattle.wire_datagram.specs.declared.reading.Reading.{Reading}
 use Rattle.wire_datagram.specs.declared.reading.Verdict.the-variants.{Tail}
-use Rattle.wire_datagram.proofs.Faults.{reading-fault}
+use Rattle.wire_datagram.proofs.Faults.{ListStarts, reading-fault}
 
--- the list at packet offset `from` has a tail, or a piece's options up to Frag. Start have one
+-- the option list, `at` bytes behind L, has a tail, or a piece's options up to Frag. Start have one
 pub record ReadTail (p : List ℕ) : Type 0 where
-  pub from : ℕ
-  pub cause : (Tailed optionLimit 0 (drop from p)) ⊎ ((noData (udpLength p) ≡ true) × PieceTail from (drop from p))
+  pub at : ℕ
+  pub starts : ListStarts p at
+  pub cause : (Tailed optionLimit 0 (drop (udpLength p + at) p))
+      ⊎ ((noData (udpLength p) ≡ true) × PieceTail (udpLength p + at) (drop (udpLength p + at) p))
 
 pub reading-tail : (how : Strictness) (p s d : List ℕ) (r : Reading) → reading how p s d ≡ reads r → r .verdict ≡ Tail → ReadTail p
 reading-tail how p s d r e v =
     let f = reading-fault how p tailed s d r e v in
-    record { from = f .from; cause = area-tail how (noData (udpLength p)) (f .from) (drop (f .from) p) (f .faults) }
+    let from : ℕ = udpLength p + f .at in
+    record { at = f .at; starts = f .starts; cause = area-tail how (noData (udpLength p)) from (drop from p) (f .faults) }

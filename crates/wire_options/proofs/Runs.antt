@@ -1,4 +1,4 @@
--- NOPs in a row: they are counted byte by byte or four at once, and the walk passes all of them together (document 02, R-6).
+-- NOPs in a row: they are counted byte by byte, four or 32 at once, and the walk passes all of them together (document 02, R-6).
 -- Assumes nothing.
 use mathlib.Core.Path.{_≡_, refl, sym, ap, _∙_}
 use mathlib.Core.Bool.{Bool, true, false, cond}
@@ -96,7 +96,7 @@ none-different bits word e =
       omega (arith, none, xor-add-and word 16843009, and-le-l word 16843009, and-le-r word 16843009),
     )
 
--- NOPs are four NOPs as one number
+-- NOPs at the front are NOP bytes, and four of them are this number
 nops-are : (l : List ℕ) (i : ℕ) → i < nopsOf l → getD l i 0 ≡ nop
 unfolding nopsOf
 nops-are [] i h = absurd (omega arith)

@@ -43,22 +43,22 @@ by-skip Strict room skip l = strict-skip 0 room skip l
 -- ---- by the step at the front
 
 -- the step is no NOP
-abbrev pub Counts : Step → Type 0
-Counts Nop = ⊥
-Counts End = Unit {0}
-Counts Eol = Unit {0}
-Counts (Found kind header size) = Unit {0}
-Counts Unsound = Unit {0}
-Counts Outlawed = Unit {0}
+abbrev pub NoNop : Step → Type 0
+NoNop Nop = ⊥
+NoNop End = Unit {0}
+NoNop Eol = Unit {0}
+NoNop (Found kind header size) = Unit {0}
+NoNop Unsound = Unit {0}
+NoNop Outlawed = Unit {0}
 
 -- then it does not matter how many NOPs stand before it
-strict-other : (nops room b : ℕ) (bs : List ℕ) (step : Step) → stepOf (b ∷ bs) ≡ step → Counts step
+strict-other : (nops room b : ℕ) (bs : List ℕ) (step : Step) → stepOf (b ∷ bs) ≡ step → NoNop step
     → strictFrom nops room 0 (b ∷ bs) ≡ walkAt room (b ∷ bs) step (λ left skip. strictFrom 0 left skip bs)
 unfolding strictFrom
 strict-other nops room b bs step e h =
     ap (λ (s : Step). strictAt nops room (b ∷ bs) s (λ n left skip. strictFrom n left skip bs)) e ∙ go step h
   where
-    go : (step : Step) → Counts step
+    go : (step : Step) → NoNop step
         → strictAt nops room (b ∷ bs) step (λ n left skip. strictFrom n left skip bs) ≡ walkAt room (b ∷ bs) step (λ left skip. strictFrom 0 left skip bs)
     go Nop h = absurd h
     go End h = refl
@@ -67,7 +67,7 @@ strict-other nops room b bs step e h =
     go Unsound h = refl
     go Outlawed h = refl
 
-pub walk-other : (s : Strictness) (room b : ℕ) (bs : List ℕ) (step : Step) → stepOf (b ∷ bs) ≡ step → Counts step
+pub walk-other : (s : Strictness) (room b : ℕ) (bs : List ℕ) (step : Step) → stepOf (b ∷ bs) ≡ step → NoNop step
     → walkBy s room 0 (b ∷ bs) ≡ walkAt room (b ∷ bs) step (λ left skip. walkBy s left skip bs)
 unfolding walkFrom
 walk-other Plain room b bs step e h = ap (λ (x : Step). walkAt room (b ∷ bs) x (λ left skip. walkFrom left skip bs)) e

@@ -4,6 +4,7 @@
 use mathlib.Core.Path.{_≡_, refl, sym, ap, _∙_}
 use mathlib.Core.Bool.{Bool, true, false, cond, _&&_}
 use mathlib.Core.List.{List, [], _∷_, _++_}
+use mathlib.Core.Logic.{⊎-elim}
 use Prim.Native.Nat.{ℕ, zero, suc, _+_, _-_, _≤_}
 use native.Mathlib.Omega.{arith}
 use lib.Dec.{eqb}
@@ -14,10 +15,13 @@ use Rattle.number_octets.proofs.ZeroBytes.{zero-alike}
 use Rattle.wire_options.specs.Kinds.{classOf, eol, frag}
 use Rattle.wire_options.specs.Step.{stepOf}
 use Rattle.wire_options.specs.Walk.{Item, Walked, listed, faulty, before, itemOf, sound, walkAt, walkFrom}
+use Rattle.wire_options.specs.Strict.{walkBy}
+use Rattle.wire_options.specs.declared.nops.Strictness.{Strictness}
 use Rattle.wire_options.specs.declared.step.Step.{Step}
 use Rattle.wire_options.specs.declared.step.Step.the-variants.{End, Eol, Nop, Found, Malformed as Unsound, Outlawed}
-use Rattle.wire_options.specs.declared.walk.Fault.the-variants.{Malformed, Tail}
+use Rattle.wire_options.specs.declared.walk.Fault.the-variants.{Malformed, Tail, Padded}
 use Rattle.wire_options.proofs.Steps.{step-found, eol-byte}
+use Rattle.wire_options.proofs.Stricts.{padded-or-plain}
 use Rattle.wire_options.proofs.Locality.{behind-eol, nop-local, step-local}
 
 -- an EOL that the walk comes to, with a byte behind it that is not zero
@@ -154,3 +158,11 @@ tail-met room l t =
     ap (walkFrom room 0) (t .splits)
     ∙ behind-eol room (t .front) zeros (t .tail) (t .items) size (t .walks ∙ ap (λ (n : ℕ). listed (t .items) (suc n)) (sym size))
     ∙ simp (t .set)
+
+-- the same of strict reading: what is called "tail" there has that cause too
+pub tailed-by : (how : Strictness) (room : ℕ) (l : List ℕ) → walkBy how room 0 l ≡ faulty Tail → Tailed room 0 l
+tailed-by how room l q =
+    ⊎-elim
+    (λ p. absurd (let both : faulty Padded ≡ faulty Tail = sym p ∙ q in let z : _≡_ {A = ℕ} 0 1 = cc in omega arith))
+    (λ p. tail-cause room l (sym p ∙ q))
+    (padded-or-plain how room l)

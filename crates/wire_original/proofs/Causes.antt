@@ -18,6 +18,7 @@ use Rattle.wire_options.specs.declared.nops.Strictness.the-variants.{Strict}
 use Rattle.wire_options.specs.declared.walk.Fault.{Fault}
 use Rattle.wire_options.specs.declared.walk.Fault.the-variants.{Malformed as malformedList, Unsafe as unsafeList, FragData as fragData, Crowded as crowdedList, Tail as tailed, Padded as paddedList}
 use Rattle.wire_options.proofs.Paddings.{Padding, padded-cause}
+use Rattle.wire_options.proofs.Tails.{Tailed, tailed-by}
 use Rattle.wire_surplus.specs.Surplus.{startOf}
 use Rattle.wire_surplus.specs.declared.Start.{Start}
 use Rattle.wire_surplus.specs.declared.Start.the-variants.{Empty, Short as shortArea, Pad as badPad, Unsummed as noSum, BadSum as badSum, List as ListAt}
@@ -34,6 +35,12 @@ pub record ListWalks (how : Strictness) (original : List ℕ) (r : ℕ) (w : Wal
   pub at : ℕ
   pub starts : startOf (isOdd (udpHeader + r)) true (drop r original) ≡ ListAt at
   pub walks : walkBy how optionLimit 0 (drop (r + at) original) ≡ w
+
+-- the same list, and what stands in it
+pub record InList (original : List ℕ) (r : ℕ) (P : List ℕ → Type 0) : Type 0 where
+  pub at : ℕ
+  pub starts : startOf (isOdd (udpHeader + r)) true (drop r original) ≡ ListAt at
+  pub holds : P (drop (r + at) original)
 
 -- the fault that an answer names
 abbrev faultsIn : ReAnswer → Option Fault
@@ -123,13 +130,16 @@ module _ (how : Strictness) (original : List ℕ) (r : ℕ) where
       go none q = started-fault x start refl q
       go (some n) q = absurd (let z : _≡_ {A = ℕ} 0 1 = cc in omega arith)
 
-  pub rereading-tail : (x : Rereading) → rereading how original r ≡ rereads x → x .verdict ≡ Tail → ListWalks how original r (faulty tailed)
-  rereading-tail x e v = rereading-fault tailed x e v
+  -- "tail" comes of a tail in the original's list
+  pub rereading-tail : (x : Rereading) → rereading how original r ≡ rereads x → x .verdict ≡ Tail → InList original r (Tailed optionLimit 0)
+  rereading-tail x e v =
+      let l = rereading-fault tailed x e v in
+      record { at = l .at; starts = l .starts; holds = tailed-by how optionLimit (drop (r + l .at) original) (l .walks) }
 
-  -- "padded" comes of strict reading, and of eight NOPs in a row
+  -- "padded" comes of strict reading, and of eight NOPs in a row that the walk of the original's list comes to
   pub rereading-padded : (x : Rereading) → rereading how original r ≡ rereads x → x .verdict ≡ Padded
-      → (how ≡ Strict) × ((at : ℕ) × Padding optionLimit (drop (r + at) original))
+      → (how ≡ Strict) × InList original r (Padding optionLimit)
   rereading-padded x e v =
       let l = rereading-fault paddedList x e v in
       let c = padded-cause how optionLimit (drop (r + l .at) original) (l .walks) in
-      (c .0, (l .at, c .1))
+      (c .0, record { at = l .at; starts = l .starts; holds = c .1 })
