@@ -63,7 +63,7 @@ enum {
     WURAKETOZO_READ = 9,
     WURAKETOZO_PIECE = 10,
     WURAKETOZO_TAIL = 11,  /* a byte behind EOL is not zero, up to the end or, in a fragment's list, up to its part */
-    WURAKETOZO_PADDED = 12 /* in strict reading only: eight NOPs in a row. Led by a fragment's option it is no fragment then */
+    WURAKETOZO_PADDED = 12 /* in strict reading only: eight NOPs in a row. A datagram that a fragment's option leads is no fragment then */
 };
 
 /* How NOPs are read: `strictness`, which the host chooses for each call that reads. PLAIN (0) skips any number of them. With STRICT, or

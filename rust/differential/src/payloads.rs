@@ -651,9 +651,9 @@ pub fn fills(random: &mut Random, counts: &mut Counts) -> Result<u64, String> {
     Ok(fills)
 }
 
-/// Every run of up to 140 NOPs, in front or behind an option of 2 to 9 bytes,
-/// which ends in a byte that differs from NOP in one bit, each in turn. Counts
-/// the runs.
+/// Every run of up to 140 NOPs, at the front of the list or behind an option of
+/// 2 to 9 bytes; the byte behind the run differs from NOP in one bit, each bit in
+/// turn. Counts the runs.
 pub fn long_runs(random: &mut Random, counts: &mut Counts) -> Result<u64, String> {
     let mut runs = 0;
     for count in 0..=140 {
