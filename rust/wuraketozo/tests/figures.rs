@@ -118,23 +118,29 @@ fn tails() {
     let payload = [
         0, 1, 0, 2, 0, 10, 0, 0, b'o', b'k', 0, 0, 6, 6, 0, 0, 1, 0x2C, 0, 0, 5,
     ];
-    let plain = Strictness::default();
-    let reading = read(&payload, FLOW.source, FLOW.destination, plain).unwrap();
-    assert_eq!(reading.user_data(&payload), b"ok");
-    assert_eq!(reading.verdict, Verdict::Tail);
+    delivers_alone(&payload, Strictness::Plain, Verdict::Tail);
+}
+
+/// A payload with L = 10 whose two bytes of user data are delivered with a
+/// fault, and as an original too: nothing is reported, and no option is listed.
+fn delivers_alone(payload: &[u8], strictness: Strictness, verdict: Verdict) {
+    let reading = read(payload, FLOW.source, FLOW.destination, strictness).unwrap();
+    assert_eq!(reading.user_data(payload), b"ok");
+    assert_eq!(reading.verdict, verdict);
     assert_eq!(reading.options, 0..0);
     assert_eq!((reading.count, reading.fill), (0, 0));
     assert_eq!(reading.apc, Apc::None);
     let mut buffer = [0xEE; 8];
-    let listing = list(&payload, &reading, &mut buffer).unwrap();
+    let listing = list(payload, &reading, &mut buffer).unwrap();
     assert_eq!((listing.size, listing.fill, buffer[0]), (1, 0, 0));
     // The same as an original: delivered, and no refusal.
     let original = &payload[8..];
-    let rereading = reread(original, Place(2), plain).unwrap();
+    let rereading = reread(original, Place(2), strictness).unwrap();
     assert_eq!(rereading.user_data(original), b"ok");
-    assert_eq!(rereading.verdict, Verdict::Tail);
+    assert_eq!(rereading.verdict, verdict);
     assert_eq!(rereading.options, Place(0)..Place(0));
     assert_eq!((rereading.count, rereading.fill), (0, 0));
+    let mut buffer = [0xEE; 8];
     let listing = relist(original, &rereading, &mut buffer).unwrap();
     assert_eq!((listing.size, listing.fill, buffer[0]), (1, 0, 0));
 }
@@ -180,26 +186,10 @@ fn padded_reports_nothing() {
     // User data and REQ 300, then eight NOPs.
     let mut payload = vec![0, 1, 0, 2, 0, 10, 0, 0, b'o', b'k', 0, 0];
     payload.extend([6, 6, 0, 0, 1, 0x2C, 1, 1, 1, 1, 1, 1, 1, 1]);
-    let strict = Strictness::Strict;
-    let reading = read(&payload, FLOW.source, FLOW.destination, strict).unwrap();
-    assert_eq!(reading.user_data(&payload), b"ok");
-    assert_eq!(reading.verdict, Verdict::Padded);
-    assert_eq!(reading.options, 0..0);
-    assert_eq!((reading.count, reading.fill), (0, 0));
-    assert_eq!(reading.apc, Apc::None);
-    let mut buffer = [0xEE; 8];
-    let listing = list(&payload, &reading, &mut buffer).unwrap();
-    assert_eq!((listing.size, listing.fill, buffer[0]), (1, 0, 0));
-    // The same as an original: delivered, and no refusal.
-    let original = &payload[8..];
-    let rereading = reread(original, Place(2), strict).unwrap();
-    assert_eq!(rereading.user_data(original), b"ok");
-    assert_eq!(rereading.verdict, Verdict::Padded);
-    assert_eq!(rereading.options, Place(0)..Place(0));
-    assert_eq!((rereading.count, rereading.fill), (0, 0));
-    let listing = relist(original, &rereading, &mut buffer).unwrap();
-    assert_eq!((listing.size, listing.fill, buffer[0]), (1, 0, 0));
+    delivers_alone(&payload, Strictness::Strict, Verdict::Padded);
     // Plain reading reads and lists it.
+    let original = &payload[8..];
+    let mut buffer = [0xEE; 8];
     let rereading = reread(original, Place(2), Strictness::Plain).unwrap();
     assert_eq!(rereading.verdict, Verdict::Read);
     let listing = relist(original, &rereading, &mut buffer).unwrap();
