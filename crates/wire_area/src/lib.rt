@@ -168,7 +168,7 @@ fn at_places(fields: Fields, end: PacketOffset, place: Origin, option_start: Ori
     })
 }
 
-// What is behind FRAG, which ends `behind` bytes into the list.
+// What is behind FRAG, which ends `behind` bytes into the list. Mostly that is nothing, and no walk is started.
 fn behind_frag(
     list: &[u8],
     base: PacketOffset,
@@ -190,6 +190,9 @@ fn behind_frag(
             }
             let start = fragment.start;
             let end = start.0 - origin;
+            if end == behind {
+                return Area::Piece(fragment);
+            }
             as_piece(
                 fragment,
                 walk::walk_list(&list[behind..end], walk::OPTION_LIMIT - 1, strictness),

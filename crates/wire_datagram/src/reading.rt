@@ -10,8 +10,9 @@ use wire_options::walk::Apcs;
 use wire_options::walk::Fault;
 use wire_surplus::Start;
 ghost use mathlib.Core.Path.{_≡_};
-ghost use Prim.Native.Nat.{_≤_};
+ghost use Prim.Native.Nat.{_-_, _≤_};
 ghost use lib.ListN.{length, drop};
+ghost use Rattle.number_octets.specs.Octets.{part};
 ghost use Rattle.number_offsets.specs.Offsets.{udpHeader};
 ghost use Rattle.wire_area.specs.Area.{areaOf};
 ghost use Rattle.wire_surplus.specs.Surplus.{startOf};
@@ -146,11 +147,14 @@ pub fn pseudo_sum(source: [u8; 4], destination: [u8; 4], size: usize) -> u64
     addresses + UDP + size as u64
 }
 
-// The reading of a payload that no refusal meets. `unused`: the UDP checksum is zero.
+// The reading of a payload that no refusal meets. `unused`: the UDP checksum is zero. Most payloads have no surplus area, and none is started.
 fn accept(payload: &[u8], size: usize, unused: bool, strictness: Strictness) -> Reading
     requires { ⌜ (udpHeader ≤ size) × (size ≤ length (now payload)) × (length (now payload) ≤ payloadLimit) ⌝ }
     ensures { λ r. ⌜ r ≡ started strictness (now (payload .entry)) size (startOf (isOdd size) unused (drop size (now (payload .entry)))) ⌝ }
 {
+    if payload.len() == size {
+        return optionless(size, Verdict::Bare);
+    }
     let start = wire_surplus::start_of(&payload[size..], size % 2 == 1, unused);
     match start {
         Start::Empty => optionless(size, Verdict::Bare),
@@ -182,21 +186,22 @@ fn listed(payload: &[u8], size: usize, from: PacketOffset, strictness: Strictnes
             },
             count,
             fill,
-            apc: apc_of(&payload[UDP_HEADER..size], apcs),
+            apc: apc_of(payload, UDP_HEADER, size, apcs),
         },
         Area::Piece(fragment) => optionless(size, Verdict::Piece(fragment)),
         Area::Faulty(fault) => optionless(size, verdict_of(fault)),
     }
 }
 
-// A CRC is computed only where an APC asks for it.
-pub fn apc_of(user: &[u8], apcs: Apcs) -> Apc
-    ensures { λ r. ⌜ r ≡ apcBy (now (user .entry)) apcs ⌝ }
+// What the APCs say of the user data, which stands at `from` to `to` of `bytes`. A CRC is computed only where an APC asks for it.
+pub fn apc_of(bytes: &[u8], from: usize, to: usize, apcs: Apcs) -> Apc
+    requires { ⌜ (from ≤ to) × (to ≤ length (now bytes)) ⌝ }
+    ensures { λ r. ⌜ r ≡ apcBy (part from (to - from) (now (bytes .entry))) apcs ⌝ }
 {
     match apcs {
         Apcs::Absent => Apc::Absent,
         Apcs::Same(value) => {
-            if value == number_crc32c::crc32c(user) {
+            if value == number_crc32c::crc32c(&bytes[from..to]) {
                 return Apc::Right;
             }
             Apc::Wrong

@@ -38,6 +38,11 @@ joined-absent Absent = refl
 joined-absent (Same v) = refl
 joined-absent Different = refl
 
+pub joined-different : (a : Apcs) → joined a Different ≡ Different
+joined-different Absent = refl
+joined-different (Same v) = refl
+joined-different Different = refl
+
 same-left : (v w : ℕ) (c : Apcs) → v ≡ w → joined (Same v) (joined (Same w) c) ≡ joined (Same v) c
 same-left v w Absent e = simp (eq-eqb v w e)
 same-left v w Different e = refl

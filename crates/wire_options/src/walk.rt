@@ -154,23 +154,23 @@ fn on(room: usize, size: usize, apcs: Apcs) -> Progress
     Progress::On { room, size, apcs }
 }
 
-// The APCs of two parts of a list taken together.
+// The APCs of two parts of a list taken together. Most steps of a walk add none, so that is looked at first.
 fn join(a: Apcs, b: Apcs) -> Apcs
     ensures { λ r. ⌜ r ≡ joined a b ⌝ }
 {
-    match a {
-        Apcs::Absent => b,
-        Apcs::Same(v) => join_value(v, b),
+    match b {
+        Apcs::Absent => a,
+        Apcs::Same(w) => join_value(a, w),
         Apcs::Different => Apcs::Different,
     }
 }
 
-fn join_value(v: u32, b: Apcs) -> Apcs
-    ensures { λ r. ⌜ r ≡ joined (Apcs.Same v) b ⌝ }
+fn join_value(a: Apcs, w: u32) -> Apcs
+    ensures { λ r. ⌜ r ≡ joined a (Apcs.Same w) ⌝ }
 {
-    match b {
-        Apcs::Absent => Apcs::Same(v),
-        Apcs::Same(w) => {
+    match a {
+        Apcs::Absent => Apcs::Same(w),
+        Apcs::Same(v) => {
             if v == w {
                 return Apcs::Same(v);
             }

@@ -99,7 +99,7 @@ fn relisted(
             },
             count,
             fill,
-            apc: reading::apc_of(&original[..user_end], apcs),
+            apc: reading::apc_of(original, 0, user_end, apcs),
         }),
         Walk::Faulty(fault) => faulty(r, fault),
     }

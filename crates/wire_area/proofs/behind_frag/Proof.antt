@@ -1,15 +1,16 @@
 -- `wire_area::behind_frag` meets its contract: the arm knows what FRAG's tests came to, at which `behindFrag` computes.
 -- Assumes nothing.
 use mathlib.Core.Path.{_≡_, refl, sym, ap, ap₂, _∙_}
-use mathlib.Core.Bool.{Bool}
-use mathlib.Core.List.{List}
+use mathlib.Core.Bool.{Bool, false, not}
+use mathlib.Core.List.{List, []}
 use Prim.Native.Nat.{ℕ, _+_, _-_, _≤_}
 use native.Mathlib.Omega.{arith}
 use lib.ListN.{length}
 use Rattle.number_octets.specs.Octets.{part}
-use Rattle.wire_area.specs.Area.{behindFrag, areaAnswer, pieceWith, asPiece}
+use Rattle.wire_area.specs.Area.{fragmentOf, upToStart, behindFrag, areaAnswer, pieceWith, asPiece}
 use Rattle.wire_options.specs.Walk.{Walked, walkAnswer, optionLimit, listed, faulty}
 use Rattle.wire_options.specs.Strict.{walkBy}
+use Rattle.wire_options.proofs.Walks.{answer-none}
 use Rattle.wire_area.specs.declared.Fragment.{Fragment}
 use Rattle.wire_area.specs.declared.Placed.{Placed}
 use Rattle.wire_area.proofs.Areas.{fragment-within}
@@ -31,6 +32,16 @@ bounds c =
     (sym (c .before .before .fragment-of .ensures) ∙ c .found .given .1) in
     (w .0, w .1)
 
+-- what the definition says of a fragment that passes its tests, where there is no user data
+sound-answer : (c : tie.After-found) → let a = c .before .before .before .before .args in let f : Fragment = c .found .given .0 .0 in
+    not (a .empty) ≡ false
+    → areaAnswer (pieceWith f (walkBy (a .strictness) (optionLimit - 1) 0 (upToStart f (a .base .0) (a .behind) (a .list .now))))
+    ≡ areaAnswer (behindFrag (a .strictness) (a .empty) (a .list .now) (a .base .0) (a .behind) (fragmentOf (a .fields) (a .base .0) (a .behind) (length (a .list .now))))
+sound-answer c h =
+    let a = c .before .before .before .before .args in
+    ap₂ (λ (e : Bool) (p : Placed). areaAnswer (behindFrag (a .strictness) e (a .list .now) (a .base .0) (a .behind) p)) (sym (not-false _ h))
+    (sym (sym (c .before .before .fragment-of .ensures) ∙ c .found .given .1))
+
 fragment-of-requires : tie.Need-fragment-of-requires
 fragment-of-requires c κs = search needs
 
@@ -50,13 +61,13 @@ sub-end : tie.Need-sub-end
 sub-end c = omega (arith, bounds (c .before .before .before .before))
 
 sub-walk-list : tie.Need-sub-walk-list
-sub-walk-list c = omega (arith, bounds (c .before .before .before .before))
+sub-walk-list c = omega (arith, bounds (c .before .before .before .before .before))
 
 part-walk-list-start : tie.Need-part-walk-list-start
-part-walk-list-start c = omega (arith, bounds (c .before .before .before .before))
+part-walk-list-start c = omega (arith, bounds (c .before .before .before .before .before))
 
 part-walk-list-end : tie.Need-part-walk-list-end
-part-walk-list-end c = omega (arith, bounds (c .before .before .before .before))
+part-walk-list-end c = omega (arith, bounds (c .before .before .before .before .before))
 
 sub-walk-list-2 : tie.Need-sub-walk-list-2
 sub-walk-list-2 c = search needs
@@ -67,26 +78,38 @@ walk-list-requires c κs = search needs
 as-piece-requires : tie.Need-as-piece-requires
 as-piece-requires c κs = search needs
 
+-- where nothing stands between FRAG and Frag. Start
 returns-2 : tie.Need-returns-2
+unfolding optionLimit
 returns-2 c =
+    let place = c .before .before .before .before .before in
+    let a = place .before .before .before .before .args in
+    let f : Fragment = place .found .given .0 .0 in
+    let l : List ℕ = a .list .now in
+    let none : 0 ≡ f .start .0 - (a .base .0 + a .behind) = omega (arith, bounds place) in
+    sym (ap (asPiece f) (answer-none (a .strictness) (optionLimit - 1) 0))
+    ∙ piece-answer f (walkBy (a .strictness) (optionLimit - 1) 0 [])
+    ∙ ap (λ (n : ℕ). areaAnswer (pieceWith f (walkBy (a .strictness) (optionLimit - 1) 0 (part (a .behind) n l)))) none
+    ∙ sound-answer place (c .before .before .before .if1 .left)
+
+returns-3 : tie.Need-returns-3
+returns-3 c =
     let a = c .before .before .before .before .args in
     ap (λ (p : Placed). areaAnswer (behindFrag (a .strictness) (a .empty) (a .list .now) (a .base .0) (a .behind) p))
     (sym (sym (c .before .before .fragment-of .ensures) ∙ c .enum-told .given .1))
 
-returns-3 : tie.Need-returns-3
+returns-4 : tie.Need-returns-4
 unfolding optionLimit
-returns-3 c =
-    let a = c .before .before .before .before .before .before .before .before .before .before .before .args in
-    let place = c .before .before .before .before .before .before .before in
+returns-4 c =
+    let place = c .before .before .before .before .before .before .before .before in
+    let a = place .before .before .before .before .args in
     let f : Fragment = place .found .given .0 .0 in
     let l : List ℕ = a .list .now in
     let middle : f .start .0 - a .base .0 - a .behind ≡ f .start .0 - (a .base .0 + a .behind) = omega arith in
     c .as-piece .ensures ∙ ap (asPiece f) (c .before .walk-list .ensures)
     ∙ piece-answer f (walkBy (a .strictness) (optionLimit - 1) 0 (part (a .behind) (f .start .0 - a .base .0 - a .behind) l))
     ∙ ap (λ (n : ℕ). areaAnswer (pieceWith f (walkBy (a .strictness) (optionLimit - 1) 0 (part (a .behind) n l)))) middle
-    ∙ ap₂ (λ (e : Bool) (p : Placed). areaAnswer (behindFrag (a .strictness) e l (a .base .0) (a .behind) p))
-    (sym (not-false _ (c .before .before .before .before .before .if1 .left)))
-    (sym (sym (place .before .before .fragment-of .ensures) ∙ place .found .given .1))
+    ∙ sound-answer place (c .before .before .before .before .before .before .if1 .left)
 
 pub behind-frag-spec : {M : Type 1} → statement M
 behind-frag-spec =
@@ -97,11 +120,12 @@ behind-frag-spec =
     enum-known-found
     returns
     sub-end
+    returns-2
     sub-walk-list
     part-walk-list-start
     part-walk-list-end
     sub-walk-list-2
     walk-list-requires
     as-piece-requires
-    returns-2
-    returns-3)
+    returns-3
+    returns-4)

@@ -2,15 +2,17 @@
 -- Assumes nothing.
 use mathlib.Core.Path.{_≡_, refl, sym, ap, _∙_}
 use mathlib.Core.List.{List}
-use Prim.Native.Nat.{ℕ}
+use Prim.Native.Nat.{ℕ, _-_}
 use native.Mathlib.Omega.{arith}
-use lib.ListN.{length, drop, length-take}
+use lib.ListN.{length, drop}
+use Rattle.number_octets.specs.Octets.{part}
 use Rattle.number_octets.proofs.Laws.{part-rest}
 use Rattle.wire_options.specs.Walk.{optionLimit, walkAnswer}
 use Rattle.wire_options.specs.Strict.{walkBy}
 use Rattle.wire_options.specs.declared.walk.Walk.the-variants.{Listed as WalkListed}
 use Rattle.wire_original.specs.Rereading.{places, rereads}
 use Rattle.wire_original.specs.ByWalk.{rewalkedBy}
+use Rattle.wire_datagram.specs.ByWalk.{apcBy}
 use Rattle.wire_datagram.specs.declared.reading.Verdict.the-variants.{Read}
 use Rattle.wire_original.proofs.Rereadings.{rereading-by-answer}
 use borrow.Author.Needs.{needs}
@@ -40,11 +42,8 @@ walk-list-requires c κs = search needs
 enum-known-list : tie.Need-enum-known-list
 enum-known-list c = search needs
 
-slice-aggregate-apc-of : tie.Need-slice-aggregate-apc-of
-slice-aggregate-apc-of c = simp length-take (omega (arith, c .before .before .before .before .before .before .before .pre))
-
 apc-of-requires : tie.Need-apc-of-requires
-apc-of-requires c κs = search needs
+apc-of-requires c κs = omega (arith, c .before .before .before .before .before .before .pre)
 
 enum-known-list-2 : tie.Need-enum-known-list-2
 enum-known-list-2 c = search needs
@@ -54,9 +53,11 @@ faulty-requires c κs = search needs
 
 returns : tie.Need-returns
 returns c =
-    let a = c .before .before .before .before .before .before .before .before .args in
-    let place = c .before .before .before .before .before in
-    let list = c .before .before .before .list .given in
+    let a = c .before .before .before .before .before .before .before .args in
+    let place = c .before .before .before .before in
+    let list = c .before .before .list .given in
+    let whole : a .r .0 - 0 ≡ a .r .0 = omega arith in
+    let apc = c .apc-of .ensures ∙ ap (λ (n : ℕ). apcBy (part 0 n (a .original .now)) (list .0 .1 .1 .0)) whole in
     _∙_ {b = rewalkedBy (a .original .now) (a .r .0) (a .from .0)
     (WalkListed (list .0 .0) (list .0 .1 .0) (list .0 .1 .1 .0))}
     (λ i. rereads (record {
@@ -65,7 +66,7 @@ returns c =
       options = places (a .from .0) (length (a .original .now));
       count = list .0 .0;
       fill = list .0 .1 .0;
-      apc = (c .apc-of .ensures) i;
+      apc = apc i;
     })) refl
     ∙ ap (rewalkedBy (a .original .now) (a .r .0) (a .from .0)) (sym (walk place ∙ list .1))
     ∙ rereading-by-answer (a .original .now) (a .r .0) (a .from .0) (walkBy (a .strictness) optionLimit 0 (drop (a .from .0) (a .original .now)))
@@ -87,7 +88,6 @@ relisted-spec =
     part-walk-list-end
     walk-list-requires
     enum-known-list
-    slice-aggregate-apc-of
     apc-of-requires
     enum-known-list-2
     faulty-requires

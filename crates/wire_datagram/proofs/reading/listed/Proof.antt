@@ -41,19 +41,9 @@ walk-area-requires c κs = search needs
 enum-known-list : tie.Need-enum-known-list
 enum-known-list c = search needs
 
-sub-apc-of : tie.Need-sub-apc-of
-unfolding udpHeader
-sub-apc-of c = omega (arith, c .before .before .before .before .before .before .pre)
-
-part-apc-of-start : tie.Need-part-apc-of-start
-unfolding udpHeader
-part-apc-of-start c = omega (arith, c .before .before .before .before .before .before .pre)
-
-part-apc-of-end : tie.Need-part-apc-of-end
-part-apc-of-end c = search needs
-
 apc-of-requires : tie.Need-apc-of-requires
-apc-of-requires c κs = search needs
+unfolding udpHeader
+apc-of-requires c κs = omega (arith, c .before .before .before .before .before .before .pre)
 
 enum-known-list-2 : tie.Need-enum-known-list-2
 enum-known-list-2 c = search needs
@@ -73,9 +63,9 @@ optionless-requires-2 c κs = search needs
 returns : tie.Need-returns
 unfolding udpHeader
 returns c =
-    let a = c .before .before .before .before .before .before .before .before .args in
-    let place = c .before .before .before .before .before in
-    let list = c .before .before .before .list .given in
+    let a = c .before .before .before .before .before .before .before .args in
+    let place = c .before .before .before .before in
+    let list = c .before .before .list .given in
     _∙_ {b = readingBy (a .payload .now) (a .size) (a .from .0)
     (Listed (list .0 .0) (list .0 .1 .0) (list .0 .1 .1 .0))}
     (λ i. record {
@@ -116,9 +106,6 @@ listed-spec =
     part-walk-area-end
     walk-area-requires
     enum-known-list
-    sub-apc-of
-    part-apc-of-start
-    part-apc-of-end
     apc-of-requires
     enum-known-list-2
     optionless-requires

@@ -3,6 +3,7 @@
 use mathlib.Core.Path.{sym, ap, _∙_}
 use borrow.Author.Tests.{eq-eqb, ne-eqb}
 use Rattle.wire_options.specs.Walk.{joined}
+use Rattle.wire_options.specs.declared.walk.Apcs.{Apcs}
 use Rattle.wire_options.specs.declared.walk.Apcs.the-variants.{Same}
 use borrow.Author.Needs.{needs}
 use Rattle.wire_options.proofs.walk.join_value.Statement.{statement}
@@ -11,26 +12,26 @@ use Rattle.wire_options.proofs.walk.join_value.Tie as tie
 enum-told : tie.Need-enum-told
 enum-told c = search needs
 
-enum-known-b : tie.Need-enum-known-b
-enum-known-b c = search needs
+enum-known-a : tie.Need-enum-known-a
+enum-known-a c = search needs
 
 returns : tie.Need-returns
 returns c = let a = c .before .before .before .before .args in sym
-    (ap (joined (Same (a .v))) (c .before .before .b .given .1) ∙ simp (eq-eqb _ _ (c .if1 .taken)))
+    (ap (λ (x : Apcs). joined x (Same (a .w))) (c .before .before .a .given .1) ∙ simp (eq-eqb _ _ (c .if1 .taken)))
 
 enum-told-2 : tie.Need-enum-told-2
 enum-told-2 c = search needs
 
 returns-2 : tie.Need-returns-2
-returns-2 c = sym (ap (joined (Same (c .before .before .args .v))) (c .enum-told .given .1))
+returns-2 c = sym (ap (λ (x : Apcs). joined x (Same (c .before .before .args .w))) (c .enum-told .given .1))
 
 returns-3 : tie.Need-returns-3
 returns-3 c = let a = c .before .before .before .before .args in sym
-    (ap (joined (Same (a .v))) (c .before .before .b .given .1) ∙ simp (ne-eqb _ _ (c .if1 .left)))
+    (ap (λ (x : Apcs). joined x (Same (a .w))) (c .before .before .a .given .1) ∙ simp (ne-eqb _ _ (c .if1 .left)))
 
 returns-4 : tie.Need-returns-4
 returns-4 c = search needs
 
 pub join-value-spec : {M : Type 1} → statement M
 join-value-spec =
-    tie.close (tie.spec enum-told enum-known-b returns enum-told-2 returns-2 returns-3 returns-4)
+    tie.close (tie.spec enum-told enum-known-a returns enum-told-2 returns-2 returns-3 returns-4)
