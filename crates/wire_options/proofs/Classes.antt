@@ -1,6 +1,6 @@
 -- Laws of the classes of kinds.
 -- Assumes nothing.
-use mathlib.Core.Path.{_≡_, refl, sym, ap, _∙_}
+use mathlib.Core.Path.{_≡_, refl, sym, ap, subst, _∙_}
 use mathlib.Core.Bool.{Bool, true, false, cond}
 use Prim.Native.Nat.{ℕ, _≤_}
 use native.Mathlib.Omega.{arith}
@@ -59,9 +59,9 @@ isNop (Fixed a b) = false
 isNop Varying = false
 isNop Unsafe = false
 
-either-not : (q : Class → Bool) (t : Bool) (x y : Class) → q x ≡ false → q y ≡ false → q (cond t x y) ≡ false
-either-not q true x y p r = p
-either-not q false x y p r = r
+either : (q : Class → Type 0) (t : Bool) (x y : Class) → q x → q y → q (cond t x y)
+either q true x y p r = p
+either q false x y p r = r
 
 module _ (k : ℕ) where
   -- the class of a kind other than these two
@@ -76,16 +76,26 @@ module _ (k : ℕ) where
       (cond (eqb k 8) (Fixed 10 10)
       (cond (leb k 191) Varying Unsafe)))))))
 
+  others-all : (q : Class → Type 0) → ((a b : ℕ) → q (Fixed a b)) → q (cond (leb k 191) Varying Unsafe) → q others
+  others-all q fixed rest =
+      either q (eqb k 2) _ _ (fixed 6 6)
+      (either q (eqb k 3) _ _ (fixed 10 12)
+      (either q (eqb k 4) _ _ (fixed 4 4)
+      (either q (eqb k 5) _ _ (fixed 5 5)
+      (either q (eqb k 6) _ _ (fixed 6 6)
+      (either q (eqb k 7) _ _ (fixed 6 6)
+      (either q (eqb k 8) _ _ (fixed 10 10) rest))))))
+
   others-not : (q : Class → Bool) → ((a b : ℕ) → q (Fixed a b) ≡ false) → q Varying ≡ false → q Unsafe ≡ false → q others ≡ false
   others-not q fixed varying unsafe =
-      either-not q (eqb k 2) _ _ (fixed 6 6)
-      (either-not q (eqb k 3) _ _ (fixed 10 12)
-      (either-not q (eqb k 4) _ _ (fixed 4 4)
-      (either-not q (eqb k 5) _ _ (fixed 5 5)
-      (either-not q (eqb k 6) _ _ (fixed 6 6)
-      (either-not q (eqb k 7) _ _ (fixed 6 6)
-      (either-not q (eqb k 8) _ _ (fixed 10 10)
-      (either-not q (leb k 191) Varying Unsafe varying unsafe)))))))
+      others-all (λ (c : Class). q c ≡ false) fixed (either (λ (c : Class). q c ≡ false) (leb k 191) Varying Unsafe varying unsafe)
+
+  -- what holds of every class with lengths holds of the class of a kind from 2 to 191
+  pub class-sized : (q : Class → Type 0) → 2 ≤ k → k ≤ 191 → ((a b : ℕ) → q (Fixed a b)) → q Varying → q (classOf k)
+  unfolding classOf
+  class-sized q low high fixed varying =
+      subst q (sym (simp (ne-eqb k 0 (λ e. omega arith), ne-eqb k 1 (λ e. omega arith))))
+      (others-all q fixed (subst (λ (t : Bool). q (cond t Varying Unsafe)) (sym (le-leb k 191 high)) varying))
 
   -- no other kind ends the list
   pub class-end : classOf k ≡ EndOfList → k ≡ eol

@@ -6,20 +6,21 @@ use mathlib.Core.List.{List, [], _∷_}
 use mathlib.Core.Logic.{_⊎_, inl, inr, ⊎-elim}
 use Prim.Native.Nat.{ℕ, _≤_, _<_}
 use native.Mathlib.Omega.{arith}
-use borrow.Author.Tests.{leb-true, eqb-true}
+use borrow.Author.Tests.{lt-leb, leb-true, eqb-true}
 use lib.Dec.{eqb, leb}
 use lib.ListN.{length, getD}
 use Rattle.number_octets.specs.Octets.{number, part}
 use Rattle.number_tests.proofs.Tests.{true-false}
 use Rattle.wire_options.specs.Kinds.{classOf, eol, nop, apc}
 use Rattle.wire_options.specs.Step.{within, extended, headerOf, fixedStep, varyingStep, stepIn, stepOf}
+use Rattle.wire_options.specs.Sizes.{sizedStep}
 use Rattle.wire_options.specs.declared.step.Class.{Class}
 use Rattle.wire_options.specs.declared.step.Class.the-variants.{EndOfList, NoOperation, Fixed, Varying, Unsafe}
 use Rattle.wire_options.specs.declared.step.Header.{Header}
 use Rattle.wire_options.specs.declared.step.Header.the-variants.{Sound, Broken}
 use Rattle.wire_options.specs.declared.step.Step.{Step}
 use Rattle.wire_options.specs.declared.step.Step.the-variants.{End, Eol, Nop, Found, Malformed, Outlawed}
-use Rattle.wire_options.proofs.Classes.{class-end, class-nop}
+use Rattle.wire_options.proofs.Classes.{class-end, class-nop, class-sized}
 
 -- ---- headers
 
@@ -56,6 +57,15 @@ extended-sound l h s = go (leb 4 (length l)) (leb 255 (number (part 2 2 l))) ref
         within-sound l 4 (number (part 2 2 l)) h s
         (λ f. record { least = omega arith; head = omega arith; fits = f; short = λ u. absurd (omega arith); read = inr (refl, big, refl) }) q
 
+-- what has no 255 bytes has no extended form
+pub extended-short : (l : List ℕ) → length l < 255 → extended l ≡ Broken
+extended-short l h = go (leb 4 (length l)) (leb 255 (number (part 2 2 l))) refl
+  where
+    go : (t u : Bool) → leb 255 (number (part 2 2 l)) ≡ u → cond t (cond u (within (length l) 4 (number (part 2 2 l))) Broken) Broken ≡ Broken
+    go false u e = refl
+    go true false e = refl
+    go true true e = simp (lt-leb (number (part 2 2 l)) (length l) (omega (arith, leb-true 255 (number (part 2 2 l)) e)))
+
 pub header-sound : (l : List ℕ) (h s : ℕ) → headerOf l ≡ Sound h s → Sized l h s
 unfolding headerOf
 header-sound l h s = go (leb 2 (length l)) (eqb (getD l 1 0) 255) (leb 2 (getD l 1 0)) refl
@@ -68,6 +78,19 @@ header-sound l h s = go (leb 2 (length l)) (eqb (getD l 1 0) 255) (leb 2 (getD l
     go true false true e q =
         let two : 2 ≤ getD l 1 0 = leb-true 2 (getD l 1 0) e in
         within-sound l 2 (getD l 1 0) h s (λ f. record { least = two; head = two; fits = f; short = λ u. refl; read = inl refl }) q
+
+-- a kind with a header is stepped over by what its class says of the length there
+pub step-sized : (l : List ℕ) (k : ℕ) → 2 ≤ k → k ≤ 191 → stepIn (classOf k) l ≡ sizedStep (classOf k) (getD l 0 0) (headerOf l)
+step-sized l k low high =
+    class-sized k (λ (c : Class). stepIn c l ≡ sizedStep c (getD l 0 0) (headerOf l)) low high (λ a b. fixed a b (headerOf l)) (varying (headerOf l))
+  where
+    fixed : (a b : ℕ) (h : Header) → fixedStep (getD l 0 0) a b h ≡ sizedStep (Fixed a b) (getD l 0 0) h
+    fixed a b (Sound size whole) = refl
+    fixed a b Broken = refl
+
+    varying : (h : Header) → varyingStep (getD l 0 0) h ≡ sizedStep Varying (getD l 0 0) h
+    varying (Sound size whole) = refl
+    varying Broken = refl
 
 -- ---- options
 

@@ -1,5 +1,6 @@
 pub mod Kinds
 pub mod Step
+pub mod Sizes
 pub mod Walk
 pub mod Nops
 pub mod Strict

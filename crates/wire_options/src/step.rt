@@ -1,7 +1,10 @@
 // One step of the walk: what stands at the front of the list that remains.
 ghost use mathlib.Core.Path.{_≡_};
+ghost use Prim.Native.Nat.{_≤_};
+ghost use lib.ListN.{length};
 ghost use Rattle.wire_options.specs.Kinds.{classOf};
-ghost use Rattle.wire_options.specs.Step.{headerOf, extended, within, fixedStep, varyingStep, stepOf};
+ghost use Rattle.wire_options.specs.Step.{headerOf, extended, stepOf};
+ghost use Rattle.wire_options.specs.Sizes.{fits, sizedStep};
 
 // What a kind byte says of its option: the end, filler, one of two whole lengths, any length, or unsafe.
 pub enum Class {
@@ -35,6 +38,7 @@ pub enum Step {
     Outlawed,
 }
 
+// The kinds that have no header are told apart first: the class of the others says which lengths they may have.
 pub fn next(rest: &[u8]) -> Step
     ensures { λ r. ⌜ r ≡ stepOf (now (rest .entry)) ⌝ }
 {
@@ -42,13 +46,44 @@ pub fn next(rest: &[u8]) -> Step
         return Step::End;
     }
     let kind = rest[0];
-    let class = class_of(kind);
+    match kind {
+        0 => Step::Eol,
+        1 => Step::Nop,
+        2..=191 => sized_step(kind, header_of(rest)),
+        192..=255 => Step::Outlawed,
+    }
+}
+
+// An option with a header.
+fn sized_step(kind: u8, header: Header) -> Step
+    ensures { λ r. ⌜ r ≡ sizedStep (classOf kind) kind header ⌝ }
+{
+    match header {
+        Header::Sound { size, whole } => {
+            if fits(class_of(kind), whole) {
+                return found(kind, size, whole);
+            }
+            Step::Malformed
+        }
+        Header::Broken => Step::Malformed,
+    }
+}
+
+// Whether an option of this class may have `whole` bytes.
+fn fits(class: Class, whole: usize) -> bool
+    ensures { λ r. ⌜ r ≡ fits class whole ⌝ }
+{
     match class {
-        Class::EndOfList => Step::Eol,
-        Class::NoOperation => Step::Nop,
-        Class::Fixed(a, b) => fixed_step(kind, a, b, header_of(rest)),
-        Class::Varying => varying_step(kind, header_of(rest)),
-        Class::Unsafe => Step::Outlawed,
+        Class::EndOfList => false,
+        Class::NoOperation => false,
+        Class::Fixed(a, b) => {
+            if whole == a {
+                return true;
+            }
+            whole == b
+        }
+        Class::Varying => true,
+        Class::Unsafe => false,
     }
 }
 
@@ -70,6 +105,7 @@ fn class_of(kind: u8) -> Class
     }
 }
 
+// The length byte is looked at before the extended form is: an option of that form has 255 bytes at least.
 fn header_of(rest: &[u8]) -> Header
     ensures { λ r. ⌜ r ≡ headerOf (now (rest .entry)) ⌝ }
 {
@@ -77,62 +113,34 @@ fn header_of(rest: &[u8]) -> Header
         return Header::Broken;
     }
     let short = rest[1] as usize;
-    if short == 255 {
-        return extended(rest);
-    }
     if short < 2 {
         return Header::Broken;
     }
-    within(rest.len(), 2, short)
+    if rest.len() < short {
+        return Header::Broken;
+    }
+    if short == 255 {
+        return extended(rest);
+    }
+    Header::Sound {
+        size: 2,
+        whole: short,
+    }
 }
 
 // The extended form: a length byte of 255, and the whole length in the next two bytes.
 fn extended(rest: &[u8]) -> Header
+    requires { ⌜ 255 ≤ length (now rest) ⌝ }
     ensures { λ r. ⌜ r ≡ extended (now (rest .entry)) ⌝ }
 {
-    if rest.len() < 4 {
-        return Header::Broken;
-    }
     let whole = number_octets::get_u16(rest, 2) as usize;
     if whole < 255 {
         return Header::Broken;
     }
-    within(rest.len(), 4, whole)
-}
-
-fn within(end: usize, size: usize, whole: usize) -> Header
-    ensures { λ r. ⌜ r ≡ within end size whole ⌝ }
-{
-    if whole <= end {
-        return Header::Sound { size, whole };
+    if rest.len() < whole {
+        return Header::Broken;
     }
-    Header::Broken
-}
-
-fn fixed_step(kind: u8, a: usize, b: usize, header: Header) -> Step
-    ensures { λ r. ⌜ r ≡ fixedStep kind a b header ⌝ }
-{
-    match header {
-        Header::Sound { size, whole } => {
-            if whole == a {
-                return found(kind, size, whole);
-            }
-            if whole == b {
-                return found(kind, size, whole);
-            }
-            Step::Malformed
-        }
-        Header::Broken => Step::Malformed,
-    }
-}
-
-fn varying_step(kind: u8, header: Header) -> Step
-    ensures { λ r. ⌜ r ≡ varyingStep kind header ⌝ }
-{
-    match header {
-        Header::Sound { size, whole } => found(kind, size, whole),
-        Header::Broken => Step::Malformed,
-    }
+    Header::Sound { size: 4, whole }
 }
 
 fn found(kind: u8, header: usize, size: usize) -> Step
