@@ -50,7 +50,7 @@ walked-user p size from (plain items fill) = refl
 walked-user p size from (piece f) = refl
 walked-user p size from (fault f) = refl
 
-started-user : (how : Strictness) (p : List ℕ) (size : ℕ) (start : Start) → started how p size start .user ≡ extent udpHeader size
+pub started-user : (how : Strictness) (p : List ℕ) (size : ℕ) (start : Start) → started how p size start .user ≡ extent udpHeader size
 started-user how p size Empty = refl
 started-user how p size Short = refl
 started-user how p size Pad = refl

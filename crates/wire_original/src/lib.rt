@@ -62,6 +62,9 @@ pub fn reread(
     if original.len() < r {
         return RereadOutcome::Refused(RereadRefusal::OptionStartPastEnd);
     }
+    if original.len() == r {
+        return optionless(option_start, Verdict::Bare);
+    }
     let start = wire_surplus::start_of(&original[r..], r % 2 == 1, true);
     match start {
         Start::Empty => optionless(option_start, Verdict::Bare),

@@ -19,14 +19,11 @@ pub enum Start {
     List(usize),
 }
 
-// `odd`: the area starts at an odd offset from the UDP header. `unused`: the UDP checksum is zero.
+// How an area that is not empty starts. `odd`: it starts at an odd offset from the UDP header. `unused`: the UDP checksum is zero.
 pub fn start_of(area: &[u8], odd: bool, unused: bool) -> Start
-    requires { ⌜ length (now area) ≤ 65535 ⌝ }
+    requires { ⌜ (1 ≤ length (now area)) × (length (now area) ≤ 65535) ⌝ }
     ensures { λ r. ⌜ r ≡ startOf odd unused (now (area .entry)) ⌝ }
 {
-    if area.len() == 0 {
-        return Start::Empty;
-    }
     if odd {
         if area.len() < 3 {
             return Start::Short;

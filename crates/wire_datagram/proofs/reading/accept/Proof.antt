@@ -50,7 +50,7 @@ part-start-of-end c = search needs
 
 start-of-requires : tie.Need-start-of-requires
 unfolding payloadLimit udpHeader
-start-of-requires c κs = simp (length-take, length-drop) (omega (arith, c .before .before .before .pre))
+start-of-requires c κs = simp (length-take, length-drop) (omega (arith, c .before .before .before .pre, c .before .if1 .left))
 
 enum-told : tie.Need-enum-told
 enum-told c = search needs
