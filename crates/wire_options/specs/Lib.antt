@@ -1,6 +1,5 @@
 pub mod Kinds
 pub mod Step
 pub mod Walk
-pub mod Nops
 pub mod Strict
 pub mod Progress
