@@ -5,7 +5,7 @@ use mathlib.Core.Bool.{Bool, true, false}
 use mathlib.Core.List.{List, [], _∷_, map}
 use lib.ListN.{take, drop, replicate}
 use Rattle.number_varint.specs.SevenBit.{encoded}
-use Rattle.wire_options.specs.declared.nops.Strictness.the-variants.{Plain}
+use Rattle.wire_nops.specs.declared.Strictness.the-variants.{Plain}
 use Rattle.wire_surplus.specs.Surplus.{ocsOf}
 use Rattle.wire_datagram.specs.Reading as Reading
 use Rattle.wire_datagram.specs.Reading.{udpLength, isOdd, reading}

@@ -9,7 +9,7 @@ use wire_datagram::reading::Extent;
 use wire_datagram::reading::Outcome;
 use wire_datagram::reading::Refusal;
 use wire_datagram::reading::Verdict;
-use wire_options::nops::Strictness;
+use wire_nops::Strictness;
 use wire_original::OriginalExtent;
 use wire_original::RereadOutcome;
 use wire_original::RereadRefusal;

@@ -1,6 +1,6 @@
 // Listing the options of a datagram as an encoded option list.
 use number_varint::Encoded;
-use wire_options::nops::Strictness;
+use wire_nops::Strictness;
 use wire_options::step;
 use wire_options::step::Step;
 use wire_options::walk;

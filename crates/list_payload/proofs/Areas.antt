@@ -15,10 +15,10 @@ use Rattle.number_octets.specs.Octets.{number, octets}
 use Rattle.number_octets.proofs.Laws.{length-octets, number-octets}
 use Rattle.number_checksum.specs.Checksum.{wordSum, folded, sent, allOnes, parityAfter}
 use Rattle.number_checksum.proofs.Laws.{sent-pos, sent-le, folded-le, field-law}
-use Rattle.wire_options.specs.declared.nops.Strictness.the-variants.{Plain, Strict}
-use Rattle.wire_options.specs.declared.nops.Strictness.{Strictness}
+use Rattle.wire_nops.specs.Nops.{nopLimit, nopsOf}
+use Rattle.wire_nops.specs.declared.Strictness.{Strictness}
+use Rattle.wire_nops.specs.declared.Strictness.the-variants.{Plain, Strict}
 use Rattle.wire_options.specs.Kinds.{classOf, nop, frag}
-use Rattle.wire_options.specs.Nops.{nopLimit, nopsOf}
 use Rattle.wire_options.specs.Walk.{Item, listed, walkFrom, optionLimit}
 use Rattle.wire_options.specs.Strict.{strictFrom, walkBy}
 use Rattle.wire_area.specs.Area.{plain, plainly, areaOf as areaWalk}

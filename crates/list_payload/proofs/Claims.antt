@@ -15,7 +15,7 @@ use Rattle.number_octets.proofs.Laws.{length-octets, number-octets}
 use Rattle.number_offsets.specs.Offsets.{udpHeader}
 use Rattle.number_crc32c.specs.Crc.{crcOf}
 use Rattle.number_crc32c.proofs.Laws.{crcOf-lt}
-use Rattle.wire_options.specs.declared.nops.Strictness.{Strictness}
+use Rattle.wire_nops.specs.declared.Strictness.{Strictness}
 use Rattle.wire_options.specs.Kinds.{classOf, apc, frag}
 use Rattle.wire_options.specs.Walk.{Item, listed, walkFrom, optionLimit}
 use Rattle.wire_options.specs.declared.step.Class.the-variants.{Fixed}

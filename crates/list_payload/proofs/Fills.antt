@@ -10,7 +10,7 @@ use lib.ListN.{length, drop, replicate, length-append, length-replicate}
 use lib.Seq.{drop-at}
 use Rattle.number_octets.specs.Octets.{octets}
 use Rattle.number_checksum.specs.Checksum.{wordSum, folded, sent}
-use Rattle.wire_options.specs.declared.nops.Strictness.{Strictness}
+use Rattle.wire_nops.specs.declared.Strictness.{Strictness}
 use Rattle.wire_options.specs.Walk.{Item}
 use Rattle.wire_datagram.specs.Reading.{reads, reading, isOdd}
 use Rattle.wire_datagram.specs.declared.reading.Verdict.the-variants.{Read}

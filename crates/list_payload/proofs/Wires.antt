@@ -14,8 +14,8 @@ use Rattle.number_octets.specs.Octets.{number, octets, part}
 use Rattle.number_octets.specs.Zeros.{allZero}
 use Rattle.number_octets.proofs.ZeroBytes.{zero-alike}
 use Rattle.number_octets.proofs.Laws.{length-octets, number-octets}
-use Rattle.wire_options.specs.declared.nops.Strictness.the-variants.{Plain, Strict}
-use Rattle.wire_options.specs.declared.nops.Strictness.{Strictness}
+use Rattle.wire_nops.specs.declared.Strictness.{Strictness}
+use Rattle.wire_nops.specs.declared.Strictness.the-variants.{Plain, Strict}
 use Rattle.wire_options.specs.Kinds.{classOf, eol, frag}
 use Rattle.wire_options.specs.Step.{headerOf, stepOf, stepIn, fixedStep, varyingStep}
 use Rattle.wire_options.specs.Walk.{Item, listed, faulty, before, itemOf, walkFrom}

@@ -9,8 +9,8 @@ use native.Mathlib.Omega.{arith}
 use borrow.Author.Tests.{le-leb}
 use lib.ListN.{length, drop}
 use Rattle.number_octets.specs.Octets.{Octets}
-use Rattle.wire_options.specs.declared.nops.Strictness.{Strictness}
-use Rattle.wire_options.specs.declared.nops.Strictness.the-variants.{Plain}
+use Rattle.wire_nops.specs.declared.Strictness.{Strictness}
+use Rattle.wire_nops.specs.declared.Strictness.the-variants.{Plain}
 use Rattle.wire_options.specs.Walk.{Item, Walked, listed, walkFrom, optionLimit, itemsOf}
 use Rattle.wire_datagram.specs.Reading.{reads, reading, isRead}
 use Rattle.wire_original.specs.Rereading.{rereads, rereading}

@@ -7,7 +7,7 @@ use Prim.Native.Nat.{ℕ}
 use lib.ListN.{length, take, drop}
 use lib.Seq.{take-at, drop-at}
 use Rattle.number_octets.specs.Octets.{Octets}
-use Rattle.wire_options.specs.declared.nops.Strictness.the-variants.{Plain}
+use Rattle.wire_nops.specs.declared.Strictness.the-variants.{Plain}
 use Rattle.wire_options.specs.Walk.{walkFrom, optionLimit}
 use Rattle.wire_datagram.specs.Extents.{bytesIn}
 use Rattle.wire_datagram.specs.declared.reading.Reading.{Reading}

@@ -14,7 +14,7 @@ use lib.Seq.{take-all, length-take-le}
 use Rattle.number_octets.specs.Octets.{part}
 use Rattle.number_octets.proofs.Laws.{part-rest}
 use Rattle.number_offsets.specs.Offsets.{udpHeader}
-use Rattle.wire_options.specs.declared.nops.Strictness.the-variants.{Plain}
+use Rattle.wire_nops.specs.declared.Strictness.the-variants.{Plain}
 use Rattle.wire_datagram.specs.Reading.{payloadLimit}
 use Rattle.wire_datagram.proofs.Refusals.{refused-long}
 use Rattle.program_report.specs.Words.{refusedWord}

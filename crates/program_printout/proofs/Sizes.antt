@@ -11,7 +11,7 @@ use lib.Dec.{eqb, ltb}
 use lib.ListN.{length, take, drop, length-append, length-take, length-drop}
 use Rattle.number_tests.proofs.Tests.{first-none}
 use Rattle.number_octets.specs.Octets.{number, part}
-use Rattle.wire_options.specs.declared.nops.Strictness.the-variants.{Plain}
+use Rattle.wire_nops.specs.declared.Strictness.the-variants.{Plain}
 use Rattle.wire_options.specs.Walk.{Item, Walked, listed, faulty, walkFrom, optionLimit}
 use Rattle.wire_options.proofs.Sizes.{bodySizes, walk-bounded}
 use Rattle.wire_datagram.specs.Extents.{bytesIn, sizeOf}

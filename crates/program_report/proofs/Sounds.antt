@@ -6,7 +6,7 @@ use mathlib.Core.List.{List, _++_, append-nil, []}
 use Prim.Native.Nat.{ℕ, _≤_}
 use native.Mathlib.Omega.{arith}
 use lib.ListN.{length}
-use Rattle.wire_options.specs.declared.nops.Strictness.{Strictness}
+use Rattle.wire_nops.specs.declared.Strictness.{Strictness}
 use Rattle.wire_options.specs.Walk.{walkFrom, optionLimit}
 use Rattle.wire_datagram.specs.Extents.{sizeOf}
 use Rattle.wire_datagram.specs.Reading.{reads, reading, isRead}

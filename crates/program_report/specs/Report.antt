@@ -2,7 +2,7 @@
 use mathlib.Core.Bool.{cond}
 use mathlib.Core.List.{List, [], _∷_, _++_}
 use Prim.Native.Nat.{ℕ}
-use Rattle.wire_options.specs.declared.nops.Strictness.the-variants.{Plain}
+use Rattle.wire_nops.specs.declared.Strictness.the-variants.{Plain}
 use Rattle.wire_options.specs.Walk.{walkFrom, optionLimit}
 use Rattle.wire_datagram.specs.Extents.{sizeOf, bytesIn}
 use Rattle.wire_datagram.specs.Reading.{Answer, refused, reads, reading, isRead}

@@ -5,7 +5,7 @@ use list_writer::Written;
 use wire_datagram::reading;
 use wire_datagram::reading::Outcome;
 use wire_datagram::reading::Reading;
-use wire_options::nops::Strictness;
+use wire_nops::Strictness;
 
 const ROOM: usize = 128;
 

@@ -8,7 +8,7 @@ use mathlib.Core.Option.{Option, none, some}
 use native.Mathlib.Omega.{arith}
 use lib.ListN.{length}
 use Rattle.number_offsets.specs.Offsets.{udpHeader}
-use Rattle.wire_options.specs.declared.nops.Strictness.{Strictness}
+use Rattle.wire_nops.specs.declared.Strictness.{Strictness}
 use Rattle.wire_area.specs.declared.Fragment.{Fragment}
 use Rattle.wire_datagram.specs.Reading.{reading, answerOf}
 use Rattle.wire_datagram.specs.declared.reading.Verdict.{Verdict}

@@ -5,16 +5,17 @@
 use mathlib.Core.Path.{_≡_, refl}
 use mathlib.Core.Bool.{true, false}
 use mathlib.Core.List.{List, [], _∷_}
-use Prim.Native.Nat.{ℕ, zero, suc}
+use Prim.Native.Nat.{ℕ}
 use Rattle.number_octets.specs.Octets.{number}
 use Rattle.number_octets.specs.Zeros.{allZero}
 use Rattle.number_offsets.specs.Offsets.{udpHeader, placeOf}
+use Rattle.wire_nops.specs.Nops.{nopLimit, nopsOf}
+use Rattle.wire_nops.specs.declared.Strictness.the-variants.{Plain, Strict}
+use Rattle.wire_nops.proofs.Examples.{padded}
 use Rattle.wire_options.specs.Kinds.{classOf}
 use Rattle.wire_options.specs.Step.{headerOf, stepOf}
-use Rattle.wire_options.specs.Nops.{nopLimit, nopsOf}
 use Rattle.wire_options.specs.Strict.{strictFrom}
 use Rattle.wire_options.specs.Walk.{walkFrom, optionLimit}
-use Rattle.wire_options.specs.declared.nops.Strictness.the-variants.{Plain, Strict}
 use Rattle.wire_options.specs.declared.walk.Fault.the-variants.{FragData, Tail, Padded}
 use Rattle.wire_area.specs.Area.{fieldsOf, fragmentOf, AreaWalk, piece, fault, areaOf}
 
@@ -57,11 +58,6 @@ unfolding number allZero placeOf udpHeader classOf headerOf stepOf walkFrom opti
 frag-behind-eol = refl
 
 -- ---- NOPs in a row (document 02, R-6)
-
--- so many NOPs before a list
-abbrev padded : ℕ → List ℕ → List ℕ
-padded zero l = l
-padded (suc n) l = 0x01 ∷ padded n l
 
 -- seven and eight before FRAG, with and without user data, and eight in plain reading; FRAG ends at 27 behind seven
 seven-before-frag : areaOf Strict true 10 (padded 7 (led 27 (0xAA ∷ []))) ≡ fragment 27 28

@@ -6,10 +6,10 @@ use mathlib.Core.Bool.{Bool, true, false}
 use mathlib.Core.List.{List}
 use Prim.Native.Nat.{ℕ, _+_, _-_}
 use native.Mathlib.Omega.{arith}
-use Rattle.wire_options.specs.Nops.{nopsOf}
+use Rattle.wire_nops.specs.Nops.{nopsOf}
+use Rattle.wire_nops.specs.declared.Strictness.{Strictness}
 use Rattle.wire_options.specs.Walk.{Item, Walked, listed, faulty, walkFrom, optionLimit}
 use Rattle.wire_options.specs.Strict.{walkBy}
-use Rattle.wire_options.specs.declared.nops.Strictness.{Strictness}
 use Rattle.wire_options.proofs.Rests.{Fills}
 use Rattle.wire_options.proofs.Fills.{walk-fills}
 use Rattle.wire_options.proofs.Stricts.{listed-plain}

@@ -13,12 +13,12 @@ use lib.ListN.{length, take, drop, getD, length-drop}
 use lib.Seq.{getD-drop}
 use Rattle.number_octets.specs.Octets.{number, part}
 use Rattle.number_offsets.specs.Offsets.{udpHeader}
+use Rattle.wire_nops.specs.Nops.{nopsOf, isPadding}
+use Rattle.wire_nops.specs.declared.Strictness.{Strictness}
 use Rattle.wire_options.specs.Kinds.{classOf, eol, nop, frag, lastFragSize}
 use Rattle.wire_options.specs.Step.{stepOf}
-use Rattle.wire_options.specs.Nops.{nopsOf, isPadding}
 use Rattle.wire_options.specs.Walk.{optionLimit}
 use Rattle.wire_options.specs.Strict.{walkBy}
-use Rattle.wire_options.specs.declared.nops.Strictness.{Strictness}
 use Rattle.wire_options.specs.declared.walk.Fault.the-variants.{Padded}
 use Rattle.wire_options.specs.declared.step.Step.the-variants.{Found}
 use Rattle.wire_options.proofs.Steps.{step-found}

@@ -8,10 +8,10 @@ use mathlib.Core.Logic.{_⊎_, inl, inr, ⊎-elim}
 use Prim.Native.Nat.{ℕ, _+_, _-_}
 use native.Mathlib.Omega.{arith}
 use borrow.Author.Tests.{lt-ltb}
-use Rattle.wire_options.specs.Nops.{nopLimit, nopsOf}
+use Rattle.wire_nops.specs.Nops.{nopLimit, nopsOf}
+use Rattle.wire_nops.specs.declared.Strictness.{Strictness}
+use Rattle.wire_nops.specs.declared.Strictness.the-variants.{Strict}
 use Rattle.wire_options.specs.Walk.{optionLimit}
-use Rattle.wire_options.specs.declared.nops.Strictness.{Strictness}
-use Rattle.wire_options.specs.declared.nops.Strictness.the-variants.{Strict}
 use Rattle.wire_options.specs.declared.walk.Fault.the-variants.{Padded}
 use Rattle.wire_options.proofs.Paddings.{Padding, eightNops, eight-many, padded-cause}
 use Rattle.wire_area.specs.Area.{fault, upToStart, behindNops, areaOf}

@@ -7,9 +7,9 @@ use mathlib.Core.List.{List}
 use mathlib.Core.Logic.{_⊎_, inl, inr, ⊎-elim}
 use Prim.Native.Nat.{ℕ, _+_, _-_}
 use native.Mathlib.Omega.{arith}
-use Rattle.wire_options.specs.Nops.{nopsOf}
+use Rattle.wire_nops.specs.Nops.{nopsOf}
+use Rattle.wire_nops.specs.declared.Strictness.{Strictness}
 use Rattle.wire_options.specs.Walk.{optionLimit}
-use Rattle.wire_options.specs.declared.nops.Strictness.{Strictness}
 use Rattle.wire_options.specs.declared.walk.Fault.the-variants.{Tail}
 use Rattle.wire_options.proofs.Tails.{Tailed, tailed-by}
 use Rattle.wire_area.specs.Area.{fault, upToStart, areaOf}

@@ -8,12 +8,12 @@ use Rattle.number_octets.specs.Octets.{number, part}
 use Rattle.number_offsets.specs.Offsets.{udpHeader, placeOf}
 use Rattle.number_offsets.specs.declared.Origin.{Origin}
 use Rattle.number_offsets.specs.declared.Origin.the-variants.{At, BeforeData}
+use Rattle.wire_nops.specs.Nops.{nopsOf, isPadding}
+use Rattle.wire_nops.specs.declared.Strictness.{Strictness}
 use Rattle.wire_options.specs.Kinds.{eol, frag, lastFragSize}
-use Rattle.wire_options.specs.Nops.{nopsOf, isPadding}
 use Rattle.wire_options.specs.Step.{stepOf}
 use Rattle.wire_options.specs.Walk.{Item, Walked, listed, faulty, optionLimit, apcsOf}
 use Rattle.wire_options.specs.Strict.{walkBy}
-use Rattle.wire_options.specs.declared.nops.Strictness.{Strictness}
 use Rattle.wire_options.specs.declared.step.Step.{Step}
 use Rattle.wire_options.specs.declared.step.Step.the-variants.{End, Eol, Nop, Found, Malformed as Unsound, Outlawed}
 use Rattle.wire_options.specs.declared.walk.Fault.{Fault}

@@ -2,8 +2,7 @@
 use number_offsets::Origin;
 use number_offsets::OriginalOffset;
 use number_offsets::PacketOffset;
-use wire_options::nops;
-use wire_options::nops::Strictness;
+use wire_nops::Strictness;
 use wire_options::step;
 use wire_options::step::Step;
 use wire_options::walk;
@@ -64,10 +63,10 @@ pub enum Area {
 pub fn walk_area(list: &[u8], base: PacketOffset, empty: bool, strictness: Strictness) -> Area
     ensures { λ r. ⌜ r ≡ areaAnswer (areaOf strictness empty (base .0) (now (list .entry))) ⌝ }
 {
-    if nops::is_padded(list, strictness) {
+    if wire_nops::is_padded(list, strictness) {
         return Area::Faulty(Fault::Padded);
     }
-    let nops = nops::leading_nops(list);
+    let nops = wire_nops::leading_nops(list);
     if nops < list.len() {
         if list[nops] == FRAG {
             return led(list, base, nops, empty, strictness);

@@ -15,7 +15,7 @@ use Rattle.number_tests.specs.Tests.{firstOf}
 use Rattle.number_octets.specs.Octets.{number, part}
 use Rattle.number_octets.proofs.Laws.{part-take}
 use Rattle.number_offsets.specs.Offsets.{udpHeader}
-use Rattle.wire_options.specs.declared.nops.Strictness.{Strictness}
+use Rattle.wire_nops.specs.declared.Strictness.{Strictness}
 use Rattle.wire_options.specs.Walk.{Item, listed, walkFrom, optionLimit}
 use Rattle.wire_area.specs.Area.{AreaWalk, plain, piece, fault, areaOf}
 use Rattle.wire_area.specs.declared.Fragment.{Fragment}

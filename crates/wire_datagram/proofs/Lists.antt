@@ -10,7 +10,7 @@ use lib.ListN.{length, drop, length-drop}
 use lib.Seq.{drop-drop}
 use Rattle.number_octets.specs.Octets.{part}
 use Rattle.number_octets.proofs.Laws.{part-rest}
-use Rattle.wire_options.specs.declared.nops.Strictness.{Strictness}
+use Rattle.wire_nops.specs.declared.Strictness.{Strictness}
 use Rattle.wire_options.specs.Walk.{Item, listed, walkFrom, optionLimit}
 use Rattle.wire_options.proofs.Rests.{Fills}
 use Rattle.wire_options.proofs.Fills.{walk-fills}

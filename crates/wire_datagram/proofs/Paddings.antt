@@ -8,9 +8,9 @@ use mathlib.Core.Logic.{_⊎_}
 use Prim.Native.Nat.{ℕ, _+_}
 use native.Mathlib.Omega.{arith}
 use lib.ListN.{drop}
+use Rattle.wire_nops.specs.declared.Strictness.{Strictness}
+use Rattle.wire_nops.specs.declared.Strictness.the-variants.{Plain, Strict}
 use Rattle.wire_options.specs.Walk.{optionLimit}
-use Rattle.wire_options.specs.declared.nops.Strictness.{Strictness}
-use Rattle.wire_options.specs.declared.nops.Strictness.the-variants.{Plain, Strict}
 use Rattle.wire_options.specs.declared.walk.Fault.the-variants.{Padded as paddedList}
 use Rattle.wire_options.proofs.Paddings.{Padding}
 use Rattle.wire_area.proofs.Paddings.{PiecePadding, area-padded}

@@ -6,8 +6,8 @@ use mathlib.Core.List.{List}
 use mathlib.Core.Logic.{_⊎_}
 use Prim.Native.Nat.{ℕ, _+_}
 use lib.ListN.{drop}
+use Rattle.wire_nops.specs.declared.Strictness.{Strictness}
 use Rattle.wire_options.specs.Walk.{optionLimit}
-use Rattle.wire_options.specs.declared.nops.Strictness.{Strictness}
 use Rattle.wire_options.specs.declared.walk.Fault.the-variants.{Tail as tailed}
 use Rattle.wire_options.proofs.Tails.{Tailed}
 use Rattle.wire_area.proofs.Tails.{PieceTail, area-tail}

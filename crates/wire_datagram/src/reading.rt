@@ -5,7 +5,7 @@ use number_offsets::PacketOffset;
 use number_offsets::UDP_HEADER;
 use wire_area::Area;
 use wire_area::Fragment;
-use wire_options::nops::Strictness;
+use wire_nops::Strictness;
 use wire_options::walk::Apcs;
 use wire_options::walk::Fault;
 use wire_surplus::Start;

@@ -5,12 +5,13 @@ use mathlib.Core.List.{List, [], _∷_}
 use Prim.Native.Nat.{ℕ, zero, suc}
 use Rattle.number_octets.specs.Octets.{number}
 use Rattle.number_octets.specs.Zeros.{allZero}
+use Rattle.wire_nops.specs.Nops.{nopLimit}
+use Rattle.wire_nops.specs.declared.Strictness.the-variants.{Plain, Strict}
+use Rattle.wire_nops.proofs.Examples.{padded}
 use Rattle.wire_options.specs.Kinds.{classOf}
 use Rattle.wire_options.specs.Step.{headerOf, stepOf}
 use Rattle.wire_options.specs.Walk.{Item, listed, faulty, walkFrom, optionLimit}
-use Rattle.wire_options.specs.Nops.{nopLimit}
 use Rattle.wire_options.specs.Strict.{strictFrom, walkBy}
-use Rattle.wire_options.specs.declared.nops.Strictness.the-variants.{Plain, Strict}
 use Rattle.wire_options.specs.declared.walk.Fault.the-variants.{Malformed, Unsafe, Crowded, Tail, Padded}
 
 -- EOL alone, and with zeros behind it: the fill
@@ -58,11 +59,6 @@ unfolding number allZero classOf headerOf stepOf walkFrom optionLimit
 crowded = refl
 
 -- ---- NOPs in a row (document 02, R-6)
-
--- so many NOPs before a list
-abbrev padded : ℕ → List ℕ → List ℕ
-padded zero l = l
-padded (suc n) l = 0x01 ∷ padded n l
 
 -- MDS 8, and what a list with one comes to
 abbrev mds : List ℕ → List ℕ

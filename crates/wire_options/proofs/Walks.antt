@@ -10,14 +10,15 @@ use borrow.Author.Tests.{eq-eqb, ne-eqb, eqb-true, eqb-false}
 use lib.Dec.{eqb}
 use lib.ListN.{length, drop}
 use lib.Seq.{drop-drop}
+use Rattle.wire_nops.specs.Nops.{nopsOf, isPadding}
+use Rattle.wire_nops.specs.declared.Strictness.{Strictness}
+use Rattle.wire_nops.specs.declared.Strictness.the-variants.{Plain, Strict}
+use Rattle.wire_nops.proofs.Counts.{nops-some, nops-within}
 use Rattle.wire_options.specs.Kinds.{frag}
 use Rattle.wire_options.specs.Step.{stepOf}
 use Rattle.wire_options.specs.Progress.{roomProgress, nopProgress, progressIn, progressOf}
 use Rattle.wire_options.specs.Walk.{Item, Walked, listed, faulty, before, itemOf, sound, fillIsZero, walkFrom, joined, apcOf, apcsOf, walkAnswer}
-use Rattle.wire_options.specs.Nops.{nopsOf, isPadding}
 use Rattle.wire_options.specs.Strict.{strictFrom, walkBy}
-use Rattle.wire_options.specs.declared.nops.Strictness.{Strictness}
-use Rattle.wire_options.specs.declared.nops.Strictness.the-variants.{Plain, Strict}
 use Rattle.wire_options.specs.declared.step.Step.{Step}
 use Rattle.wire_options.specs.declared.step.Step.the-variants.{End, Eol, Nop, Found, Malformed as Unsound, Outlawed}
 use Rattle.wire_options.specs.declared.walk.Fault.the-variants.{Malformed, Tail, Padded}
@@ -29,7 +30,7 @@ use Rattle.wire_options.specs.declared.walk.Walk.{Walk}
 use Rattle.wire_options.specs.declared.walk.Walk.the-variants.{Listed, Faulty}
 use Rattle.wire_options.proofs.Steps.{step-found, nop-byte}
 use Rattle.wire_options.proofs.Stricts.{by-skip, walk-other}
-use Rattle.wire_options.proofs.Runs.{nops-some, nops-within, run-passed, run-padded}
+use Rattle.wire_options.proofs.Runs.{run-passed, run-padded}
 
 -- ---- APCs taken together
 

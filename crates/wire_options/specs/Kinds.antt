@@ -3,15 +3,13 @@ use mathlib.Core.Bool.{cond}
 use mathlib.Core.List.{List, [], _∷_}
 use Prim.Native.Nat.{ℕ}
 use lib.Dec.{eqb, leb}
+pub use Rattle.wire_nops.specs.Nops.{nop}
 use Rattle.wire_options.specs.declared.step.Class.{Class}
 use Rattle.wire_options.specs.declared.step.Class.the-variants.{EndOfList, NoOperation, Fixed, Varying, Unsafe}
 
--- the kinds that rules name
+-- the kinds that rules name, beside NOP
 abbrev pub eol : ℕ
 eol = 0
-
-abbrev pub nop : ℕ
-nop = 1
 
 abbrev pub apc : ℕ
 apc = 2

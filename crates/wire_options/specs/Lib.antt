@@ -2,6 +2,5 @@ pub mod Kinds
 pub mod Step
 pub mod Sizes
 pub mod Walk
-pub mod Nops
 pub mod Strict
 pub mod Progress

@@ -1,12 +1,11 @@
 // The walk over a list of options in which FRAG has no place: what is behind a leading FRAG, or the whole list where there is none.
-use crate::nops;
-use crate::nops::Strictness;
 use crate::step;
 use crate::step::Step;
 use number_octets::zeros;
+use wire_nops::Strictness;
 ghost use mathlib.Core.Path.{_≡_};
 ghost use Prim.Native.Nat.{_<_};
-ghost use Rattle.wire_options.specs.Nops.{nopsOf};
+ghost use Rattle.wire_nops.specs.Nops.{nopsOf};
 ghost use Rattle.wire_options.specs.Walk.{joined, walkAnswer};
 ghost use Rattle.wire_options.specs.Strict.{walkBy};
 ghost use Rattle.wire_options.specs.Progress.{endProgress, nopProgress, progressOf};
@@ -131,10 +130,10 @@ fn progress_at(rest: &[u8], room: usize, strictness: Strictness) -> Progress
 fn nops_at(rest: &[u8], room: usize, strictness: Strictness) -> Progress
     ensures { λ r. ⌜ r ≡ nopProgress strictness room (nopsOf (now (rest .entry))) ⌝ }
 {
-    if nops::is_padded(rest, strictness) {
+    if wire_nops::is_padded(rest, strictness) {
         return Progress::Failed(Fault::Padded);
     }
-    let nops = nops::leading_nops(rest);
+    let nops = wire_nops::leading_nops(rest);
     on(room, nops, Apcs::Absent)
 }
 

@@ -11,7 +11,7 @@ use lib.ListN.{length, drop, length-drop}
 use Rattle.number_tests.proofs.Tests.{first-none}
 use Rattle.number_tests.specs.Tests.{firstOf}
 use Rattle.number_offsets.specs.Offsets.{udpHeader}
-use Rattle.wire_options.specs.declared.nops.Strictness.{Strictness}
+use Rattle.wire_nops.specs.declared.Strictness.{Strictness}
 use Rattle.wire_options.specs.Walk.{Walked, listed, faulty, optionLimit}
 use Rattle.wire_options.specs.Strict.{walkBy}
 use Rattle.wire_options.proofs.Stricts.{listed-plain}

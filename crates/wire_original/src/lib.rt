@@ -3,7 +3,7 @@ use number_offsets::OriginalOffset;
 use wire_datagram::reading;
 use wire_datagram::reading::Apc;
 use wire_datagram::reading::Verdict;
-use wire_options::nops::Strictness;
+use wire_nops::Strictness;
 use wire_options::walk;
 use wire_options::walk::Fault;
 use wire_options::walk::Walk;

@@ -1,7 +1,7 @@
 -- `host_calls::wuraketozo_receive` meets its contract: the value of what became of the datagram. `tools/lent/transplant.py` makes the modules below.
 -- Assumes nothing.
 use mathlib.Core.Path.{ap}
-use Rattle.wire_options.specs.declared.nops.Strictness.{Strictness}
+use Rattle.wire_nops.specs.declared.Strictness.{Strictness}
 use Rattle.table_calls.specs.Table.{tableOf}
 use Rattle.table_receiver.specs.Receive.{Packet, receiveOn}
 use borrow.Author.Needs.{needs}

@@ -3,7 +3,7 @@
 use mathlib.Core.Path.{sym, ap}
 use mathlib.Core.Bool.{Bool, cond}
 use borrow.Author.Tests.{eq-eqb, ne-eqb}
-use Rattle.wire_options.specs.declared.nops.Strictness.the-variants.{Plain, Strict}
+use Rattle.wire_nops.specs.declared.Strictness.the-variants.{Plain, Strict}
 use Rattle.host_readings.proofs.strictness_for.Statement.{statement}
 use Rattle.host_readings.proofs.strictness_for.Tie as tie
 

@@ -1,7 +1,7 @@
 -- `host_wire::read` meets its contract: the value of the reading.
 -- Assumes nothing.
 use mathlib.Core.Path.{ap, _∙_}
-use Rattle.wire_options.specs.declared.nops.Strictness.{Strictness}
+use Rattle.wire_nops.specs.declared.Strictness.{Strictness}
 use Rattle.wire_datagram.specs.Reading.{reading, answerOf}
 use Rattle.wire_datagram.specs.declared.reading.Outcome.{Outcome}
 use Rattle.host_readings.specs.Reading.{hostReading}

@@ -1,7 +1,7 @@
 -- `host_wire::reread` meets its contract: the value of the rereading.
 -- Assumes nothing.
 use mathlib.Core.Path.{ap, _∙_}
-use Rattle.wire_options.specs.declared.nops.Strictness.{Strictness}
+use Rattle.wire_nops.specs.declared.Strictness.{Strictness}
 use Rattle.wire_original.specs.Rereading.{rereading}
 use Rattle.host_readings.specs.Reading.{hostRereading}
 use borrow.Author.Needs.{needs}

@@ -1,7 +1,7 @@
 -- `program_report::report` meets its contract: the arm knows the answer of the reading, at which the text computes.
 -- Assumes nothing.
 use mathlib.Core.Path.{sym, ap, _∙_}
-use Rattle.wire_options.specs.declared.nops.Strictness.the-variants.{Plain}
+use Rattle.wire_nops.specs.declared.Strictness.the-variants.{Plain}
 use Rattle.wire_datagram.specs.Reading.{answerOf}
 use Rattle.program_report.specs.Words.{refusedWord}
 use Rattle.program_report.specs.Report.{numberLine, answerText, reportOf}

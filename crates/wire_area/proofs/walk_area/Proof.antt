@@ -9,12 +9,12 @@ use borrow.Author.Tests.{eq-eqb, ne-eqb}
 use lib.Dec.{eqb}
 use lib.ListN.{drop, getD, List·getD-eq-default}
 use Rattle.number_octets.proofs.Laws.{part-rest}
+use Rattle.wire_nops.specs.Nops.{nopsOf, isPadding}
+use Rattle.wire_nops.specs.declared.Strictness.{Strictness}
 use Rattle.wire_options.specs.Kinds.{eol, frag}
-use Rattle.wire_options.specs.Nops.{nopsOf, isPadding}
 use Rattle.wire_options.specs.Step.{stepOf}
 use Rattle.wire_options.specs.Walk.{Walked, listed, faulty, walkAnswer, optionLimit}
 use Rattle.wire_options.specs.Strict.{walkBy}
-use Rattle.wire_options.specs.declared.nops.Strictness.{Strictness}
 use Rattle.wire_options.specs.declared.walk.Fault.the-variants.{Padded}
 use Rattle.wire_options.proofs.Runs.{run-passed}
 use Rattle.wire_area.specs.Area.{fault, ledBy, plainly, behindNops, areaOf, areaAnswer, asArea}

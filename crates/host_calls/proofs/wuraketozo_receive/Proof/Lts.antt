@@ -6,8 +6,8 @@ use Rattle.host_values.proofs.Received
 use Rattle.host_values.proofs.Received.Laws as Laws'
 use Rattle.table_receiver.proofs.Received as Received'
 use Rattle.table_receiver.proofs.Received.Laws as Laws''
-use Rattle.wire_options.proofs.nops.Strictness
-use Rattle.wire_options.proofs.nops.Strictness.Laws as Laws'3
+use Rattle.wire_nops.proofs.Strictness
+use Rattle.wire_nops.proofs.Strictness.Laws as Laws'3
 use borrow.Author.Called
 use borrow.Fn.Any
 use borrow.Fn.Call

@@ -1,8 +1,8 @@
 -- Made by tools/lent/transplant.py for `table_receiver::receive`. Assumes nothing.
 use Rattle.table_receiver.proofs.Received
 use Rattle.table_receiver.proofs.Received.Laws
-use Rattle.wire_options.proofs.nops.Strictness
-use Rattle.wire_options.proofs.nops.Strictness.Laws as Laws'
+use Rattle.wire_nops.proofs.Strictness
+use Rattle.wire_nops.proofs.Strictness.Laws as Laws'
 use borrow.Fn.Kinds
 use borrow.Kind.Array
 use borrow.Kind.MutSlice

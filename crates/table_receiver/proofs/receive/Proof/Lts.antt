@@ -14,8 +14,8 @@ use Rattle.wire_area.proofs.Fragment
 use Rattle.wire_area.proofs.Fragment.Laws as Laws'5
 use Rattle.wire_datagram.proofs.reading.Outcome
 use Rattle.wire_datagram.proofs.reading.Outcome.Laws as Laws'6
-use Rattle.wire_options.proofs.nops.Strictness
-use Rattle.wire_options.proofs.nops.Strictness.Laws as Laws'7
+use Rattle.wire_nops.proofs.Strictness
+use Rattle.wire_nops.proofs.Strictness.Laws as Laws'7
 use borrow.Author.Called
 use borrow.Enum.Known
 use borrow.Enum.Match

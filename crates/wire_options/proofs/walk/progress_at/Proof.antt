@@ -7,10 +7,10 @@ use native.Mathlib.Omega.{arith}
 use borrow.Author.Tests.{eq-eqb, ne-eqb}
 use lib.ListN.{length}
 use Rattle.number_octets.specs.Octets.{number, part}
+use Rattle.wire_nops.specs.declared.Strictness.{Strictness}
 use Rattle.wire_options.specs.Kinds.{apc}
 use Rattle.wire_options.specs.Step.{stepOf}
 use Rattle.wire_options.specs.Progress.{roomProgress, progressIn, progressOf}
-use Rattle.wire_options.specs.declared.nops.Strictness.{Strictness}
 use Rattle.wire_options.specs.declared.step.Step.{Step}
 use Rattle.wire_options.specs.declared.step.Step.the-variants.{Found}
 use Rattle.wire_options.specs.declared.walk.Apcs.{Apcs}

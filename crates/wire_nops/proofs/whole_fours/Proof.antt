@@ -1,14 +1,14 @@
--- `wire_options::nops::whole_fours` meets its contract. The loop's invariant: the NOPs of the list are those passed and those of the rest.
+-- `wire_nops::whole_fours` meets its contract. The loop's invariant: the NOPs of the list are those passed and those of the rest.
 -- Assumes nothing.
 use mathlib.Core.Path.{_≡_, sym, _∙_}
 use Prim.Native.Nat.{ℕ, _+_, _-_, _≤_, _<_}
 use native.Mathlib.Omega.{arith}
 use lib.ListN.{length, drop, getD}
-use Rattle.wire_options.specs.Nops.{nopsOf}
-use Rattle.wire_options.proofs.Runs.{nops-four}
+use Rattle.wire_nops.specs.Nops.{nopsOf}
+use Rattle.wire_nops.proofs.Counts.{nops-four}
 use borrow.Author.Needs.{needs}
-use Rattle.wire_options.proofs.nops.whole_fours.Statement.{statement}
-use Rattle.wire_options.proofs.nops.whole_fours.Tie as tie
+use Rattle.wire_nops.proofs.whole_fours.Statement.{statement}
+use Rattle.wire_nops.proofs.whole_fours.Tie as tie
 
 abbrev Inv-loop : tie.InvT-loop
 Inv-loop list n₀ n = (n ≤ length list) × (nopsOf list ≡ n + nopsOf (drop n list))

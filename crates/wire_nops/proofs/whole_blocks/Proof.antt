@@ -1,12 +1,12 @@
--- `wire_options::nops::whole_blocks` meets its contract. The loop's invariant: the NOPs of the list are those passed and those of the rest.
+-- `wire_nops::whole_blocks` meets its contract. The loop's invariant: the NOPs of the list are those passed and those of the rest.
 -- Assumes nothing.
 use mathlib.Core.Path.{_≡_}
 use Prim.Native.Nat.{_+_, _-_, _≤_}
 use native.Mathlib.Omega.{arith}
 use lib.ListN.{length, drop}
-use Rattle.wire_options.specs.Nops.{nopsOf}
-use Rattle.wire_options.proofs.nops.whole_blocks.Statement.{statement}
-use Rattle.wire_options.proofs.nops.whole_blocks.Tie as tie
+use Rattle.wire_nops.specs.Nops.{nopsOf}
+use Rattle.wire_nops.proofs.whole_blocks.Statement.{statement}
+use Rattle.wire_nops.proofs.whole_blocks.Tie as tie
 
 abbrev Inv-loop : tie.InvT-loop
 Inv-loop list n₀ n = (n ≤ length list) × (nopsOf list ≡ n + nopsOf (drop n list))

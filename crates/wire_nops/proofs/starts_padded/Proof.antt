@@ -1,4 +1,4 @@
--- `wire_options::nops::starts_padded` meets its contract: eight NOPs are two words of four, and any other word ends the row too early.
+-- `wire_nops::starts_padded` meets its contract: eight NOPs are two words of four, and any other word ends the row too early.
 -- Assumes nothing.
 use mathlib.Core.Path.{_≡_, sym, ap, _∙_}
 use mathlib.Core.Bool.{Bool, true, false}
@@ -9,12 +9,12 @@ use borrow.Author.Tests.{eqb-true, eqb-false}
 use lib.Dec.{eqb}
 use lib.ListN.{length, drop, getD}
 use Rattle.number_octets.specs.Octets.{number, part}
-use Rattle.wire_options.specs.Nops.{nopsOf, isPadding}
-use Rattle.wire_options.specs.declared.nops.Strictness.the-variants.{Strict}
-use Rattle.wire_options.proofs.Runs.{nops-within, nops-four, padding-many, padding-few, padding-word}
+use Rattle.wire_nops.specs.Nops.{nopsOf, isPadding}
+use Rattle.wire_nops.specs.declared.Strictness.the-variants.{Strict}
+use Rattle.wire_nops.proofs.Counts.{nops-within, nops-four, padding-many, padding-few, padding-word}
 use borrow.Author.Needs.{needs}
-use Rattle.wire_options.proofs.nops.starts_padded.Statement.{statement}
-use Rattle.wire_options.proofs.nops.starts_padded.Tie as tie
+use Rattle.wire_nops.proofs.starts_padded.Statement.{statement}
+use Rattle.wire_nops.proofs.starts_padded.Tie as tie
 
 returns : tie.Need-returns
 returns c = let l = c .before .before .args .list .now in sym (padding-few l (omega (arith, nops-within l)))

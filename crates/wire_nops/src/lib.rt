@@ -2,7 +2,7 @@
 ghost use mathlib.Core.Path.{_≡_};
 ghost use Prim.Native.Nat.{_+_, _≤_};
 ghost use lib.ListN.{length, drop};
-ghost use Rattle.wire_options.specs.Nops.{nopsOf, isPadding};
+ghost use Rattle.wire_nops.specs.Nops.{nopsOf, isPadding};
 
 // How lists are read: plainly, or so that padding with NOPs is a fault (document 02, R-6).
 pub enum Strictness {

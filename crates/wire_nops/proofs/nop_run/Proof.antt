@@ -1,14 +1,14 @@
--- `wire_options::nops::nop_run` meets its contract. The loop's invariant: the NOPs of the list are those passed and those of the rest.
+-- `wire_nops::nop_run` meets its contract. The loop's invariant: the NOPs of the list are those passed and those of the rest.
 -- Assumes nothing.
 use mathlib.Core.Path.{_≡_}
 use Prim.Native.Nat.{_+_, _-_, _≤_}
 use native.Mathlib.Omega.{arith}
 use borrow.Author.Needs.{needs}
 use lib.ListN.{length, drop}
-use Rattle.wire_options.specs.Nops.{nopsOf}
-use Rattle.wire_options.proofs.Runs.{nops-one, nops-other, nops-none}
-use Rattle.wire_options.proofs.nops.nop_run.Statement.{statement}
-use Rattle.wire_options.proofs.nops.nop_run.Tie as tie
+use Rattle.wire_nops.specs.Nops.{nopsOf}
+use Rattle.wire_nops.proofs.Counts.{nops-one, nops-other, nops-none}
+use Rattle.wire_nops.proofs.nop_run.Statement.{statement}
+use Rattle.wire_nops.proofs.nop_run.Tie as tie
 
 abbrev Inv-loop : tie.InvT-loop
 Inv-loop list n₀ n = (n ≤ length list) × (nopsOf list ≡ n + nopsOf (drop n list))

@@ -1,11 +1,11 @@
--- `wire_options::nops::leading_nops` meets its contract: a list without a NOP at its front has none there.
+-- `wire_nops::leading_nops` meets its contract: a list without a NOP at its front has none there.
 -- Assumes nothing.
 use mathlib.Core.Path.{sym}
 use native.Mathlib.Omega.{arith}
-use Rattle.wire_options.proofs.Runs.{nops-other, nops-none}
+use Rattle.wire_nops.proofs.Counts.{nops-other, nops-none}
 use borrow.Author.Needs.{needs}
-use Rattle.wire_options.proofs.nops.leading_nops.Statement.{statement}
-use Rattle.wire_options.proofs.nops.leading_nops.Tie as tie
+use Rattle.wire_nops.proofs.leading_nops.Statement.{statement}
+use Rattle.wire_nops.proofs.leading_nops.Tie as tie
 
 returns : tie.Need-returns
 returns c = let l = c .before .before .args .list .now in (sym (nops-none l 0 (omega arith)), omega arith)

@@ -3,9 +3,12 @@ use mathlib.Core.Bool.{Bool, false, cond}
 use mathlib.Core.List.{List, [], _∷_}
 use Prim.Native.Nat.{ℕ, _+_}
 use lib.Dec.{eqb, ltb}
-use Rattle.wire_options.specs.Kinds.{nop}
-use Rattle.wire_options.specs.declared.nops.Strictness.{Strictness}
-use Rattle.wire_options.specs.declared.nops.Strictness.the-variants.{Plain, Strict}
+use Rattle.wire_nops.specs.declared.Strictness.{Strictness}
+use Rattle.wire_nops.specs.declared.Strictness.the-variants.{Plain, Strict}
+
+-- the kind of NOP
+abbrev pub nop : ℕ
+nop = 1
 
 -- "UDP packets SHOULD NOT use more than seven consecutive NOPs" (section 11.2)
 unfoldable pub nopLimit : ℕ

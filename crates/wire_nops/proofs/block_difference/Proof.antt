@@ -1,13 +1,13 @@
--- `wire_options::nops::block_difference` meets its contract. The loop's invariant: where no bit is different so far, the words so far are NOPs.
+-- `wire_nops::block_difference` meets its contract. The loop's invariant: where no bit is different so far, the words so far are NOPs.
 -- Assumes nothing.
 use mathlib.Core.Path.{_≡_, sym, ap, _∙_}
 use Prim.Native.Nat.{ℕ, _+_, _-_, _*_, _≤_, _<_}
 use native.Mathlib.Omega.{arith}
 use lib.ListN.{drop, getD}
-use Rattle.wire_options.specs.Nops.{nopsOf}
-use Rattle.wire_options.proofs.Runs.{nops-four, none-different}
-use Rattle.wire_options.proofs.nops.block_difference.Statement.{statement}
-use Rattle.wire_options.proofs.nops.block_difference.Tie as tie
+use Rattle.wire_nops.specs.Nops.{nopsOf}
+use Rattle.wire_nops.proofs.Counts.{nops-four, none-different}
+use Rattle.wire_nops.proofs.block_difference.Statement.{statement}
+use Rattle.wire_nops.proofs.block_difference.Tie as tie
 
 abbrev Inv-loop : tie.InvT-loop
 Inv-loop list at different₀ k₀ different k = (k ≤ 8) × (different ≡ 0 → nopsOf (drop at list) ≡ 4 * k + nopsOf (drop (at + 4 * k) list))

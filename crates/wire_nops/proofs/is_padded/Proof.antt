@@ -1,11 +1,11 @@
--- `wire_options::nops::is_padded` meets its contract, at the setting that the arm knows.
+-- `wire_nops::is_padded` meets its contract, at the setting that the arm knows.
 -- Assumes nothing.
 use mathlib.Core.Path.{sym, ap, _∙_}
-use Rattle.wire_options.specs.Nops.{nopsOf, isPadding}
-use Rattle.wire_options.specs.declared.nops.Strictness.{Strictness}
+use Rattle.wire_nops.specs.Nops.{nopsOf, isPadding}
+use Rattle.wire_nops.specs.declared.Strictness.{Strictness}
 use borrow.Author.Needs.{needs}
-use Rattle.wire_options.proofs.nops.is_padded.Statement.{statement}
-use Rattle.wire_options.proofs.nops.is_padded.Tie as tie
+use Rattle.wire_nops.proofs.is_padded.Statement.{statement}
+use Rattle.wire_nops.proofs.is_padded.Tie as tie
 
 enum-told : tie.Need-enum-told
 enum-told c = search needs
