@@ -221,6 +221,19 @@ impl Payload {
         payload
     }
 
+    /// 56 bytes of user data and nothing behind them, as most datagrams are.
+    fn bare() -> Payload {
+        let mut payload = Payload::listed("", 56, &[]);
+        payload.bytes.truncate(64);
+        payload.words = "64 bytes, no surplus area".into();
+        payload
+    }
+
+    /// Eight bytes of user data and 32 times REQ 300, the most that a list has.
+    fn full_list() -> Payload {
+        Payload::listed("32 options", 8, &REQ.repeat(32))
+    }
+
     /// Eight bytes of user data, REQ 300 and so much fill, EOL counted.
     fn filled(fill: usize) -> Payload {
         let words = format!("a fill of {}", shown(fill));
@@ -397,7 +410,10 @@ pub fn all() -> Vec<Case> {
         }
     }
     cases.extend(SIZES.map(crc32c));
+    let bare = Payload::bare();
+    cases.push(reading(format!("read {}", bare.words), bare, PLAIN, "none"));
     cases.extend(payloads().into_iter().map(read));
+    cases.push(read(Payload::full_list()));
     cases.extend(FILLS.map(|fill| read(Payload::filled(fill))));
     cases.extend(runs_of_nops());
     cases.extend(payloads().into_iter().map(write));
