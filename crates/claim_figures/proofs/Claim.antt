@@ -25,7 +25,6 @@ use Rattle.list_writer.specs.Answer.{fits, putWhole, written}
 use Rattle.client_record.specs.Limits.{datagramLimit, fragmentLimit, assemblyLimit, lifetime, offeredLimit, shareSize, clientLimit}
 use Rattle.client_record.specs.Lists.{sameBytes, any, sum}
 use Rattle.client_record.specs.Record.{sameFlow}
-use Rattle.client_reassembly.specs.Answer as Answer
 use Rattle.client_ledger.specs.Book.{empty, size, endOf, total, heldBytes, held, sameKey, of, mine, keep, others, openedAt, keys, due, outdated}
 use Rattle.client_ledger.specs.Book.{advance, repeats, overlap, contradicts, within, complete, lastOne, byteAt, bytesTo, rejecting, conflicting}
 use Rattle.client_ledger.specs.Book.{storing, taking, noRoom, isRepeat, isConflict, isFull, fate, entry, offerTests, clockTests, figures}

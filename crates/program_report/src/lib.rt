@@ -4,7 +4,6 @@ use wire_datagram::reading::Extent;
 use wire_datagram::reading::Outcome;
 use wire_datagram::reading::Reading;
 use wire_datagram::reading::Refusal;
-use wire_datagram::reading::Verdict;
 use wire_nops::Strictness;
 ghost use mathlib.Core.Path.{_≡_};
 ghost use Prim.Native.Nat.{_≤_};
