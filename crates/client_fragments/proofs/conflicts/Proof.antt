@@ -34,7 +34,20 @@ either-requires-3 c κs = search needs
 
 returns : tie.Need-returns
 unfolding conflicts bothLast
-returns c = cc
+returns c =
+    let o = c .before .before .before in
+    let l = o .before .before .before in
+    rw (
+      c .either3 .ensures,
+      c .before .either2 .ensures,
+      c .before .before .either .ensures,
+      o .outruns2 .ensures,
+      o .before .outruns .ensures,
+      o .before .before .overlaps .ensures,
+      l .both .ensures,
+      l .before .is-last2 .ensures,
+      l .before .before .is-last .ensures,
+    )
 
 pub conflicts-spec : {M : Type 1} → statement M
 conflicts-spec =

@@ -19,7 +19,9 @@ both-requires c κs = search needs
 
 returns : tie.Need-returns
 unfolding outruns
-returns c = cc
+returns c =
+    let e = c .before in
+    rw (c .both .ensures, e .end-of2 .ensures, e .before .end-of .ensures, e .before .before .is-last .ensures)
 
 pub outruns-spec : {M : Type 1} → statement M
 outruns-spec = tie.close (tie.spec is-last-requires end-of-requires end-of-requires-2 both-requires returns)

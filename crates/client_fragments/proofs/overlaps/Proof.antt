@@ -22,7 +22,7 @@ both-requires c κs = search needs
 
 returns : tie.Need-returns
 unfolding overlaps
-returns c = cc
+returns c = rw (c .both .ensures, c .before .end-of2 .ensures, c .before .before .end-of .ensures)
 
 pub overlaps-spec : {M : Type 1} → statement M
 overlaps-spec =

@@ -31,7 +31,19 @@ both-requires-3 c κs = search needs
 
 returns : tie.Need-returns
 unfolding alike
-returns c = cc
+returns c =
+    let s = c .before .before .before .before .before .before .before in
+    let m = s .before .before .before .before in
+    rw (
+      c .both3 .ensures,
+      c .before .both2 .ensures,
+      c .before .before .both .ensures,
+      s .either .ensures,
+      s .before .before .before .is-last3 .ensures,
+      m .same-mark .ensures,
+      m .before .is-last2 .ensures,
+      m .before .before .is-last .ensures,
+    )
 
 pub alike-spec : {M : Type 1} → statement M
 alike-spec =

@@ -16,7 +16,7 @@ both-requires c κs = search needs
 
 returns : tie.Need-returns
 unfolding matches
-returns c = cc
+returns c = rw (c .both .ensures, c .before .has-key .ensures, c .before .before .live .ensures)
 
 pub matches-spec : {M : Type 1} → statement M
 matches-spec = tie.close (tie.spec live-requires has-key-requires both-requires returns)

@@ -11,9 +11,13 @@ same-flow-requires c κs = search needs
 both-requires : tie.Need-both-requires
 both-requires c κs = search needs
 
+-- the comparison of the flows, from the end
+flows : tie.After-both → tie.After-same-flow
+flows c = search needs
+
 returns : tie.Need-returns
-unfolding hasKey
-returns c = cc
+unfolding hasKey flows
+returns c = rw (c .both .ensures, flows c .same-flow .ensures)
 
 pub has-key-spec : {M : Type 1} → statement M
 has-key-spec = tie.close (tie.spec same-flow-requires both-requires returns)

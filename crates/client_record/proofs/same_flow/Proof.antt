@@ -22,7 +22,15 @@ both-requires-3 c κs = search needs
 
 returns : tie.Need-returns
 unfolding sameFlow
-returns c = cc
+returns c =
+    let d = c .before .before .before .before .before .before .before in
+    rw (
+      c .both3 .ensures,
+      c .before .both2 .ensures,
+      c .before .before .both .ensures,
+      d .same-address2 .ensures,
+      d .before .same-address .ensures,
+    )
 
 pub same-flow-spec : {M : Type 1} → statement M
 same-flow-spec =

@@ -26,7 +26,15 @@ both-requires-2 c κs = search needs
 
 returns : tie.Need-returns
 unfolding soundFragment nonEmpty fits startsOptionsInside datagramLimit
-returns c = cc
+returns c =
+    let e = c .before .before .before in
+    rw (
+      c .both2 .ensures,
+      c .before .both .ensures,
+      e .either .ensures,
+      e .before .is-last .ensures,
+      e .before .before .before .end-of .ensures,
+    )
 
 pub fragment-sound-spec : {M : Type 1} → statement M
 fragment-sound-spec =

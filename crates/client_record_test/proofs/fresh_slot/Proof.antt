@@ -16,7 +16,7 @@ both-requires-3 c κs = search needs
 
 returns : tie.Need-returns
 unfolding isFreshFragment
-returns c = cc
+returns c = rw (c .both3 .ensures, c .before .both2 .ensures, c .before .before .both .ensures)
 
 pub fresh-slot-spec : {M : Type 1} → statement M
 fresh-slot-spec = tie.close (tie.spec both-requires both-requires-2 both-requires-3 returns)

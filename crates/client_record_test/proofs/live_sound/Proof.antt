@@ -4,7 +4,7 @@ use Rattle.number_tests.proofs.Tests.{both-true}
 use Rattle.client_record.proofs.Tests.{front-false}
 use Rattle.client_record.specs.Record.{heldFragments, soundFragment, compatible}
 use Rattle.client_record.specs.Lists.{all}
-use mathlib.Core.Bool.{true, false, _&&_}
+use mathlib.Core.Bool.{true}
 use mathlib.Core.Path.{_≡_}
 use Rattle.client_record.specs.Record.{soundLive}
 use Rattle.client_record.specs.Limits.{fragmentLimit}
@@ -52,16 +52,27 @@ both-requires-3 c κs = search needs
 returns-2 : tie.Need-returns-2
 unfolding soundLive fragmentLimit
 returns-2 c =
-    let f = c .before .before .before .before .before in
-    simp (le-leb _ _ (f .before .before .before .before .if1 .left), passed f .0, passed f .1) (cc)
+    let s = c .before .before in
+    let f = s .before .before .before in
+    rw (
+      le-leb _ _ (f .before .before .before .before .if1 .left),
+      passed f .0,
+      passed f .1,
+      c .both3 .ensures,
+      c .before .both2 .ensures,
+      s .spare-fresh .ensures,
+      s .before .opened-within .ensures,
+      s .before .before .whole .ensures,
+    )
 
 returns-3 : tie.Need-returns-3
 unfolding soundLive fragmentLimit
 returns-3 c =
-    let s = c .before .before .before .before in
+    let f = c .before .before in
+    let s = f .before .before in
     let a = s .before .args .a in
-    let e : (all soundFragment (heldFragments a) && compatible (heldFragments a)) ≡ false = cc in
-    simp (le-leb _ _ (s .if1 .left)) (sym (front-false (all soundFragment (heldFragments a)) (compatible (heldFragments a)) _ e))
+    let e = rw (f .fragments-compatible .ensures, f .before .fragments-sound .ensures) at (sym (c .before .both .ensures) ∙ c .if2 .left) in
+    rw (le-leb _ _ (s .if1 .left)) (sym (front-false (all soundFragment (heldFragments a)) (compatible (heldFragments a)) _ e))
 
 pub live-sound-spec : {M : Type 1} → statement M
 live-sound-spec =

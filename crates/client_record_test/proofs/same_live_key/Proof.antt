@@ -22,7 +22,9 @@ both-requires-2 c κs = search needs
 
 returns : tie.Need-returns
 unfolding sameLiveKey
-returns c = cc
+returns c =
+    let b = c .before .before in
+    rw (c .both2 .ensures, c .before .both .ensures, b .live2 .ensures, b .before .live .ensures, b .before .before .has-key .ensures)
 
 pub same-live-key-spec : {M : Type 1} → statement M
 same-live-key-spec =

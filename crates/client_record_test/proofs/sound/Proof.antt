@@ -26,9 +26,24 @@ both-requires-2 c κs = search needs
 both-requires-3 : tie.Need-both-requires-3
 both-requires-3 c κs = search needs
 
+-- the sum, from where the figures were compared
+sum-of : tie.After-balanced → tie.After-total-held
+sum-of c = search needs
+
 returns : tie.Need-returns
-unfolding soundRecord heldRight
-returns c = cc
+unfolding soundRecord heldRight sum-of
+returns c =
+    let k = c .before .before in
+    let f = k .before .before in
+    rw (
+      c .both3 .ensures,
+      c .before .both2 .ensures,
+      k .keys-differ .ensures,
+      k .before .assemblies-sound .ensures,
+      f .both .ensures,
+      f .before .balanced .ensures,
+      sum-of (f .before) .total-held .ensures,
+    )
 
 pub sound-spec : {M : Type 1} → statement M
 sound-spec =
