@@ -7,9 +7,10 @@ use wire_options::walk;
 use wire_options::walk::Walk;
 ghost use mathlib.Core.Path.{_≡_};
 ghost use Prim.Native.Nat.{_+_, _≤_};
-ghost use lib.ListN.{length};
+ghost use lib.ListN.{length, drop};
 ghost use Rattle.number_octets.specs.Octets.{overlay};
 ghost use Rattle.number_varint.specs.SevenBit.{encoded};
+ghost use Rattle.wire_nops.specs.Nops.{nopsOf};
 ghost use Rattle.wire_options.specs.Kinds.{frag};
 ghost use Rattle.wire_options.specs.Step.{stepOf};
 ghost use Rattle.wire_options.specs.Walk.{itemOf, walkFrom, optionLimit, itemsOf};
@@ -72,7 +73,7 @@ fn options_size(options: &[u8]) -> usize
         let met = step::next(&options[at..]);
         match met {
             Step::Nop => {
-                at += 1;
+                at = behind_nops(options, at);
             }
             Step::Found { kind, header, size } => {
                 total += option_size(&options[at..], kind, header, size);
@@ -108,7 +109,7 @@ fn put_options(options: &[u8], buffer: &mut [u8], start: usize)
         let met = step::next(&options[at..]);
         match met {
             Step::Nop => {
-                at += 1;
+                at = behind_nops(options, at);
             }
             Step::Found { kind, header, size } => {
                 out = put_option(&options[at..], kind, header, size, buffer, out);
@@ -128,6 +129,14 @@ fn put_options(options: &[u8], buffer: &mut [u8], start: usize)
             }
         }
     }
+}
+
+// Where the list goes on behind the NOPs at `at`, which are passed together.
+fn behind_nops(options: &[u8], at: usize) -> usize
+    requires { ⌜ at ≤ length (now options) ⌝ }
+    ensures { λ r. ⌜ (r ≡ at + nopsOf (drop at (now (options .entry)))) × (r ≤ length (now (options .entry))) ⌝ }
+{
+    at + wire_nops::leading_nops(&options[at..])
 }
 
 // How many bytes one option is when encoded.

@@ -10,6 +10,7 @@ use lib.Dec.{eqb}
 use lib.ListN.{length, drop, replicate, length-drop, drop-of-length-le}
 use lib.Seq.{drop-drop}
 use Rattle.number_octets.proofs.ZeroBytes.{zero-only}
+use Rattle.wire_nops.specs.Nops.{nopsOf}
 use Rattle.wire_options.specs.Kinds.{frag}
 use Rattle.wire_options.specs.Step.{stepOf}
 use Rattle.wire_options.specs.Walk.{Item, Walked, listed, faulty, before, itemOf, sound, fillIsZero, walkAt, walkFrom, itemsOf}
@@ -19,6 +20,7 @@ use Rattle.wire_options.specs.declared.walk.Fault.{Fault}
 use Rattle.wire_options.specs.declared.walk.Fault.the-variants.{Malformed, Tail}
 use Rattle.wire_options.proofs.Steps.{step-found}
 use Rattle.wire_options.proofs.Stricts.{walk-skip}
+use Rattle.wire_options.proofs.Runs.{plain-run}
 
 -- ---- one step
 
@@ -171,6 +173,16 @@ module _ {s : List ℕ} {at : ℕ} {items : List Item} (r : Rest s at items) whe
   pub rest-over : length s ≤ at → [] ≡ items
   unfolding walkFrom
   rest-over h = let over : listed [] 0 ≡ listed items (r .fill) = sym (ap (walkFrom (r .room) 0) (drop-of-length-le s h)) ∙ r .walks in cc
+
+  -- NOPs in a row are passed together
+  pub rest-nops : Rest s (at + nopsOf (drop at s)) items
+  rest-nops =
+      let l : List ℕ = drop at s in
+      record {
+        room = r .room;
+        fill = r .fill;
+        walks = ap (walkFrom (r .room) 0) (sym (drop-drop (nopsOf l) at s)) ∙ sym (plain-run (r .room) l) ∙ r .walks;
+      }
 
   pub rest-by : {step : Step} → at < length s → stepOf (drop at s) ≡ step → RestBy s at items step
   rest-by {step} h e = go step e (lists-by (r .room) l items (r .fill) step (simp length-drop (omega arith)) e (r .walks))

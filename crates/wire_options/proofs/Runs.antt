@@ -11,11 +11,14 @@ use lib.ListN.{drop}
 use Rattle.wire_nops.specs.Nops.{nop, nopLimit, nopsOf, isPadding}
 use Rattle.wire_nops.specs.declared.Strictness.{Strictness}
 use Rattle.wire_nops.specs.declared.Strictness.the-variants.{Plain, Strict}
+use Rattle.wire_nops.proofs.Counts.{nops-some}
+use Rattle.wire_options.specs.Step.{stepOf}
 use Rattle.wire_options.specs.Walk.{faulty, walkAt, walkFrom}
 use Rattle.wire_options.specs.Strict.{strictAt, strictFrom, walkBy}
 use Rattle.wire_options.specs.declared.step.Step.{Step}
+use Rattle.wire_options.specs.declared.step.Step.the-variants.{Nop}
 use Rattle.wire_options.specs.declared.walk.Fault.the-variants.{Padded}
-use Rattle.wire_options.proofs.Steps.{nop-step}
+use Rattle.wire_options.proofs.Steps.{nop-step, nop-byte}
 use Rattle.wire_options.proofs.Stricts.{count-free}
 
 -- one NOP at the front
@@ -28,7 +31,7 @@ pub strict-nop : (nops room : ℕ) (bs : List ℕ)
 unfolding strictFrom
 strict-nop nops room bs = ap (λ (s : Step). strictAt nops room (nop ∷ bs) s (λ n left skip. strictFrom n left skip bs)) (nop-step bs)
 
-plain-run : (room : ℕ) (l : List ℕ) → walkFrom room 0 l ≡ walkFrom room 0 (drop (nopsOf l) l)
+pub plain-run : (room : ℕ) (l : List ℕ) → walkFrom room 0 l ≡ walkFrom room 0 (drop (nopsOf l) l)
 unfolding nopsOf
 plain-run room [] = refl
 plain-run room (b ∷ bs) = go (eqb b nop) refl (plain-run room bs)
@@ -40,6 +43,12 @@ plain-run room (b ∷ bs) = go (eqb b nop) refl (plain-run room bs)
         let more : suc (nopsOf bs) ≡ 1 + nopsOf bs = omega arith in
         ap (λ (k : ℕ). walkFrom room 0 (k ∷ bs)) (eqb-true b nop e) ∙ walk-nop room bs ∙ ih
         ∙ ap (λ (k : ℕ). walkFrom room 0 (drop k (b ∷ bs))) more
+
+-- a NOP at the front is one of them
+pub run-some : (l : List ℕ) → stepOf l ≡ Nop → 0 < nopsOf l
+unfolding stepOf
+run-some [] e = absurd (let z : _≡_ {A = ℕ} 0 1 = cc in omega arith)
+run-some (b ∷ bs) e = nops-some b bs (nop-byte b bs e) .0
 
 strict-run : (nops room : ℕ) (l : List ℕ) → nops + nopsOf l ≤ nopLimit → strictFrom nops room 0 l ≡ strictFrom 0 room 0 (drop (nopsOf l) l)
 unfolding nopsOf strictFrom

@@ -375,6 +375,77 @@ fn write(payload: Payload) -> Case {
     )
 }
 
+/// A payload as either side read it, and the buffer that both list it into.
+struct Listed {
+    payload: Payload,
+    library: wuraketozo::Reading,
+    reference: plain::Reading,
+    buffer: Vec<u8>,
+}
+
+impl Listed {
+    fn list(&mut self) -> Result<wuraketozo::Listing, wuraketozo::Refusal> {
+        let bytes = black_box(&self.payload.bytes);
+        wuraketozo::list(bytes, &self.library, &mut self.buffer)
+    }
+
+    fn list_plain(&mut self) -> Result<plain::docket::Listing, u32> {
+        let bytes = black_box(&self.payload.bytes);
+        plain::docket::list_options(bytes, &self.reference, &mut self.buffer)
+    }
+
+    /// Whether both list it, and list the same.
+    fn alike(&mut self) -> bool {
+        self.buffer.fill(0xA5);
+        let one = self.list();
+        let left = self.buffer.clone();
+        self.buffer.fill(0xA5);
+        let (Ok(one), Ok(two)) = (one, self.list_plain()) else {
+            return false;
+        };
+        (one.size, one.fill) == (two.length, two.fill) && left == self.buffer
+    }
+}
+
+/// A case of listing what was read plainly.
+fn list(payload: Payload) -> Case {
+    let (Ok(library), Ok(reference)) = (
+        payload.read(PLAIN.library),
+        payload.read_plain(PLAIN.reference),
+    ) else {
+        unreachable!("{} is read", payload.words)
+    };
+    case(
+        format!("list {}", payload.words),
+        payload.bytes.len(),
+        Listed {
+            payload,
+            library,
+            reference,
+            buffer: vec![0; 1_500],
+        },
+        |listed| {
+            let _ = black_box(listed.list());
+            black_box(&listed.buffer);
+        },
+        |listed| {
+            let _ = black_box(listed.list_plain());
+            black_box(&listed.buffer);
+        },
+        Listed::alike,
+    )
+}
+
+fn listings() -> Vec<Case> {
+    vec![
+        list(Payload::short_list(64, false, false)),
+        list(Payload::full_list()),
+        list(Payload::long_option()),
+        list(Payload::nops_behind(1_400)),
+        list(Payload::nops(65_000)),
+    ]
+}
+
 const SIZES: [usize; 3] = [64, 1_472, 65_515];
 const FILLS: [usize; 2] = [1_400, 65_000];
 
@@ -416,6 +487,7 @@ pub fn all() -> Vec<Case> {
     cases.push(read(Payload::full_list()));
     cases.extend(FILLS.map(|fill| read(Payload::filled(fill))));
     cases.extend(runs_of_nops());
+    cases.extend(listings());
     cases.extend(payloads().into_iter().map(write));
     cases.extend(tables::all());
     cases

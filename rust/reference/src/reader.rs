@@ -549,7 +549,7 @@ impl<'a> Iterator for Options<'a> {
     fn next(&mut self) -> Option<ReadOption<'a>> {
         loop {
             match step(self.list, self.at) {
-                Step::Nop => self.at += 1,
+                Step::Nop => self.at = skip_nops(self.list, self.at, Strictness::Plain).ok()?,
                 Step::Sound { kind, body, next } => {
                     self.at = next;
                     let list = self.list;

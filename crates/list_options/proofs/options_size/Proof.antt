@@ -12,7 +12,8 @@ use Rattle.wire_options.specs.Step.{stepOf}
 use Rattle.wire_options.specs.Walk.{Item, itemOf, walkFrom, optionLimit, itemsOf}
 use Rattle.wire_options.specs.declared.step.Step.{Step}
 use Rattle.wire_options.specs.declared.step.Step.the-variants.{Found}
-use Rattle.wire_options.proofs.Rests.{Rest, RestBy, Taken, rest-over, rest-by}
+use Rattle.wire_options.proofs.Runs.{run-some}
+use Rattle.wire_options.proofs.Rests.{Rest, RestBy, Taken, rest-over, rest-nops, rest-by}
 use Rattle.list_encoding.specs.Encoding.{encodedOption}
 use Rattle.list_options.specs.Listing.{unworked}
 use Rattle.list_options.proofs.Listings.{walk-short}
@@ -110,20 +111,22 @@ next-requires c κs = search needs
 enum-told : tie.Need-enum-told Inv-loop μ-loop
 enum-told c = search needs
 
-add-at : tie.Need-add-at Inv-loop μ-loop
-add-at c = omega (arith, c .before .before .before .before .loop-test .taken)
+behind-nops-requires : tie.Need-behind-nops-requires Inv-loop μ-loop
+behind-nops-requires c κs = search needs
 
 loop-less : tie.Need-loop-less Inv-loop μ-loop
-loop-less c = omega (arith, c .before .before .before .before .loop-test .taken)
+loop-less c =
+    let n = c .before .before .before in
+    omega (arith, n .before .before .loop-test .taken, c .behind-nops .ensures, run-some (rest n) (stepped n ∙ c .before .enum-told .given .1))
 
 loop-again : tie.Need-loop-again Inv-loop μ-loop
 loop-again c =
-    let n = c .before .before in
+    let n = c .before .before .before in
     let l = at-loop n .loop in (
-      omega (arith, n .before .before .loop-test .taken),
+      c .behind-nops .ensures .1,
       record {
         items = l .inv .1 .items;
-        rest = to-come n (c .enum-told .given .1);
+        rest = rw (c .behind-nops .ensures .0) (rest-nops (l .inv .1 .rest));
         sum = l .inv .1 .sum;
       },
     )
@@ -146,8 +149,8 @@ option-size-requires c κs = let k = c .before in rw (part-rest (at-loop (here k
 add-total : tie.Need-add-total Inv-loop μ-loop
 add-total c = omega (arith, counted c, walk-short (all (here (c .before .before))) (bytes (at-loop (here (c .before .before)) .before)))
 
-add-at-2 : tie.Need-add-at-2 Inv-loop μ-loop
-add-at-2 c = let t = taken (c .before .before) in omega (arith, t .some, t .fits)
+add-at : tie.Need-add-at Inv-loop μ-loop
+add-at c = let t = taken (c .before .before) in omega (arith, t .some, t .fits)
 
 loop-less-2 : tie.Need-loop-less-2 Inv-loop μ-loop
 loop-less-2 c = let t = taken (c .before .before) in omega (arith, t .some, t .fits)
@@ -195,7 +198,7 @@ options-size-spec =
     part-next-end
     next-requires
     enum-told
-    add-at
+    behind-nops-requires
     loop-less
     loop-again
     enum-known-met
@@ -204,7 +207,7 @@ options-size-spec =
     part-option-size-end
     option-size-requires
     add-total
-    add-at-2
+    add-at
     loop-less-2
     loop-again-2
     enum-told-2
