@@ -11,8 +11,8 @@ use Rattle.number_checksum.specs.Checksum.{wordSum, folded, sent}
 use Rattle.number_varint.specs.SevenBit as SevenBit
 use Rattle.number_varint.specs.SevenBit.{isLast, isIdle, isNarrow, inFront, front, narrowed, groups, encoded}
 use Rattle.wire_nops.specs.Nops.{nopsOf}
-use Rattle.wire_options.specs.Kinds.{classOf}
-use Rattle.wire_options.specs.Step.{headerOf, stepOf}
+use Rattle.wire_step.specs.Kinds.{classOf}
+use Rattle.wire_step.specs.Step.{headerOf, stepOf}
 use Rattle.wire_options.specs.Walk.{optionLimit, walkFrom}
 use Rattle.wire_area.specs.Area.{areaOf}
 use Rattle.wire_surplus.specs.Surplus.{startOf}

@@ -10,7 +10,7 @@ use borrow.Author.Tests.{ne-eqb, le-leb, lt-leb}
 use lib.Dec.{eqb, leb}
 use lib.ListN.{length, drop, drop-of-length-le}
 use lib.Seq.{drop-cons}
-use Rattle.wire_options.specs.Kinds.{apc}
+use Rattle.wire_step.specs.Kinds.{apc}
 use Rattle.wire_options.specs.Walk.{Item, optionLimit}
 use Rattle.list_encoding.specs.Shape.{Shape, fields, raw, barred, shapeOf}
 use Rattle.list_encoding.specs.Encoding.{

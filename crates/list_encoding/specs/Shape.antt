@@ -3,7 +3,7 @@ use Prim.Native.Nat.{ℕ}
 use mathlib.Core.Bool.{cond}
 use mathlib.Core.List.{List, []}
 use lib.Dec.{eqb, leb}
-use Rattle.wire_options.specs.Kinds.{apc, widthsOf}
+use Rattle.wire_step.specs.Kinds.{apc, widthsOf}
 
 -- "its kind and fields as numbers", the fields given by their widths in bytes; "a body length (0 to 65,531) and the raw body"; or refused
 pub data Shape : Type 0 where

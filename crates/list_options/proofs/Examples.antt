@@ -8,8 +8,8 @@ use lib.ListN.{replicate}
 use Rattle.number_octets.specs.Octets.{number}
 use Rattle.number_octets.specs.Zeros.{allZero}
 use Rattle.number_varint.specs.SevenBit.{isLast, groups, encoded}
-use Rattle.wire_options.specs.Kinds.{classOf}
-use Rattle.wire_options.specs.Step.{headerOf, stepOf}
+use Rattle.wire_step.specs.Kinds.{classOf}
+use Rattle.wire_step.specs.Step.{headerOf, stepOf}
 use Rattle.wire_options.specs.Walk.{walkFrom, optionLimit}
 use Rattle.list_encoding.specs.Shape.{shapeOf}
 use Rattle.list_encoding.specs.Encoding.{encodedFields, encodedBody, encodedOption, encodedOptions, encodedList}

@@ -11,13 +11,13 @@ use lib.Dec.{eqb, leb}
 use lib.ListN.{length, getD}
 use Rattle.number_octets.specs.Octets.{Octets, number, part}
 use Rattle.number_octets.proofs.Laws.{number-lt, length-part, part-bytes}
-use Rattle.wire_options.specs.Kinds.{classOf, frag}
-use Rattle.wire_options.specs.Step.{headerOf, stepIn, stepOf}
-use Rattle.wire_options.specs.declared.step.Class.{Class}
-use Rattle.wire_options.specs.declared.step.Class.the-variants.{EndOfList, NoOperation, Fixed, Varying, Unsafe}
-use Rattle.wire_options.specs.declared.step.Header.the-variants.{Sound}
-use Rattle.wire_options.specs.declared.step.Step.the-variants.{Found}
-use Rattle.wire_options.proofs.Steps.{header-sound, step-found}
+use Rattle.wire_step.specs.Kinds.{classOf, frag}
+use Rattle.wire_step.specs.Step.{headerOf, stepIn, stepOf}
+use Rattle.wire_step.specs.declared.Class.{Class}
+use Rattle.wire_step.specs.declared.Class.the-variants.{EndOfList, NoOperation, Fixed, Varying, Unsafe}
+use Rattle.wire_step.specs.declared.Header.the-variants.{Sound}
+use Rattle.wire_step.specs.declared.Step.the-variants.{Found}
+use Rattle.wire_step.proofs.Steps.{header-sound, step-found}
 use Rattle.list_encoding.specs.Shape.{Shape, fields, raw, barred, shapeOf}
 use Rattle.list_encoding.specs.Encoding.{longestBody, total}
 use Rattle.list_encoding.specs.Wire.{fieldsOnWire}

@@ -9,7 +9,7 @@ use lib.ListN.{length, drop}
 use Rattle.number_octets.specs.Octets.{part, overlay}
 use Rattle.number_varint.specs.SevenBit.{encoded}
 pub use Rattle.number_varint.specs.Answer.{tooSmall}
-use Rattle.wire_options.specs.Kinds.{apc}
+use Rattle.wire_step.specs.Kinds.{apc}
 use Rattle.wire_options.specs.Walk.{Item, Walked, listed, faulty, itemsOf}
 use Rattle.list_encoding.specs.Shape.{shapeOf}
 use Rattle.list_encoding.specs.Encoding.{Answer, given, refused, itemOf, encodedBody, encodedList, longestBody}

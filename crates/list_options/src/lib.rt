@@ -1,18 +1,17 @@
 // Listing the options of a datagram as an encoded option list.
 use number_varint::Encoded;
 use wire_nops::Strictness;
-use wire_options::step;
-use wire_options::step::Step;
 use wire_options::walk;
 use wire_options::walk::Walk;
+use wire_step::Step;
 ghost use mathlib.Core.Path.{_≡_};
 ghost use Prim.Native.Nat.{_+_, _≤_};
 ghost use lib.ListN.{length, drop};
 ghost use Rattle.number_octets.specs.Octets.{overlay};
 ghost use Rattle.number_varint.specs.SevenBit.{encoded};
 ghost use Rattle.wire_nops.specs.Nops.{nopsOf};
-ghost use Rattle.wire_options.specs.Kinds.{frag};
-ghost use Rattle.wire_options.specs.Step.{stepOf};
+ghost use Rattle.wire_step.specs.Kinds.{frag};
+ghost use Rattle.wire_step.specs.Step.{stepOf};
 ghost use Rattle.wire_options.specs.Walk.{itemOf, walkFrom, optionLimit, itemsOf};
 ghost use Rattle.list_encoding.specs.Encoding.{encodedOption, encodedOptions};
 ghost use Rattle.list_options.specs.Listing.{unworked, unworkedAll, fillOf, Sound, ListedInto, contentCode, Within, ContentOf, WrittenAt};
@@ -70,7 +69,7 @@ fn options_size(options: &[u8]) -> usize
     let mut at = 0;
     let mut total = 0;
     while at < options.len() {
-        let met = step::next(&options[at..]);
+        let met = wire_step::next(&options[at..]);
         match met {
             Step::Nop => {
                 at = behind_nops(options, at);
@@ -106,7 +105,7 @@ fn put_options(options: &[u8], buffer: &mut [u8], start: usize)
     let mut at = 0;
     let mut out = start;
     while at < options.len() {
-        let met = step::next(&options[at..]);
+        let met = wire_step::next(&options[at..]);
         match met {
             Step::Nop => {
                 at = behind_nops(options, at);

@@ -18,11 +18,11 @@ use Rattle.number_checksum.proofs.Laws.{sent-pos, sent-le, folded-le, field-law
 use Rattle.wire_nops.specs.Nops.{nopLimit, nopsOf}
 use Rattle.wire_nops.specs.declared.Strictness.{Strictness}
 use Rattle.wire_nops.specs.declared.Strictness.the-variants.{Plain, Strict}
-use Rattle.wire_options.specs.Kinds.{classOf, nop, frag}
+use Rattle.wire_step.specs.Kinds.{classOf, nop, frag}
+use Rattle.wire_step.specs.declared.Class.the-variants.{NoOperation, Fixed, Varying}
 use Rattle.wire_options.specs.Walk.{Item, listed, walkFrom, optionLimit}
 use Rattle.wire_options.specs.Strict.{strictFrom, walkBy}
 use Rattle.wire_area.specs.Area.{plain, plainly, areaOf as areaWalk}
-use Rattle.wire_options.specs.declared.step.Class.the-variants.{NoOperation, Fixed, Varying}
 use Rattle.wire_surplus.specs.Surplus.{padOf, ocsOf, startOf}
 use Rattle.wire_surplus.specs.declared.Start.the-variants.{List as ListAt}
 use Rattle.wire_surplus.proofs.Starts.{start-odd, start-even, summed-right}

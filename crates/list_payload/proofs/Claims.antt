@@ -16,10 +16,10 @@ use Rattle.number_offsets.specs.Offsets.{udpHeader}
 use Rattle.number_crc32c.specs.Crc.{crcOf}
 use Rattle.number_crc32c.proofs.Laws.{crcOf-lt}
 use Rattle.wire_nops.specs.declared.Strictness.{Strictness}
-use Rattle.wire_options.specs.Kinds.{classOf, apc, frag}
+use Rattle.wire_step.specs.Kinds.{classOf, apc, frag}
+use Rattle.wire_step.specs.declared.Class.the-variants.{Fixed}
+use Rattle.wire_step.proofs.Classes.{class-varying}
 use Rattle.wire_options.specs.Walk.{Item, listed, walkFrom, optionLimit}
-use Rattle.wire_options.specs.declared.step.Class.the-variants.{Fixed}
-use Rattle.wire_options.proofs.Classes.{class-varying}
 use Rattle.wire_datagram.specs.Reading.{payloadLimit, extent, apcValues, allAre, apcOf, reads, reading}
 use Rattle.wire_datagram.specs.declared.reading.Apc.the-variants.{Absent, Right, Wrong}
 use Rattle.wire_datagram.specs.declared.reading.Verdict.the-variants.{Read}

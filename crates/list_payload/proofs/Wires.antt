@@ -16,14 +16,14 @@ use Rattle.number_octets.proofs.ZeroBytes.{zero-alike}
 use Rattle.number_octets.proofs.Laws.{length-octets, number-octets}
 use Rattle.wire_nops.specs.declared.Strictness.{Strictness}
 use Rattle.wire_nops.specs.declared.Strictness.the-variants.{Plain, Strict}
-use Rattle.wire_options.specs.Kinds.{classOf, eol, frag}
-use Rattle.wire_options.specs.Step.{headerOf, stepOf, stepIn, fixedStep, varyingStep}
+use Rattle.wire_step.specs.Kinds.{classOf, eol, frag}
+use Rattle.wire_step.specs.Step.{headerOf, stepOf, stepIn, fixedStep, varyingStep}
+use Rattle.wire_step.specs.declared.Class.{Class}
+use Rattle.wire_step.specs.declared.Class.the-variants.{Fixed, Varying}
+use Rattle.wire_step.specs.declared.Header.the-variants.{Sound}
+use Rattle.wire_step.specs.declared.Step.the-variants.{Eol, Found}
 use Rattle.wire_options.specs.Walk.{Item, listed, faulty, before, itemOf, walkFrom}
 use Rattle.wire_options.specs.Strict.{strictFrom, walkBy}
-use Rattle.wire_options.specs.declared.step.Class.{Class}
-use Rattle.wire_options.specs.declared.step.Class.the-variants.{Fixed, Varying}
-use Rattle.wire_options.specs.declared.step.Header.the-variants.{Sound}
-use Rattle.wire_options.specs.declared.step.Step.the-variants.{Eol, Found}
 use Rattle.wire_options.specs.declared.walk.Fault.the-variants.{Tail}
 use Rattle.wire_options.proofs.Stricts.{walk-other, walk-found}
 use Rattle.list_encoding.specs.Wire.{longestShort}

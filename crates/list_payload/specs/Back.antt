@@ -6,7 +6,7 @@ use Prim.Native.Nat.{ℕ}
 use lib.Dec.{eqb}
 use lib.ListN.{length, take, drop}
 use Rattle.wire_nops.specs.declared.Strictness.{Strictness}
-use Rattle.wire_options.specs.Kinds.{apc}
+use Rattle.wire_step.specs.Kinds.{apc}
 use Rattle.wire_options.specs.Walk.{Item, Walked, listed, walkFrom, optionLimit}
 use Rattle.wire_datagram.specs.Extents.{bytesIn}
 use Rattle.wire_datagram.specs.Reading.{reads, reading}

@@ -8,7 +8,7 @@ use Rattle.number_octets.specs.Octets.{octets}
 use Rattle.number_offsets.specs.Offsets.{udpHeader}
 use Rattle.number_checksum.specs.Checksum.{wordSum, folded, sent}
 use Rattle.number_crc32c.specs.Crc.{crcOf}
-use Rattle.wire_options.specs.Kinds.{apc}
+use Rattle.wire_step.specs.Kinds.{apc}
 use Rattle.wire_options.specs.Walk.{Item}
 use Rattle.wire_datagram.specs.Reading.{pseudoHeader, udpSum, isOdd}
 use Rattle.list_encoding.specs.Wire.{longestShort, crcWidth}

@@ -5,8 +5,8 @@ use mathlib.Core.List.{List, [], _∷_}
 use Prim.Native.Nat.{ℕ}
 use Rattle.number_octets.specs.Octets.{number}
 use Rattle.number_varint.specs.SevenBit.{isLast, groups, encoded}
-use Rattle.wire_options.specs.Kinds.{classOf}
-use Rattle.wire_options.specs.Step.{headerOf, stepOf}
+use Rattle.wire_step.specs.Kinds.{classOf}
+use Rattle.wire_step.specs.Step.{headerOf, stepOf}
 use Rattle.wire_options.specs.Walk.{listed, walkFrom, optionLimit}
 use Rattle.wire_datagram.specs.declared.reading.Verdict.the-variants.{BadSum, Read}
 use Rattle.list_encoding.specs.Shape.{shapeOf}

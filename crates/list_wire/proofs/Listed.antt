@@ -12,7 +12,7 @@ use lib.Seq.{length-take-le, take-all}
 use Rattle.number_octets.specs.Octets.{Octets, number, octets, part}
 use Rattle.number_octets.proofs.Laws.{length-octets, octets-number, part-bytes}
 use Rattle.number_crc32c.specs.Crc.{crcOf}
-use Rattle.wire_options.specs.Kinds.{apc}
+use Rattle.wire_step.specs.Kinds.{apc}
 use Rattle.wire_options.specs.Walk.{Item, optionLimit}
 use Rattle.list_encoding.specs.Shape.{fields, raw, shapeOf}
 use Rattle.list_encoding.specs.Encoding.{given, Read, got, failed, andThen, readAs, readNumber, readOption, readOptions, decodedList, itemOf, total}

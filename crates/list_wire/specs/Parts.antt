@@ -7,7 +7,7 @@ use lib.Dec.{eqb, leb}
 use lib.ListN.{length, drop, replicate}
 use Rattle.number_octets.specs.Octets.{octets, overlay}
 use Rattle.number_crc32c.specs.Crc.{crcOf}
-use Rattle.wire_options.specs.Kinds.{apc}
+use Rattle.wire_step.specs.Kinds.{apc}
 use Rattle.wire_options.specs.Walk.{Item}
 use Rattle.wire_datagram.specs.Reading.{isOdd}
 use Rattle.list_encoding.specs.Shape.{shapeOf}

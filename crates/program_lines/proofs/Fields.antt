@@ -12,11 +12,11 @@ use lib.ListN.{length, take, drop, getD, length-drop}
 use lib.Seq.{take-take, drop-drop}
 use Rattle.number_octets.specs.Octets.{number, part}
 use Rattle.number_octets.proofs.Laws.{part-take, part-one}
-use Rattle.wire_options.specs.Kinds.{classOf, widthsOf}
-use Rattle.wire_options.specs.Step.{stepOf}
-use Rattle.wire_options.specs.declared.step.Class.the-variants.{Fixed}
-use Rattle.wire_options.specs.declared.step.Step.the-variants.{Found}
-use Rattle.wire_options.proofs.Steps.{step-found}
+use Rattle.wire_step.specs.Kinds.{classOf, widthsOf}
+use Rattle.wire_step.specs.Step.{stepOf}
+use Rattle.wire_step.specs.declared.Class.the-variants.{Fixed}
+use Rattle.wire_step.specs.declared.Step.the-variants.{Found}
+use Rattle.wire_step.proofs.Steps.{step-found}
 use Rattle.program_text.specs.Digits.{decimalOf, hexOf}
 use Rattle.program_text.specs.Characters.{blank}
 use Rattle.program_lines.specs.Lines.{numbersOf, bodyOf, fieldsBy, fieldsOf}

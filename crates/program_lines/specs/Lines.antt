@@ -4,7 +4,7 @@ use mathlib.Core.List.{List, [], _∷_, _++_}
 use Prim.Native.Nat.{ℕ}
 use lib.ListN.{take, drop}
 use Rattle.number_octets.specs.Octets.{number}
-use Rattle.wire_options.specs.Kinds.{widthsOf}
+use Rattle.wire_step.specs.Kinds.{widthsOf}
 use Rattle.wire_options.specs.Walk.{Item, Walked, listed, faulty}
 pub use Rattle.wire_options.specs.Walk.{itemsOf}
 use Rattle.program_text.specs.Digits.{decimalOf, hexOf}

@@ -1,15 +1,14 @@
 // The lines of an option list.
-use wire_options::step;
-use wire_options::step::Step;
+use wire_step::Step;
 ghost use mathlib.Core.Path.{_≡_};
 ghost use mathlib.Core.Bool.{true};
 ghost use mathlib.Core.List.{_++_, _∷_, []};
 ghost use Prim.Native.Nat.{_-_, _≤_};
 ghost use lib.ListN.{length};
 ghost use Rattle.number_octets.specs.Octets.{part};
-ghost use Rattle.wire_options.specs.Step.{stepOf};
+ghost use Rattle.wire_step.specs.Step.{stepOf};
+ghost use Rattle.wire_step.specs.declared.Step.{Step};
 ghost use Rattle.wire_options.specs.Walk.{itemOf, walkFrom, optionLimit};
-ghost use Rattle.wire_options.specs.declared.step.Step.{Step};
 ghost use Rattle.program_text.specs.Digits.{decimalOf};
 ghost use Rattle.program_text.specs.Characters.{blank};
 ghost use Rattle.program_text.specs.Put.{Put};
@@ -23,7 +22,7 @@ pub fn put_items(list: &[u8], text: &mut [u8], at: usize) -> usize
     let mut end = at;
     let mut from = 0;
     while from < list.len() {
-        let step = step::next(&list[from..]);
+        let step = wire_step::next(&list[from..]);
         match step {
             Step::Found { kind, header, size } => {
                 end = put_item(&list[from..], kind, header, size, text, end);

@@ -8,8 +8,8 @@ use Rattle.number_octets.specs.Octets.{number, octets}
 use Rattle.number_offsets.specs.Offsets.{udpHeader}
 use Rattle.number_checksum.specs.Checksum.{wordSum, folded}
 use Rattle.wire_nops.specs.Nops.{nopsOf}
-use Rattle.wire_options.specs.Kinds.{classOf}
-use Rattle.wire_options.specs.Step.{headerOf, stepOf}
+use Rattle.wire_step.specs.Kinds.{classOf}
+use Rattle.wire_step.specs.Step.{headerOf, stepOf}
 use Rattle.wire_options.specs.Walk.{walkFrom, optionLimit}
 use Rattle.wire_area.specs.Area.{areaOf}
 use Rattle.wire_surplus.specs.Surplus.{startOf}

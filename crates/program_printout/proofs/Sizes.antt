@@ -12,6 +12,7 @@ use lib.ListN.{length, take, drop, length-append, length-take, length-drop}
 use Rattle.number_tests.proofs.Tests.{first-none}
 use Rattle.number_octets.specs.Octets.{number, part}
 use Rattle.wire_nops.specs.declared.Strictness.the-variants.{Plain}
+use Rattle.wire_step.specs.Kinds.{widthsOf}
 use Rattle.wire_options.specs.Walk.{Item, Walked, listed, faulty, walkFrom, optionLimit}
 use Rattle.wire_options.proofs.Sizes.{bodySizes, walk-bounded}
 use Rattle.wire_datagram.specs.Extents.{bytesIn, sizeOf}
@@ -21,7 +22,6 @@ use Rattle.wire_datagram.specs.declared.reading.Reading.{Reading}
 use Rattle.wire_datagram.specs.declared.reading.Verdict.{Verdict}
 use Rattle.wire_datagram.specs.declared.reading.Verdict.the-variants.{Bare, Short, Pad, Unsummed, BadSum, Malformed, Unsafe, FragData, Crowded, Tail, Padded, Read, Piece}
 use Rattle.wire_datagram.proofs.Claims.{met-none}
-use Rattle.wire_options.specs.Kinds.{widthsOf}
 use Rattle.program_text.specs.Digits.{digit, digitsIn, longest, decimalOf, hexOf}
 use Rattle.program_text.specs.Characters.{blank, newline}
 use Rattle.program_lines.specs.Lines.{numbersOf, bodyOf, fieldsBy, fieldsOf, itemLine, itemLines, itemsOf}

@@ -15,8 +15,11 @@ use Rattle.number_offsets.specs.declared.Origin.{Origin}
 use Rattle.number_offsets.specs.declared.Origin.the-variants.{At, BeforeData}
 use Rattle.wire_nops.specs.Nops.{nopsOf, isPadding}
 use Rattle.wire_nops.specs.declared.Strictness.{Strictness}
-use Rattle.wire_options.specs.Kinds.{classOf, eol, frag}
-use Rattle.wire_options.specs.Step.{stepOf}
+use Rattle.wire_step.specs.Kinds.{classOf, eol, frag}
+use Rattle.wire_step.specs.Step.{stepOf}
+use Rattle.wire_step.specs.declared.Step.{Step}
+use Rattle.wire_step.specs.declared.Step.the-variants.{End, Eol, Nop, Found, Malformed as Unsound, Outlawed}
+use Rattle.wire_step.proofs.Steps.{step-found}
 use Rattle.wire_options.specs.Walk.{Item, Walked, listed, faulty, walkFrom, optionLimit}
 use Rattle.wire_options.specs.Strict.{walkBy}
 use Rattle.wire_area.specs.Area.{
@@ -35,14 +38,11 @@ use Rattle.wire_area.specs.Area.{
   behindNops,
   areaOf,
 }
-use Rattle.wire_options.specs.declared.step.Step.{Step}
-use Rattle.wire_options.specs.declared.step.Step.the-variants.{End, Eol, Nop, Found, Malformed as Unsound, Outlawed}
 use Rattle.wire_options.specs.declared.walk.Fault.the-variants.{FragData, Padded}
 use Rattle.wire_area.specs.declared.Fields.{Fields}
 use Rattle.wire_area.specs.declared.Fragment.{Fragment}
 use Rattle.wire_area.specs.declared.Placed.{Placed}
 use Rattle.wire_area.specs.declared.Placed.the-variants.{Sound, Refused}
-use Rattle.wire_options.proofs.Steps.{step-found}
 use Rattle.wire_options.proofs.Stricts.{listed-plain}
 
 -- ---- FRAG

@@ -12,8 +12,8 @@ use Rattle.number_offsets.specs.Offsets.{udpHeader, placeOf}
 use Rattle.wire_nops.specs.Nops.{nopLimit, nopsOf}
 use Rattle.wire_nops.specs.declared.Strictness.the-variants.{Plain, Strict}
 use Rattle.wire_nops.proofs.Examples.{padded}
-use Rattle.wire_options.specs.Kinds.{classOf}
-use Rattle.wire_options.specs.Step.{headerOf, stepOf}
+use Rattle.wire_step.specs.Kinds.{classOf}
+use Rattle.wire_step.specs.Step.{headerOf, stepOf}
 use Rattle.wire_options.specs.Strict.{strictFrom}
 use Rattle.wire_options.specs.Walk.{walkFrom, optionLimit}
 use Rattle.wire_options.specs.declared.walk.Fault.the-variants.{FragData, Tail, Padded}

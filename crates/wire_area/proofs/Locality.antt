@@ -15,14 +15,14 @@ use Rattle.number_octets.specs.Octets.{number, part}
 use Rattle.number_offsets.specs.Offsets.{udpHeader}
 use Rattle.wire_nops.specs.Nops.{nopsOf, isPadding}
 use Rattle.wire_nops.specs.declared.Strictness.{Strictness}
-use Rattle.wire_options.specs.Kinds.{classOf, eol, nop, frag, lastFragSize}
-use Rattle.wire_options.specs.Step.{stepOf}
+use Rattle.wire_step.specs.Kinds.{classOf, eol, nop, frag, lastFragSize}
+use Rattle.wire_step.specs.Step.{stepOf}
+use Rattle.wire_step.specs.declared.Step.the-variants.{Found}
+use Rattle.wire_step.proofs.Steps.{step-found}
+use Rattle.wire_step.proofs.Locality.{byte-same, part-same, step-local}
 use Rattle.wire_options.specs.Walk.{optionLimit}
 use Rattle.wire_options.specs.Strict.{walkBy}
 use Rattle.wire_options.specs.declared.walk.Fault.the-variants.{Padded}
-use Rattle.wire_options.specs.declared.step.Step.the-variants.{Found}
-use Rattle.wire_options.proofs.Steps.{step-found}
-use Rattle.wire_options.proofs.Locality.{byte-same, part-same, step-local}
 use Rattle.wire_area.specs.Area.{fieldsOf, fragmentOf, piece, fault, pieceWith, behindFrag, areaOf}
 use Rattle.wire_area.specs.declared.Fields.{Fields}
 use Rattle.wire_area.specs.declared.Fragment.{Fragment}

@@ -10,12 +10,12 @@ use Rattle.number_offsets.specs.declared.Origin.{Origin}
 use Rattle.number_offsets.specs.declared.Origin.the-variants.{At, BeforeData}
 use Rattle.wire_nops.specs.Nops.{nopsOf, isPadding}
 use Rattle.wire_nops.specs.declared.Strictness.{Strictness}
-use Rattle.wire_options.specs.Kinds.{eol, frag, lastFragSize}
-use Rattle.wire_options.specs.Step.{stepOf}
+use Rattle.wire_step.specs.Kinds.{eol, frag, lastFragSize}
+use Rattle.wire_step.specs.Step.{stepOf}
+use Rattle.wire_step.specs.declared.Step.{Step}
+use Rattle.wire_step.specs.declared.Step.the-variants.{End, Eol, Nop, Found, Malformed as Unsound, Outlawed}
 use Rattle.wire_options.specs.Walk.{Item, Walked, listed, faulty, optionLimit, apcsOf}
 use Rattle.wire_options.specs.Strict.{walkBy}
-use Rattle.wire_options.specs.declared.step.Step.{Step}
-use Rattle.wire_options.specs.declared.step.Step.the-variants.{End, Eol, Nop, Found, Malformed as Unsound, Outlawed}
 use Rattle.wire_options.specs.declared.walk.Fault.{Fault}
 use Rattle.wire_options.specs.declared.walk.Fault.the-variants.{Malformed, FragData, Padded}
 use Rattle.wire_options.specs.declared.walk.Walk.{Walk}

@@ -3,17 +3,16 @@ use number_offsets::Origin;
 use number_offsets::OriginalOffset;
 use number_offsets::PacketOffset;
 use wire_nops::Strictness;
-use wire_options::step;
-use wire_options::step::Step;
 use wire_options::walk;
 use wire_options::walk::Apcs;
 use wire_options::walk::Fault;
 use wire_options::walk::Walk;
+use wire_step::Step;
 ghost use mathlib.Core.Path.{_≡_};
 ghost use Prim.Native.Nat.{_<_, _≤_};
 ghost use lib.ListN.{length, drop, getD};
-ghost use Rattle.wire_options.specs.Kinds.{frag};
-ghost use Rattle.wire_options.specs.Step.{stepOf};
+ghost use Rattle.wire_step.specs.Kinds.{frag};
+ghost use Rattle.wire_step.specs.Step.{stepOf};
 ghost use Rattle.wire_area.specs.Area.{fieldsOf, placedAt, fragmentOf, behindFrag, ledBy, areaOf, areaAnswer};
 ghost use Rattle.wire_area.specs.Area.{asPiece, asArea};
 
@@ -81,7 +80,7 @@ fn led(list: &[u8], base: PacketOffset, nops: usize, empty: bool, strictness: St
     ensures { λ r. ⌜ r ≡ areaAnswer (ledBy strictness empty (now (list .entry)) (base .0) nops (stepOf (drop nops (now (list .entry))))) ⌝ }
 {
     let rest = &list[nops..];
-    let step = step::next(rest);
+    let step = wire_step::next(rest);
     match step {
         Step::Found {
             kind: _,

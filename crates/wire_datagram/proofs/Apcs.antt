@@ -8,7 +8,7 @@ use borrow.Author.Tests.{eq-eqb, eqb-true, eqb-false}
 use lib.Dec.{eqb}
 use Rattle.number_octets.specs.Octets.{number}
 use Rattle.number_crc32c.specs.Crc.{crcOf}
-use Rattle.wire_options.specs.Kinds.{apc}
+use Rattle.wire_step.specs.Kinds.{apc}
 use Rattle.wire_options.specs.Walk.{Item, joined, apcsOf}
 use Rattle.wire_options.specs.declared.walk.Apcs.{Apcs}
 use Rattle.wire_options.specs.declared.walk.Apcs.the-variants.{Absent as absent, Same, Different}

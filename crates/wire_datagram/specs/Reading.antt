@@ -11,7 +11,7 @@ use Rattle.number_tests.specs.Tests.{firstOf}
 use Rattle.number_checksum.specs.Checksum.{wordSum, folded, allOnes}
 use Rattle.number_crc32c.specs.Crc.{crcOf}
 use Rattle.wire_nops.specs.declared.Strictness.{Strictness}
-use Rattle.wire_options.specs.Kinds.{apc}
+use Rattle.wire_step.specs.Kinds.{apc}
 use Rattle.wire_options.specs.Walk.{Item}
 use Rattle.wire_area.specs.Area.{AreaWalk, plain, piece, fault, areaOf}
 use Rattle.wire_options.specs.declared.walk.Fault.{Fault}

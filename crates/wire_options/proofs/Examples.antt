@@ -8,8 +8,8 @@ use Rattle.number_octets.specs.Zeros.{allZero}
 use Rattle.wire_nops.specs.Nops.{nopLimit}
 use Rattle.wire_nops.specs.declared.Strictness.the-variants.{Plain, Strict}
 use Rattle.wire_nops.proofs.Examples.{padded}
-use Rattle.wire_options.specs.Kinds.{classOf}
-use Rattle.wire_options.specs.Step.{headerOf, stepOf}
+use Rattle.wire_step.specs.Kinds.{classOf}
+use Rattle.wire_step.specs.Step.{headerOf, stepOf}
 use Rattle.wire_options.specs.Walk.{Item, listed, faulty, walkFrom, optionLimit}
 use Rattle.wire_options.specs.Strict.{strictFrom, walkBy}
 use Rattle.wire_options.specs.declared.walk.Fault.the-variants.{Malformed, Unsafe, Crowded, Tail, Padded}

@@ -5,8 +5,8 @@ use mathlib.Core.List.{List, _∷_}
 use Prim.Native.Nat.{ℕ, suc, _-_, _≤_}
 use native.Mathlib.Omega.{arith}
 use lib.ListN.{length, drop}
+use Rattle.wire_step.proofs.Steps.{step-found}
 use Rattle.wire_options.specs.Walk.{Item, listed, walkFrom}
-use Rattle.wire_options.proofs.Steps.{step-found}
 use Rattle.wire_options.proofs.Rests.{Fills, walk-all}
 
 pub walk-fills : (room skip : ℕ) (l : List ℕ) (items : List Item) (fill : ℕ) → skip ≤ length l → walkFrom room skip l ≡ listed items fill

@@ -1,4 +1,3 @@
-pub mod Classes
 pub mod Examples
 pub mod Fills
 pub mod Locality
@@ -6,7 +5,6 @@ pub mod Paddings
 pub mod Rests
 pub mod Runs
 pub mod Sizes
-pub mod Steps
 pub mod Stricts
 pub mod Tails
 pub mod Walks

@@ -14,14 +14,14 @@ use Rattle.wire_nops.specs.Nops.{nopLimit, nopsOf}
 use Rattle.wire_nops.specs.declared.Strictness.{Strictness}
 use Rattle.wire_nops.specs.declared.Strictness.the-variants.{Plain, Strict}
 use Rattle.wire_nops.proofs.Counts.{nops-some}
-use Rattle.wire_options.specs.Kinds.{nop, frag}
-use Rattle.wire_options.specs.Step.{stepOf}
+use Rattle.wire_step.specs.Kinds.{nop, frag}
+use Rattle.wire_step.specs.Step.{stepOf}
+use Rattle.wire_step.specs.declared.Step.{Step}
+use Rattle.wire_step.specs.declared.Step.the-variants.{End, Eol, Nop, Found, Malformed as Unsound, Outlawed}
+use Rattle.wire_step.proofs.Steps.{step-found, nop-byte}
 use Rattle.wire_options.specs.Walk.{Item, Walked, listed, faulty, before, itemOf, sound, fillIsZero}
 use Rattle.wire_options.specs.Strict.{strictAt, strictFrom, walkBy}
-use Rattle.wire_options.specs.declared.step.Step.{Step}
-use Rattle.wire_options.specs.declared.step.Step.the-variants.{End, Eol, Nop, Found, Malformed as Unsound, Outlawed}
 use Rattle.wire_options.specs.declared.walk.Fault.the-variants.{Malformed, Tail, Padded}
-use Rattle.wire_options.proofs.Steps.{step-found, nop-byte}
 use Rattle.wire_options.proofs.Stricts.{strict-found, plain-unpadded}
 use Rattle.wire_options.proofs.Runs.{strict-nop, strict-padded}
 

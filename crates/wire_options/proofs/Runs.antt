@@ -12,13 +12,13 @@ use Rattle.wire_nops.specs.Nops.{nop, nopLimit, nopsOf, isPadding}
 use Rattle.wire_nops.specs.declared.Strictness.{Strictness}
 use Rattle.wire_nops.specs.declared.Strictness.the-variants.{Plain, Strict}
 use Rattle.wire_nops.proofs.Counts.{nops-some}
-use Rattle.wire_options.specs.Step.{stepOf}
+use Rattle.wire_step.specs.Step.{stepOf}
+use Rattle.wire_step.specs.declared.Step.{Step}
+use Rattle.wire_step.specs.declared.Step.the-variants.{Nop}
+use Rattle.wire_step.proofs.Steps.{nop-step, nop-byte}
 use Rattle.wire_options.specs.Walk.{faulty, walkAt, walkFrom}
 use Rattle.wire_options.specs.Strict.{strictAt, strictFrom, walkBy}
-use Rattle.wire_options.specs.declared.step.Step.{Step}
-use Rattle.wire_options.specs.declared.step.Step.the-variants.{Nop}
 use Rattle.wire_options.specs.declared.walk.Fault.the-variants.{Padded}
-use Rattle.wire_options.proofs.Steps.{nop-step, nop-byte}
 use Rattle.wire_options.proofs.Stricts.{count-free}
 
 -- one NOP at the front

@@ -7,8 +7,8 @@ use Prim.Native.Nat.{ℕ, _+_, _-_, _≤_}
 use native.Mathlib.Omega.{arith}
 use lib.ListN.{length, length-take}
 use Rattle.number_octets.specs.Octets.{part}
+use Rattle.wire_step.proofs.Steps.{step-found}
 use Rattle.wire_options.specs.Walk.{Item, listed, walkFrom}
-use Rattle.wire_options.proofs.Steps.{step-found}
 use Rattle.wire_options.proofs.Rests.{walk-all}
 
 -- how long the bodies are together

@@ -13,14 +13,14 @@ use lib.ListN.{length, drop}
 use Rattle.wire_nops.specs.Nops.{isPadding}
 use Rattle.wire_nops.specs.declared.Strictness.{Strictness}
 use Rattle.wire_nops.specs.declared.Strictness.the-variants.{Plain, Strict}
-use Rattle.wire_options.specs.Kinds.{frag, nop}
-use Rattle.wire_options.specs.Step.{stepOf}
+use Rattle.wire_step.specs.Kinds.{frag, nop}
+use Rattle.wire_step.specs.Step.{stepOf}
+use Rattle.wire_step.specs.declared.Step.{Step}
+use Rattle.wire_step.specs.declared.Step.the-variants.{End, Eol, Nop, Found, Malformed as Unsound, Outlawed}
+use Rattle.wire_step.proofs.Steps.{step-found, nop-byte}
 use Rattle.wire_options.specs.Walk.{Item, Walked, listed, faulty, before, itemOf, sound, fillIsZero, walkAt, walkFrom}
 use Rattle.wire_options.specs.Strict.{strictAt, strictFrom, walkBy}
-use Rattle.wire_options.specs.declared.step.Step.{Step}
-use Rattle.wire_options.specs.declared.step.Step.the-variants.{End, Eol, Nop, Found, Malformed as Unsound, Outlawed}
 use Rattle.wire_options.specs.declared.walk.Fault.the-variants.{Malformed, Tail, Padded}
-use Rattle.wire_options.proofs.Steps.{step-found, nop-byte}
 
 -- ---- bytes to skip are dropped
 

@@ -13,16 +13,17 @@ use lib.Seq.{take-at}
 use Rattle.number_octets.specs.Zeros.{allZero}
 use Rattle.number_octets.proofs.ZeroBytes.{zero-alike}
 use Rattle.wire_nops.specs.declared.Strictness.{Strictness}
-use Rattle.wire_options.specs.Kinds.{classOf, eol, frag}
-use Rattle.wire_options.specs.Step.{stepOf}
+use Rattle.wire_step.specs.Kinds.{classOf, eol, frag}
+use Rattle.wire_step.specs.Step.{stepOf}
+use Rattle.wire_step.specs.declared.Step.{Step}
+use Rattle.wire_step.specs.declared.Step.the-variants.{End, Eol, Nop, Found, Malformed as Unsound, Outlawed}
+use Rattle.wire_step.proofs.Steps.{step-found, eol-byte}
+use Rattle.wire_step.proofs.Locality.{nop-local, step-local}
 use Rattle.wire_options.specs.Walk.{Item, Walked, listed, faulty, before, itemOf, sound, walkAt, walkFrom}
 use Rattle.wire_options.specs.Strict.{walkBy}
-use Rattle.wire_options.specs.declared.step.Step.{Step}
-use Rattle.wire_options.specs.declared.step.Step.the-variants.{End, Eol, Nop, Found, Malformed as Unsound, Outlawed}
 use Rattle.wire_options.specs.declared.walk.Fault.the-variants.{Malformed, Tail, Padded}
-use Rattle.wire_options.proofs.Steps.{step-found, eol-byte}
 use Rattle.wire_options.proofs.Stricts.{padded-or-plain}
-use Rattle.wire_options.proofs.Locality.{behind-eol, nop-local, step-local}
+use Rattle.wire_options.proofs.Locality.{behind-eol}
 
 -- an EOL that the walk comes to, with a byte behind it that is not zero
 pub record Tailed (room skip : ℕ) (l : List ℕ) : Type 0 where

@@ -14,13 +14,14 @@ use Rattle.wire_nops.specs.Nops.{nopsOf, isPadding}
 use Rattle.wire_nops.specs.declared.Strictness.{Strictness}
 use Rattle.wire_nops.specs.declared.Strictness.the-variants.{Plain, Strict}
 use Rattle.wire_nops.proofs.Counts.{nops-some, nops-within}
-use Rattle.wire_options.specs.Kinds.{frag}
-use Rattle.wire_options.specs.Step.{stepOf}
+use Rattle.wire_step.specs.Kinds.{frag}
+use Rattle.wire_step.specs.Step.{stepOf}
+use Rattle.wire_step.specs.declared.Step.{Step}
+use Rattle.wire_step.specs.declared.Step.the-variants.{End, Eol, Nop, Found, Malformed as Unsound, Outlawed}
+use Rattle.wire_step.proofs.Steps.{step-found, nop-byte}
 use Rattle.wire_options.specs.Progress.{roomProgress, nopProgress, progressIn, progressOf}
 use Rattle.wire_options.specs.Walk.{Item, Walked, listed, faulty, before, itemOf, sound, fillIsZero, walkFrom, joined, apcOf, apcsOf, walkAnswer}
 use Rattle.wire_options.specs.Strict.{strictFrom, walkBy}
-use Rattle.wire_options.specs.declared.step.Step.{Step}
-use Rattle.wire_options.specs.declared.step.Step.the-variants.{End, Eol, Nop, Found, Malformed as Unsound, Outlawed}
 use Rattle.wire_options.specs.declared.walk.Fault.the-variants.{Malformed, Tail, Padded}
 use Rattle.wire_options.specs.declared.walk.Apcs.{Apcs}
 use Rattle.wire_options.specs.declared.walk.Apcs.the-variants.{Absent, Same, Different}
@@ -28,7 +29,6 @@ use Rattle.wire_options.specs.declared.walk.Progress.{Progress}
 use Rattle.wire_options.specs.declared.walk.Progress.the-variants.{On, Ended, Failed}
 use Rattle.wire_options.specs.declared.walk.Walk.{Walk}
 use Rattle.wire_options.specs.declared.walk.Walk.the-variants.{Listed, Faulty}
-use Rattle.wire_options.proofs.Steps.{step-found, nop-byte}
 use Rattle.wire_options.proofs.Stricts.{by-skip, walk-other}
 use Rattle.wire_options.proofs.Runs.{run-passed, run-padded}
 

@@ -6,10 +6,10 @@ use Prim.Native.Nat.{ℕ, zero, suc}
 use Rattle.wire_nops.specs.Nops.{isPadding}
 use Rattle.wire_nops.specs.declared.Strictness.{Strictness}
 use Rattle.wire_nops.specs.declared.Strictness.the-variants.{Plain, Strict}
-use Rattle.wire_options.specs.Step.{stepOf}
+use Rattle.wire_step.specs.Step.{stepOf}
+use Rattle.wire_step.specs.declared.Step.{Step}
+use Rattle.wire_step.specs.declared.Step.the-variants.{End, Eol, Nop, Found, Malformed as Unsound, Outlawed}
 use Rattle.wire_options.specs.Walk.{Walked, listed, faulty, walkAt, walkFrom}
-use Rattle.wire_options.specs.declared.step.Step.{Step}
-use Rattle.wire_options.specs.declared.step.Step.the-variants.{End, Eol, Nop, Found, Malformed as Unsound, Outlawed}
 use Rattle.wire_options.specs.declared.walk.Fault.the-variants.{Padded}
 
 -- What follows from the step at the front of `l`, behind `nops` NOPs in a row. `rest nops room skip` is the walk behind its first byte.

@@ -1,3 +1,2 @@
 // The walk over a list of UDP options (RFC 9868 sections 10 to 12).
-pub mod step;
 pub mod walk;

@@ -1,8 +1,7 @@
 // The walk over a list of options in which FRAG has no place: what is behind a leading FRAG, or the whole list where there is none.
-use crate::step;
-use crate::step::Step;
 use number_octets::zeros;
 use wire_nops::Strictness;
+use wire_step::Step;
 ghost use mathlib.Core.Path.{_≡_};
 ghost use Prim.Native.Nat.{_<_};
 ghost use Rattle.wire_nops.specs.Nops.{nopsOf};
@@ -103,7 +102,7 @@ pub fn walk_list(list: &[u8], room: usize, strictness: Strictness) -> Walk
 fn progress_at(rest: &[u8], room: usize, strictness: Strictness) -> Progress
     ensures { λ r. ⌜ r ≡ progressOf strictness room (now (rest .entry)) ⌝ }
 {
-    let step = step::next(rest);
+    let step = wire_step::next(rest);
     match step {
         Step::End => Progress::Ended { fill: 0 },
         Step::Eol => end_at(rest),

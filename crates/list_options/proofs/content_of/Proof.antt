@@ -6,10 +6,10 @@ use Prim.Native.Nat.{ℕ, suc, _+_, _≤_, _<_}
 use native.Mathlib.Omega.{arith}
 use lib.ListN.{length}
 use Rattle.number_octets.specs.Octets.{Octets}
-use Rattle.wire_options.specs.Kinds.{classOf}
-use Rattle.wire_options.specs.declared.step.Class.the-variants.{Fixed}
-use Rattle.wire_options.proofs.Classes.{class-token}
-use Rattle.wire_options.proofs.Steps.{FoundIn, step-found}
+use Rattle.wire_step.specs.Kinds.{classOf}
+use Rattle.wire_step.specs.declared.Class.the-variants.{Fixed}
+use Rattle.wire_step.proofs.Classes.{class-token}
+use Rattle.wire_step.proofs.Steps.{FoundIn, step-found}
 use Rattle.list_encoding.specs.Shape.{shapeOf}
 use Rattle.list_encoding.proofs.Shapes.{shape-token}
 use Rattle.list_options.proofs.Founds.{fixed-length}

@@ -7,8 +7,8 @@ use Prim.Native.Nat.{ℕ, _+_, _≤_, _<_}
 use native.Mathlib.Omega.{arith}
 use lib.ListN.{length, getD}
 use Rattle.number_octets.specs.Octets.{number, part}
-use Rattle.wire_options.specs.Kinds.{classOf, widthsOf}
-use Rattle.wire_options.specs.declared.step.Class.the-variants.{Fixed}
+use Rattle.wire_step.specs.Kinds.{classOf, widthsOf}
+use Rattle.wire_step.specs.declared.Class.the-variants.{Fixed}
 use Rattle.program_text.specs.Digits.{decimalOf}
 use Rattle.program_text.specs.Characters.{blank}
 use Rattle.program_text.proofs.Puts.{put-as, put-append, put-room}

@@ -7,10 +7,10 @@ use native.Mathlib.Omega.{arith}
 use borrow.Author.Needs.{needs}
 use lib.ListN.{length, drop}
 use Rattle.number_octets.proofs.Laws.{part-rest}
-use Rattle.wire_options.specs.Step.{stepOf}
+use Rattle.wire_step.specs.Step.{stepOf}
+use Rattle.wire_step.specs.declared.Step.{Step}
+use Rattle.wire_step.specs.declared.Step.the-variants.{Found}
 use Rattle.wire_options.specs.Walk.{itemOf}
-use Rattle.wire_options.specs.declared.step.Step.{Step}
-use Rattle.wire_options.specs.declared.step.Step.the-variants.{Found}
 use Rattle.wire_options.proofs.Rests.{RestBy, Taken, rest-over, rest-by}
 use Rattle.program_lines.specs.Lines.{itemLine}
 use Rattle.program_text.proofs.Puts.{put-as, put-length, put-room}

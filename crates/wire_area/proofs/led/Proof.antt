@@ -9,9 +9,9 @@ use native.Mathlib.Omega.{arith}
 use lib.ListN.{length, drop, getD, length-drop}
 use lib.Seq.{getD-drop}
 use Rattle.number_octets.proofs.Laws.{part-rest}
-use Rattle.wire_options.specs.Step.{stepOf}
-use Rattle.wire_options.specs.declared.step.Step.{Step}
-use Rattle.wire_options.specs.declared.step.Step.the-variants.{Found}
+use Rattle.wire_step.specs.Step.{stepOf}
+use Rattle.wire_step.specs.declared.Step.{Step}
+use Rattle.wire_step.specs.declared.Step.the-variants.{Found}
 use Rattle.wire_area.proofs.Areas.{frag-found}
 use borrow.Author.Needs.{needs}
 use Rattle.wire_area.proofs.led.Statement.{statement}

@@ -11,8 +11,8 @@ use lib.ListN.{drop, getD, List·getD-eq-default}
 use Rattle.number_octets.proofs.Laws.{part-rest}
 use Rattle.wire_nops.specs.Nops.{nopsOf, isPadding}
 use Rattle.wire_nops.specs.declared.Strictness.{Strictness}
-use Rattle.wire_options.specs.Kinds.{eol, frag}
-use Rattle.wire_options.specs.Step.{stepOf}
+use Rattle.wire_step.specs.Kinds.{eol, frag}
+use Rattle.wire_step.specs.Step.{stepOf}
 use Rattle.wire_options.specs.Walk.{Walked, listed, faulty, walkAnswer, optionLimit}
 use Rattle.wire_options.specs.Strict.{walkBy}
 use Rattle.wire_options.specs.declared.walk.Fault.the-variants.{Padded}

@@ -8,16 +8,16 @@ use borrow.Author.Tests.{eq-eqb, ne-eqb}
 use lib.ListN.{length}
 use Rattle.number_octets.specs.Octets.{number, part}
 use Rattle.wire_nops.specs.declared.Strictness.{Strictness}
-use Rattle.wire_options.specs.Kinds.{apc}
-use Rattle.wire_options.specs.Step.{stepOf}
+use Rattle.wire_step.specs.Kinds.{apc}
+use Rattle.wire_step.specs.Step.{stepOf}
+use Rattle.wire_step.specs.declared.Step.{Step}
+use Rattle.wire_step.specs.declared.Step.the-variants.{Found}
+use Rattle.wire_step.proofs.Steps.{apc-found}
 use Rattle.wire_options.specs.Progress.{roomProgress, progressIn, progressOf}
-use Rattle.wire_options.specs.declared.step.Step.{Step}
-use Rattle.wire_options.specs.declared.step.Step.the-variants.{Found}
 use Rattle.wire_options.specs.declared.walk.Apcs.{Apcs}
 use Rattle.wire_options.specs.declared.walk.Apcs.the-variants.{Absent, Same}
 use Rattle.wire_options.specs.declared.walk.Fault.the-variants.{Crowded}
 use Rattle.wire_options.specs.declared.walk.Progress.the-variants.{On, Failed}
-use Rattle.wire_options.proofs.Steps.{apc-found}
 use borrow.Author.Needs.{needs}
 use Rattle.wire_options.proofs.walk.progress_at.Statement.{statement}
 use Rattle.wire_options.proofs.walk.progress_at.Tie as tie

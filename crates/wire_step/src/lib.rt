@@ -2,9 +2,9 @@
 ghost use mathlib.Core.Path.{_≡_};
 ghost use Prim.Native.Nat.{_≤_};
 ghost use lib.ListN.{length};
-ghost use Rattle.wire_options.specs.Kinds.{classOf};
-ghost use Rattle.wire_options.specs.Step.{headerOf, extended, stepOf};
-ghost use Rattle.wire_options.specs.Sizes.{fits, sizedStep};
+ghost use Rattle.wire_step.specs.Kinds.{classOf};
+ghost use Rattle.wire_step.specs.Step.{headerOf, extended, stepOf};
+ghost use Rattle.wire_step.specs.Sizes.{fits, sizedStep};
 
 // What a kind byte says of its option: the end, filler, one of two whole lengths, any length, or unsafe.
 pub enum Class {

@@ -5,13 +5,13 @@ use Prim.Native.Nat.{ℕ}
 use lib.Dec.{eqb, leb, ltb}
 use lib.ListN.{length, getD}
 use Rattle.number_octets.specs.Octets.{number, part}
-use Rattle.wire_options.specs.Kinds.{classOf}
-use Rattle.wire_options.specs.declared.step.Class.{Class}
-use Rattle.wire_options.specs.declared.step.Class.the-variants.{EndOfList, NoOperation, Fixed, Varying, Unsafe}
-use Rattle.wire_options.specs.declared.step.Header.{Header}
-use Rattle.wire_options.specs.declared.step.Header.the-variants.{Sound, Broken}
-use Rattle.wire_options.specs.declared.step.Step.{Step}
-use Rattle.wire_options.specs.declared.step.Step.the-variants.{End, Eol, Nop, Found, Malformed, Outlawed}
+use Rattle.wire_step.specs.Kinds.{classOf}
+use Rattle.wire_step.specs.declared.Class.{Class}
+use Rattle.wire_step.specs.declared.Class.the-variants.{EndOfList, NoOperation, Fixed, Varying, Unsafe}
+use Rattle.wire_step.specs.declared.Header.{Header}
+use Rattle.wire_step.specs.declared.Header.the-variants.{Sound, Broken}
+use Rattle.wire_step.specs.declared.Step.{Step}
+use Rattle.wire_step.specs.declared.Step.the-variants.{End, Eol, Nop, Found, Malformed, Outlawed}
 
 -- a header of `size` bytes before an option of `whole` bytes, which may not run past the end
 abbrev pub within : ℕ → ℕ → ℕ → Header

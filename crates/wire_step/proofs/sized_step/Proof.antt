@@ -1,14 +1,14 @@
--- `wire_options::step::sized_step` meets its contract: the code's test is the definition's, at the header that the arm knows.
+-- `wire_step::sized_step` meets its contract: the code's test is the definition's, at the header that the arm knows.
 -- Assumes nothing.
 use mathlib.Core.Path.{_≡_, sym, ap, _∙_}
 use mathlib.Core.Bool.{Bool, cond}
-use Rattle.wire_options.specs.Kinds.{classOf}
-use Rattle.wire_options.specs.Sizes.{fits, sizedStep}
-use Rattle.wire_options.specs.declared.step.Class.{Class}
-use Rattle.wire_options.specs.declared.step.Step.the-variants.{Found, Malformed}
+use Rattle.wire_step.specs.Kinds.{classOf}
+use Rattle.wire_step.specs.Sizes.{fits, sizedStep}
+use Rattle.wire_step.specs.declared.Class.{Class}
+use Rattle.wire_step.specs.declared.Step.the-variants.{Found, Malformed}
 use borrow.Author.Needs.{needs}
-use Rattle.wire_options.proofs.step.sized_step.Statement.{statement}
-use Rattle.wire_options.proofs.step.sized_step.Tie as tie
+use Rattle.wire_step.proofs.sized_step.Statement.{statement}
+use Rattle.wire_step.proofs.sized_step.Tie as tie
 
 -- the code's test is that of the kind's class
 tested : (c : tie.After-fits2) → fits (classOf (c .before .before .before .before .before .args .kind)) (c .before .before .before .header .given .0 .1 .0) ≡ c .fits2 .result

@@ -1,12 +1,12 @@
--- `wire_options::step::class_of` meets its contract: each arm is a row of the table (`classOf` computes there), and ranges are laws of `Classes`.
+-- `wire_step::class_of` meets its contract: each arm is a row of the table (`classOf` computes there), and ranges are laws of `Classes`.
 -- Assumes nothing.
 use mathlib.Core.Path.{_≡_, sym, ap}
 use Prim.Native.Nat.{ℕ, suc, _≤_, zero-le}
 use native.Mathlib.Omega.{arith}
-use Rattle.wire_options.specs.Kinds.{classOf}
-use Rattle.wire_options.proofs.Classes.{class-token, class-varying, class-unsafe}
-use Rattle.wire_options.proofs.step.class_of.Statement.{statement}
-use Rattle.wire_options.proofs.step.class_of.Tie as tie
+use Rattle.wire_step.specs.Kinds.{classOf}
+use Rattle.wire_step.proofs.Classes.{class-token, class-varying, class-unsafe}
+use Rattle.wire_step.proofs.class_of.Statement.{statement}
+use Rattle.wire_step.proofs.class_of.Tie as tie
 
 -- no single kind of the table: one step up for each
 past : {k : ℕ} (n : ℕ) → n ≤ k → (k ≡ n → ⊥) → suc n ≤ k

@@ -1,12 +1,12 @@
--- `wire_options::step::fits` meets its contract, at the class that the arm knows.
+-- `wire_step::fits` meets its contract, at the class that the arm knows.
 -- Assumes nothing.
 use mathlib.Core.Path.{sym, ap, _∙_}
 use borrow.Author.Tests.{eq-eqb, ne-eqb}
-use Rattle.wire_options.specs.Sizes.{fits}
-use Rattle.wire_options.specs.declared.step.Class.{Class}
+use Rattle.wire_step.specs.Sizes.{fits}
+use Rattle.wire_step.specs.declared.Class.{Class}
 use borrow.Author.Needs.{needs}
-use Rattle.wire_options.proofs.step.fits.Statement.{statement}
-use Rattle.wire_options.proofs.step.fits.Tie as tie
+use Rattle.wire_step.proofs.fits.Statement.{statement}
+use Rattle.wire_step.proofs.fits.Tie as tie
 
 enum-told : tie.Need-enum-told
 enum-told c = search needs

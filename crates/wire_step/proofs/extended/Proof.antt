@@ -1,4 +1,4 @@
--- `wire_options::step::extended` meets its contract: the code's tests are the definition's.
+-- `wire_step::extended` meets its contract: the code's tests are the definition's.
 -- Assumes nothing.
 use mathlib.Core.Path.{_≡_, sym, ap, _∙_}
 use Prim.Native.Nat.{ℕ}
@@ -6,10 +6,10 @@ use native.Mathlib.Omega.{arith}
 use lib.ListN.{length}
 use borrow.Author.Tests.{le-leb, lt-leb}
 use Rattle.number_octets.specs.Octets.{number, part}
-use Rattle.wire_options.specs.declared.step.Header.the-variants.{Sound}
+use Rattle.wire_step.specs.declared.Header.the-variants.{Sound}
 use borrow.Author.Needs.{needs}
-use Rattle.wire_options.proofs.step.extended.Statement.{statement}
-use Rattle.wire_options.proofs.step.extended.Tie as tie
+use Rattle.wire_step.proofs.extended.Statement.{statement}
+use Rattle.wire_step.proofs.extended.Tie as tie
 
 -- the whole length, and that the list is long enough to hold it
 whole : (c : tie.After-get-u16) → c .get-u16 .result ≡ number (part 2 2 (c .before .before .args .rest .now))

@@ -7,9 +7,9 @@ use native.Mathlib.Omega.{arith}
 use borrow.Author.Tests.{ne-eqb, le-leb, lt-leb, eqb-true, eqb-false}
 use lib.Dec.{eqb, leb}
 use Rattle.number_tests.proofs.Tests.{true-false}
-use Rattle.wire_options.specs.Kinds.{classOf, eol, nop}
-use Rattle.wire_options.specs.declared.step.Class.{Class}
-use Rattle.wire_options.specs.declared.step.Class.the-variants.{EndOfList, NoOperation, Fixed, Varying, Unsafe}
+use Rattle.wire_step.specs.Kinds.{classOf, eol, nop}
+use Rattle.wire_step.specs.declared.Class.{Class}
+use Rattle.wire_step.specs.declared.Class.the-variants.{EndOfList, NoOperation, Fixed, Varying, Unsafe}
 
 -- kinds from 9 on have no case of their own
 above : (k : ℕ) → 9 ≤ k → classOf k ≡ cond (leb k 191) Varying Unsafe

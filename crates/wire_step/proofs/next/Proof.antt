@@ -1,19 +1,19 @@
--- `wire_options::step::next` meets its contract: the arm of the match knows the class of the first byte, at which `stepOf` computes.
+-- `wire_step::next` meets its contract: the arm of the match knows the class of the first byte, at which `stepOf` computes.
 -- Assumes nothing.
 use mathlib.Core.Path.{_≡_, refl, sym, ap, _∙_}
 use mathlib.Core.List.{List, [], _∷_}
 use Prim.Native.Nat.{ℕ, _<_}
 use native.Mathlib.Omega.{arith}
 use lib.ListN.{length, getD}
-use Rattle.wire_options.specs.Kinds.{classOf}
-use Rattle.wire_options.specs.Step.{stepIn, stepOf}
-use Rattle.wire_options.specs.Sizes.{sizedStep}
-use Rattle.wire_options.specs.declared.step.Class.{Class}
-use Rattle.wire_options.proofs.Classes.{class-unsafe}
-use Rattle.wire_options.proofs.Steps.{step-sized}
+use Rattle.wire_step.specs.Kinds.{classOf}
+use Rattle.wire_step.specs.Step.{stepIn, stepOf}
+use Rattle.wire_step.specs.Sizes.{sizedStep}
+use Rattle.wire_step.specs.declared.Class.{Class}
+use Rattle.wire_step.proofs.Classes.{class-unsafe}
+use Rattle.wire_step.proofs.Steps.{step-sized}
 use borrow.Author.Needs.{needs}
-use Rattle.wire_options.proofs.step.next.Statement.{statement}
-use Rattle.wire_options.proofs.step.next.Tie as tie
+use Rattle.wire_step.proofs.next.Statement.{statement}
+use Rattle.wire_step.proofs.next.Tie as tie
 
 empty : (l : List ℕ) → length l ≡ 0 → l ≡ []
 empty [] e = refl

@@ -1,4 +1,4 @@
--- `wire_options::step::header_of` meets its contract: the code's tests are the definition's, and what is too short for its length byte is too short for the extended form.
+-- `wire_step::header_of` meets its contract: the code's tests are the definition's, and what is too short for its length byte is too short for the extended form.
 -- Assumes nothing.
 use mathlib.Core.Path.{_≡_, refl, sym, _∙_}
 use mathlib.Core.Bool.{Bool, true, false, cond}
@@ -8,13 +8,13 @@ use native.Mathlib.Omega.{arith}
 use borrow.Author.Tests.{le-leb, lt-leb, eq-eqb, ne-eqb, eqb-true}
 use lib.Dec.{eqb, leb}
 use lib.ListN.{length, getD}
-use Rattle.wire_options.specs.Step.{within, extended, headerOf}
-use Rattle.wire_options.specs.declared.step.Header.{Header}
-use Rattle.wire_options.specs.declared.step.Header.the-variants.{Broken}
-use Rattle.wire_options.proofs.Steps.{extended-short}
+use Rattle.wire_step.specs.Step.{within, extended, headerOf}
+use Rattle.wire_step.specs.declared.Header.{Header}
+use Rattle.wire_step.specs.declared.Header.the-variants.{Broken}
+use Rattle.wire_step.proofs.Steps.{extended-short}
 use borrow.Author.Needs.{needs}
-use Rattle.wire_options.proofs.step.header_of.Statement.{statement}
-use Rattle.wire_options.proofs.step.header_of.Tie as tie
+use Rattle.wire_step.proofs.header_of.Statement.{statement}
+use Rattle.wire_step.proofs.header_of.Tie as tie
 
 -- a list shorter than its length byte says
 short-list : (l : List ℕ) → 2 ≤ length l → 2 ≤ getD l 1 0 → length l < getD l 1 0 → headerOf l ≡ Broken

@@ -4,8 +4,8 @@ use mathlib.Core.List.{List, [], _∷_}
 use Prim.Native.Nat.{ℕ}
 use lib.Dec.{eqb, leb}
 pub use Rattle.wire_nops.specs.Nops.{nop}
-use Rattle.wire_options.specs.declared.step.Class.{Class}
-use Rattle.wire_options.specs.declared.step.Class.the-variants.{EndOfList, NoOperation, Fixed, Varying, Unsafe}
+use Rattle.wire_step.specs.declared.Class.{Class}
+use Rattle.wire_step.specs.declared.Class.the-variants.{EndOfList, NoOperation, Fixed, Varying, Unsafe}
 
 -- the kinds that rules name, beside NOP
 abbrev pub eol : ℕ

@@ -11,16 +11,16 @@ use lib.Dec.{eqb, leb}
 use lib.ListN.{length, getD}
 use Rattle.number_octets.specs.Octets.{number, part}
 use Rattle.number_tests.proofs.Tests.{true-false}
-use Rattle.wire_options.specs.Kinds.{classOf, eol, nop, apc}
-use Rattle.wire_options.specs.Step.{within, extended, headerOf, fixedStep, varyingStep, stepIn, stepOf}
-use Rattle.wire_options.specs.Sizes.{sizedStep}
-use Rattle.wire_options.specs.declared.step.Class.{Class}
-use Rattle.wire_options.specs.declared.step.Class.the-variants.{EndOfList, NoOperation, Fixed, Varying, Unsafe}
-use Rattle.wire_options.specs.declared.step.Header.{Header}
-use Rattle.wire_options.specs.declared.step.Header.the-variants.{Sound, Broken}
-use Rattle.wire_options.specs.declared.step.Step.{Step}
-use Rattle.wire_options.specs.declared.step.Step.the-variants.{End, Eol, Nop, Found, Malformed, Outlawed}
-use Rattle.wire_options.proofs.Classes.{class-end, class-nop, class-sized}
+use Rattle.wire_step.specs.Kinds.{classOf, eol, nop, apc}
+use Rattle.wire_step.specs.Step.{within, extended, headerOf, fixedStep, varyingStep, stepIn, stepOf}
+use Rattle.wire_step.specs.Sizes.{sizedStep}
+use Rattle.wire_step.specs.declared.Class.{Class}
+use Rattle.wire_step.specs.declared.Class.the-variants.{EndOfList, NoOperation, Fixed, Varying, Unsafe}
+use Rattle.wire_step.specs.declared.Header.{Header}
+use Rattle.wire_step.specs.declared.Header.the-variants.{Sound, Broken}
+use Rattle.wire_step.specs.declared.Step.{Step}
+use Rattle.wire_step.specs.declared.Step.the-variants.{End, Eol, Nop, Found, Malformed, Outlawed}
+use Rattle.wire_step.proofs.Classes.{class-end, class-nop, class-sized}
 
 -- ---- headers
 
