@@ -1,4 +1,4 @@
 pub mod Claims
 pub mod Calls
-pub mod Blanks
+pub mod Datagrams
 pub mod Outcomes

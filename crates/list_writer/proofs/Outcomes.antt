@@ -22,7 +22,8 @@ use Rattle.list_payload.specs.Payload.{listOf, areaOf, Datagram, sizeOf, udpChe
 use Rattle.list_writer.specs.Answer.{tooLarge, Outcome, fits, put, untouched, putWhole, outcomeBy, written, datagramFor}
 use Rattle.list_wire.specs.Parts.{Laid, wiresListed, listedBytes, plainly, summed, payloadFrom}
 use Rattle.list_wire.proofs.Listed.{wires-listed, wires-size}
-use Rattle.list_writer.proofs.Blanks.{datagram-size, area-size}
+use Rattle.list_area.proofs.Blanks.{area-size}
+use Rattle.list_writer.proofs.Datagrams.{datagram-size}
 
 -- ---- the test of the size
 

@@ -10,7 +10,6 @@ ghost use lib.ListN.{length};
 ghost use Rattle.list_writer.specs.Answer.{Wrote, fits, written, datagramFor};
 ghost use Rattle.list_wire.specs.Parts.{Laid, plainly, payloadFrom};
 
-mod area;
 mod header;
 
 pub enum Written {
@@ -94,7 +93,7 @@ fn put_payload(
 {
     let crc = list_wire::apc::crc_for(list, data);
     let size = UDP_HEADER + data.len();
-    let end = area::put_blank(list, crc, fill, buffer, size);
+    let end = list_area::put_blank(list, crc, fill, buffer, size);
     header::put_datagram(
         source,
         destination,
@@ -103,6 +102,6 @@ fn put_payload(
         data,
         buffer,
     );
-    area::put_ocs(buffer, size, end);
+    list_area::put_ocs(buffer, size, end);
     end
 }

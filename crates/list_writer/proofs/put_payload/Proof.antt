@@ -14,7 +14,8 @@ use Rattle.wire_datagram.specs.Reading.{isOdd}
 use Rattle.list_payload.specs.Payload.{Datagram, sizeOf, areaOf, udpChecksumOf}
 use Rattle.list_wire.specs.Parts.{plainly, summed, wiresListed, listedBytes, payloadFrom}
 use Rattle.list_wire.proofs.Laying.{laid-as, laid-length}
-use Rattle.list_writer.proofs.Blanks.{datagram-size, area-size, blank-size, laid-under, payload-summed}
+use Rattle.list_area.proofs.Blanks.{area-size, blank-size, laid-under, payload-summed}
+use Rattle.list_writer.proofs.Datagrams.{datagram-size}
 use borrow.Author.Needs.{needs}
 use Rattle.list_writer.proofs.put_payload.Statement.{statement}
 use Rattle.list_writer.proofs.put_payload.Tie as tie

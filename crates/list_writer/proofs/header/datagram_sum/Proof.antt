@@ -7,7 +7,7 @@ use Rattle.number_checksum.specs.Checksum.{folded}
 use Rattle.number_offsets.specs.Offsets.{udpHeader}
 use Rattle.list_payload.specs.Payload.{Datagram, datagramWith}
 use Rattle.list_wire.specs.Parts.{plainly}
-use Rattle.list_writer.proofs.Blanks.{header-sum}
+use Rattle.list_writer.proofs.Datagrams.{header-sum}
 use borrow.Author.Needs.{needs}
 use Rattle.list_writer.proofs.header.datagram_sum.Statement.{statement}
 use Rattle.list_writer.proofs.header.datagram_sum.Tie as tie

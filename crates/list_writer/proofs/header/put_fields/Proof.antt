@@ -2,7 +2,7 @@
 -- Assumes nothing.
 use mathlib.Core.List.{[]}
 use Rattle.list_wire.specs.Parts.{plainly}
-use Rattle.list_writer.proofs.Blanks.{datagram-laid}
+use Rattle.list_writer.proofs.Datagrams.{datagram-laid}
 use borrow.Author.Needs.{needs}
 use Rattle.list_writer.proofs.header.put_fields.Statement.{statement}
 use Rattle.list_writer.proofs.header.put_fields.Tie as tie

@@ -1,4 +1,4 @@
--- `list_writer::area::put_listed` meets its contract: the count is read, and so many options behind it are laid.
+-- `list_area::put_listed` meets its contract: the count is read, and so many options behind it are laid.
 -- Assumes nothing.
 use mathlib.Core.Path.{sym, ap, _∙_}
 use native.Mathlib.Omega.{arith}
@@ -8,8 +8,8 @@ use Rattle.list_wire.proofs.Laying.{laid-as, laid-none}
 use Rattle.list_wire.proofs.Listed.{listed-counted, listed-uncounted}
 use Rattle.list_encoding.specs.Answer.{fieldAnswer}
 use borrow.Author.Needs.{needs}
-use Rattle.list_writer.proofs.area.put_listed.Statement.{statement}
-use Rattle.list_writer.proofs.area.put_listed.Tie as tie
+use Rattle.list_area.proofs.put_listed.Statement.{statement}
+use Rattle.list_area.proofs.put_listed.Tie as tie
 
 count : (c : tie.After-known-told) → let v = c .before .number .given .0 in
     ValueAt 33 (c .before .before .before .before .before .before .args .list .now) 0 (v .0) (v .1 .0)

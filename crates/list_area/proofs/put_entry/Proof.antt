@@ -1,4 +1,4 @@
--- `list_writer::area::put_entry` meets its contract: what `entry_at` finds is the option at the position, and its wire is laid.
+-- `list_area::put_entry` meets its contract: what `entry_at` finds is the option at the position, and its wire is laid.
 -- Assumes nothing.
 use mathlib.Core.Path.{sym, ap, _∙_}
 use mathlib.Core.List.{List}
@@ -13,8 +13,8 @@ use Rattle.list_wire.specs.Parts.{fieldBody, wireRead, leftBehind}
 use Rattle.list_wire.proofs.Laying.{laid-as, laid-none, wire-length}
 use Rattle.list_wire.proofs.Listed.{Found, field-length, fields-wire, body-wire, body-worked}
 use borrow.Author.Needs.{needs}
-use Rattle.list_writer.proofs.area.put_entry.Statement.{statement}
-use Rattle.list_writer.proofs.area.put_entry.Tie as tie
+use Rattle.list_area.proofs.put_entry.Statement.{statement}
+use Rattle.list_area.proofs.put_entry.Tie as tie
 
 bytes : (c : tie.After-known-told) → Octets (c .before .before .before .before .before .before .args .list .now)
 bytes c i = c .before .before .before .before .before .shared-slice-known .given i .fits

@@ -1,4 +1,4 @@
--- `list_writer::area::put_zeros` meets its contract. The loop's invariant: `i` zeros stand from `at` on.
+-- `list_area::put_zeros` meets its contract. The loop's invariant: `i` zeros stand from `at` on.
 -- Assumes nothing.
 use mathlib.Core.Path.{_≡_, refl, sym, ap, _∙_}
 use Prim.Native.Nat.{ℕ, _+_, _-_, _≤_}
@@ -7,8 +7,8 @@ use lib.ListN.{length, replicate, length-set, length-replicate}
 use Rattle.number_octets.specs.Octets.{overlay}
 use Rattle.list_wire.proofs.Laying.{laid-none, zeros-more}
 use borrow.Author.Needs.{needs}
-use Rattle.list_writer.proofs.area.put_zeros.Statement.{statement}
-use Rattle.list_writer.proofs.area.put_zeros.Tie as tie
+use Rattle.list_area.proofs.put_zeros.Statement.{statement}
+use Rattle.list_area.proofs.put_zeros.Tie as tie
 
 abbrev Inv-loop : tie.InvT-loop
 Inv-loop count buffer₀ at i₀ buffer i =

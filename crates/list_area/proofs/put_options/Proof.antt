@@ -1,4 +1,4 @@
--- `list_writer::area::put_options` meets its contract. The loop's invariant: what was laid, with the options still to come, is the whole.
+-- `list_area::put_options` meets its contract. The loop's invariant: what was laid, with the options still to come, is the whole.
 -- Assumes nothing.
 use mathlib.Core.Path.{_≡_, refl, sym, ap, _∙_}
 use mathlib.Core.List.{List, [], _++_, append-nil}
@@ -9,8 +9,8 @@ use Rattle.list_encoding.specs.Encoding.{readOption}
 use Rattle.list_wire.specs.Parts.{Laid, wireRead, wiresRead}
 use Rattle.list_wire.proofs.Laying.{laid-as, laid-none, laid-length}
 use Rattle.list_wire.proofs.Listed.{turn-room, turn-laid, turn-rest, turn-none}
-use Rattle.list_writer.proofs.area.put_options.Statement.{statement}
-use Rattle.list_writer.proofs.area.put_options.Tie as tie
+use Rattle.list_area.proofs.put_options.Statement.{statement}
+use Rattle.list_area.proofs.put_options.Tie as tie
 
 abbrev Inv-loop : tie.InvT-loop
 Inv-loop list start count crc buffer₀ at from₀ end₀ left₀ buffer from end left =

@@ -1,4 +1,4 @@
--- `list_writer::area::put_blank` meets its contract: zeros, options and fill are laid one behind the other.
+-- `list_area::put_blank` meets its contract: zeros, options and fill are laid one behind the other.
 -- Assumes nothing.
 use mathlib.Core.List.{List, _++_}
 use Prim.Native.Nat.{ℕ, _+_, _%_}
@@ -7,8 +7,8 @@ use lib.ListN.{replicate, length-append, length-replicate}
 use Rattle.list_wire.specs.Parts.{wiresListed}
 use Rattle.list_wire.proofs.Laying.{laid-append, behind-room}
 use borrow.Author.Needs.{needs}
-use Rattle.list_writer.proofs.area.put_blank.Statement.{statement}
-use Rattle.list_writer.proofs.area.put_blank.Tie as tie
+use Rattle.list_area.proofs.put_blank.Statement.{statement}
+use Rattle.list_area.proofs.put_blank.Tie as tie
 
 put-start-requires : tie.Need-put-start-requires
 put-start-requires c κs =
