@@ -5,7 +5,7 @@
 use std::num;
 ghost use mathlib.Core.Path.{_≡_};
 ghost use mathlib.Core.Bool.{true};
-ghost use Prim.Native.Nat.{_+_, _%_, _≤_, _<_};
+ghost use Prim.Native.Nat.{_+_, _≤_, _<_};
 ghost use lib.ListN.{length, drop};
 ghost use Rattle.number_checksum.specs.Checksum.{wordSum, folded, sent};
 
@@ -84,11 +84,11 @@ fn block_sum(bytes: &[u8]) -> u64
 
 // The same for what stands behind the last whole step, fewer than eight bytes.
 fn rest_sum(bytes: &[u8], at: usize) -> u64
-    requires { ⌜ (length (now bytes) ≡ at + length (now bytes) % 8) × (length (now bytes) ≤ 65536) ⌝ }
+    requires { ⌜ (at ≤ length (now bytes)) × (length (now bytes) < at + 8) × (length (now bytes) ≤ 65536) ⌝ }
     ensures { λ r. ⌜ folded r ≡ folded (wordSum true (drop at (now (bytes .entry)))) ⌝ }
     ensures { λ r. ⌜ r ≤ 8589934592 ⌝ }
 {
-    if 4 <= bytes.len() % 8 {
+    if at + 4 <= bytes.len() {
         return word(bytes, at) + last_pair(bytes, at + 4);
     }
     last_pair(bytes, at)
@@ -96,11 +96,11 @@ fn rest_sum(bytes: &[u8], at: usize) -> u64
 
 // The same for the last three bytes, two, one or none.
 fn last_pair(bytes: &[u8], at: usize) -> u64
-    requires { ⌜ (length (now bytes) ≡ at + length (now bytes) % 4) × (length (now bytes) ≤ 65536) ⌝ }
+    requires { ⌜ (at ≤ length (now bytes)) × (length (now bytes) < at + 4) × (length (now bytes) ≤ 65536) ⌝ }
     ensures { λ r. ⌜ r ≡ wordSum true (drop at (now (bytes .entry))) ⌝ }
     ensures { λ r. ⌜ r ≤ 131072 ⌝ }
 {
-    if 2 <= bytes.len() % 4 {
+    if at + 2 <= bytes.len() {
         return pair(bytes, at) + last_byte(bytes, at + 2);
     }
     last_byte(bytes, at)
@@ -108,11 +108,11 @@ fn last_pair(bytes: &[u8], at: usize) -> u64
 
 // The same for the last byte, or none.
 fn last_byte(bytes: &[u8], at: usize) -> u64
-    requires { ⌜ length (now bytes) ≡ at + length (now bytes) % 2 ⌝ }
+    requires { ⌜ (at ≤ length (now bytes)) × (length (now bytes) < at + 2) ⌝ }
     ensures { λ r. ⌜ r ≡ wordSum true (drop at (now (bytes .entry))) ⌝ }
     ensures { λ r. ⌜ r < 256 ⌝ }
 {
-    if bytes.len() % 2 == 1 {
+    if at < bytes.len() {
         return byte(bytes[at]);
     }
     0

@@ -4,6 +4,9 @@ use borrow.Author.Needs.{needs}
 use Rattle.number_checksum.proofs.last_pair.Statement.{statement}
 use Rattle.number_checksum.proofs.last_pair.Tie as tie
 
+add-if1 : tie.Need-add-if1
+add-if1 c = search needs
+
 pair-requires : tie.Need-pair-requires
 pair-requires c κs = search needs
 
@@ -29,6 +32,7 @@ pub last-pair-spec : {M : Type 1} → statement M
 last-pair-spec =
     tie.close
     (tie.spec
+    add-if1
     pair-requires
     add-last-byte
     last-byte-requires

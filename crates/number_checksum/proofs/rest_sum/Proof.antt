@@ -8,6 +8,9 @@ use borrow.Author.Needs.{needs}
 use Rattle.number_checksum.proofs.rest_sum.Statement.{statement}
 use Rattle.number_checksum.proofs.rest_sum.Tie as tie
 
+add-if1 : tie.Need-add-if1
+add-if1 c = search needs
+
 word-requires : tie.Need-word-requires
 word-requires c κs = search needs
 
@@ -34,6 +37,7 @@ pub rest-sum-spec : {M : Type 1} → statement M
 rest-sum-spec =
     tie.close
     (tie.spec
+    add-if1
     word-requires
     add-last-pair
     last-pair-requires
