@@ -31,11 +31,11 @@ use Rattle.client_ledger.specs.Book.{storing, taking, noRoom, isRepeat, isConfl
 use Rattle.client_ledger.specs.Lent.{countOff, storeOff, misfits, noClient, lentTests, answered, keeping, bookOf}
 use Rattle.client_ledger.specs.Stands.{offerOf}
 use Rattle.client_ledger.specs.History.{Lent, Given}
-use Rattle.table_calls.specs.Table.{lentOf, sized}
-use Rattle.table_calls.specs.Events.{Event, Keeps}
-use Rattle.table_calls.specs.Owed.{owes}
-use Rattle.table_calls.specs.Demand3.{Terms, opening}
-use Rattle.table_calls.proofs.Demand3.{demand-3}
+use Rattle.table_rules.specs.Table.{lentOf, sized}
+use Rattle.table_rules.specs.Events.{Event, Keeps}
+use Rattle.table_rules.specs.Owed.{owes}
+use Rattle.table_rules.specs.Demand3.{Terms, opening}
+use Rattle.table_rules.proofs.Demand3.{demand-3}
 use Rattle.claim_figures.specs.Figures.{Line, refusal, calls, both, table, shownBy, called, inOrder, lastFirst, overlapping, expiring, fiveKeys}
 use Rattle.claim_figures.specs.Figures.{computed, stated}
 

@@ -18,9 +18,9 @@ use Rattle.client_record.specs.Record.{freshClient}
 use Rattle.client_reassembly.specs.declared.Arrival.{Arrival}
 use Rattle.client_reassembly.specs.Answer.{Reply, refused, ready, stored, repeated, conflict, delivered, advanced, account}
 use Rattle.client_ledger.specs.History.{offering, advancing, accounting, Given}
-use Rattle.table_calls.specs.Table.{Table}
-use Rattle.table_calls.specs.Events.{Event, current, asking, gives}
-use Rattle.table_calls.specs.Demand3.{opening}
+use Rattle.table_rules.specs.Table.{Table}
+use Rattle.table_rules.specs.Events.{Event, current, asking, gives}
+use Rattle.table_rules.specs.Demand3.{opening}
 
 -- what a line shows: the area or the option checksum of a payload that was written, a refusal's number, a verdict, what calls of the table
 -- answered with the bytes that each handed out, or two of these

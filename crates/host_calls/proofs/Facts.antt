@@ -8,7 +8,7 @@ use Rattle.client_reassembly.specs.Answer.{replyOf}
 use Rattle.client_reassembly.specs.declared.Answer as Reassembly
 use Rattle.client_reassembly.specs.declared.Arrival.{Arrival}
 use Rattle.client_ledger.specs.History.{offering}
-use Rattle.table_calls.specs.Table as Table
+use Rattle.table_rules.specs.Table as Table
 use Rattle.table_receiver.specs.Receive as Receive
 use Rattle.table_receiver.specs.Receive.{fateIn}
 use Rattle.table_receiver.specs.declared.Received as Receiver

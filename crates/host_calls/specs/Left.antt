@@ -7,7 +7,7 @@ use mir.Syntax.{Ty, tyInt, tyBool, tyFloat, tyPtr, tyRef, tyArray, tyUnit, tyStr
 use prog.Memory.{size}
 use Rattle.client_record.specs.declared.Client.{Client}
 use Rattle.client_record.proofs.Client.Laws as Client′
-use Rattle.table_calls.specs.Table.{After}
+use Rattle.table_rules.specs.Table.{After}
 use Rattle.table_receiver.specs.Receive.{Receipt}
 use Rattle.host_values.specs.Answer.{hostAnswer, hostFate}
 use Rattle.host_values.specs.declared.Answer.{Answer}

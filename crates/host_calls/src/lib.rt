@@ -20,7 +20,7 @@ ghost use Rattle.list_readings.specs.Catalogue.{walkOfValue};
 ghost use Rattle.list_writer.specs.Answer.{written, datagramFor};
 ghost use Rattle.client_record.specs.Limits.{datagramLimit, shareSize, clientLimit};
 ghost use Rattle.client_ledger.specs.History.{Ask, offering, advancing, accounting};
-ghost use Rattle.table_calls.specs.Table.{tableOf, resetOn, askOn};
+ghost use Rattle.table_rules.specs.Table.{tableOf, resetOn, askOn};
 ghost use Rattle.table_receiver.specs.Receive.{receiveOn};
 ghost use Rattle.host_readings.specs.Reading.{hostReading, hostRereading};
 ghost use Rattle.host_readings.specs.Listable.{verdictFor};

@@ -14,8 +14,8 @@ use Rattle.client_reassembly.specs.declared.Answer.{Answer}
 use Rattle.client_reassembly.specs.declared.Answer.the-variants.{Refused}
 use Rattle.client_reassembly.specs.declared.Refusal.the-variants.{TableMisfit, NoSuchClient}
 use Rattle.client_ledger.specs.History.{Ask, callOn}
-use Rattle.table_calls.specs.Table.{Table, lentOf, sized, shareOf, recordOf, After, outLent, afterCall, askOn, Leaves}
-use Rattle.table_calls.proofs.Facts.{misfit-is, unknown-is, granted-is}
+use Rattle.table_rules.specs.Table.{Table, lentOf, sized, shareOf, recordOf, After, outLent, afterCall, askOn, Leaves}
+use Rattle.table_rules.proofs.Facts.{misfit-is, unknown-is, granted-is}
 
 -- ---- what a call leaves, by its tests
 

@@ -9,7 +9,7 @@ use client_record::Client;
 ghost use mathlib.Core.Path.{_≡_};
 ghost use mathlib.Core.List.{[]};
 ghost use Rattle.client_ledger.specs.History.{Ask, offering, advancing, accounting};
-ghost use Rattle.table_calls.specs.Table.{sized, tableOf, resetOn, askOn, Leaves};
+ghost use Rattle.table_rules.specs.Table.{sized, tableOf, resetOn, askOn, Leaves};
 
 // Document 01's test for refusal 20: 1 to 12 records, and a share of the store for each.
 fn sized(count: usize, bytes: usize) -> bool

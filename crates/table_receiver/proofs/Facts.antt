@@ -34,8 +34,8 @@ use Rattle.client_record.specs.declared.Client.{Client}
 use Rattle.client_reassembly.specs.declared.Arrival.{Arrival}
 use Rattle.client_reassembly.specs.declared.Answer.{Answer}
 use Rattle.client_ledger.specs.History.{offering}
-use Rattle.table_calls.specs.Table as Table
-use Rattle.table_calls.specs.Table.{Table, After, askOn}
+use Rattle.table_rules.specs.Table as Table
+use Rattle.table_rules.specs.Table.{Table, After, askOn}
 use Rattle.table_receiver.specs.declared.Found.the-variants.{Other, Fragment as FoundFragment}
 use Rattle.table_receiver.specs.declared.Received.{Received}
 use Rattle.table_receiver.specs.declared.Received.the-variants.{Fragment as Offered}

@@ -20,13 +20,13 @@ use Rattle.client_ledger.specs.Book as Book
 use Rattle.client_ledger.specs.Book.{Content, size}
 use Rattle.client_ledger.specs.Whole.{Whole, handed, Taken, assembled}
 use Rattle.client_ledger.specs.History.{Given}
-use Rattle.table_calls.specs.Table.{Table, lentOf, shareOf, recordOf, askOn}
-use Rattle.table_calls.specs.Events.{current, another, Event, resetting, asking, tableFor, next, final, givenBy, gives, ownOnly}
-use Rattle.table_calls.specs.Owed.{owes}
-use Rattle.table_calls.specs.Apart.{Sums}
-use Rattle.table_calls.specs.Demand3 as Table
-use Rattle.table_calls.specs.Demand3.{Terms}
-use Rattle.table_calls.proofs.Demand3.{demand-3}
+use Rattle.table_rules.specs.Table.{Table, lentOf, shareOf, recordOf, askOn}
+use Rattle.table_rules.specs.Events.{current, another, Event, resetting, asking, tableFor, next, final, givenBy, gives, ownOnly}
+use Rattle.table_rules.specs.Owed.{owes}
+use Rattle.table_rules.specs.Apart.{Sums}
+use Rattle.table_rules.specs.Demand3 as Table
+use Rattle.table_rules.specs.Demand3.{Terms}
+use Rattle.table_rules.proofs.Demand3.{demand-3}
 use Rattle.table_receiver.specs.Receive.{pieceIn, arrivalOf, bytesOf, Packet, readingOf, offerOf, offered, Receipt, fateOf, receiving, receiveOn}
 use Rattle.table_receiver.specs.Packets.{
   Call,

@@ -17,12 +17,12 @@ use Rattle.client_ledger.specs.Book.{Book, Content, size, Offer}
 use Rattle.client_ledger.specs.Stands as Stands
 use Rattle.client_ledger.specs.Whole.{Whole, handed, Taken, assembled}
 use Rattle.client_ledger.specs.History.{Ask, Given}
-use Rattle.table_calls.specs.Table.{Table, lentOf, shareOf, recordOf, resetOn, askOn}
-use Rattle.table_calls.specs.Events.{Lending, current, another, Event, resetting, asking, tableFor, next, givenBy}
-use Rattle.table_calls.specs.Owed.{owes}
-use Rattle.table_calls.specs.Apart.{Sums}
-use Rattle.table_calls.specs.Demand3 as Table
-use Rattle.table_calls.specs.Demand3.{Terms, bookAfter}
+use Rattle.table_rules.specs.Table.{Table, lentOf, shareOf, recordOf, resetOn, askOn}
+use Rattle.table_rules.specs.Events.{Lending, current, another, Event, resetting, asking, tableFor, next, givenBy}
+use Rattle.table_rules.specs.Owed.{owes}
+use Rattle.table_rules.specs.Apart.{Sums}
+use Rattle.table_rules.specs.Demand3 as Table
+use Rattle.table_rules.specs.Demand3.{Terms, bookAfter}
 use Rattle.table_receiver.specs.Receive.{
   pieceIn,
   arrivalOf,

@@ -17,7 +17,7 @@ use Rattle.client_record.specs.declared.Client.{Client}
 use Rattle.client_reassembly.specs.declared.Arrival.{Arrival}
 use Rattle.client_reassembly.specs.Answer.{Reply, replyOf}
 use Rattle.client_ledger.specs.History.{Ask, offering}
-use Rattle.table_calls.specs.Table.{Table, After, askOn}
+use Rattle.table_rules.specs.Table.{Table, After, askOn}
 use Rattle.table_receiver.specs.declared.Found.{Found}
 use Rattle.table_receiver.specs.declared.Found.the-variants.{Other, Fragment as FoundFragment}
 use Rattle.table_receiver.specs.declared.Received.{Received}

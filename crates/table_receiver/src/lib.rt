@@ -12,7 +12,7 @@ use wire_nops::Strictness;
 ghost use mathlib.Core.Path.{_≡_};
 ghost use Prim.Native.Nat.{_≤_};
 ghost use lib.ListN.{length};
-ghost use Rattle.table_calls.specs.Table.{tableOf};
+ghost use Rattle.table_rules.specs.Table.{tableOf};
 ghost use Rattle.wire_datagram.specs.Reading.{answerOf};
 ghost use Rattle.table_receiver.specs.Receive.{pieceOf, arrivalOf, fateOf, foundBy, foundIn, fateIn, receiveOn, Leaves};
 

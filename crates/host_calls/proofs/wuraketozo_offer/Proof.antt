@@ -1,7 +1,7 @@
 -- `host_calls::wuraketozo_offer` meets its contract: the value of the table's answer to the fragment. `tools/lent/transplant.py` makes the modules below.
 -- Assumes nothing.
 use borrow.Author.Needs.{needs}
-use Rattle.table_calls.specs.Table.{tableOf}
+use Rattle.table_rules.specs.Table.{tableOf}
 use Rattle.host_calls.proofs.Facts.{offers}
 use Rattle.host_calls.proofs.wuraketozo_offer.Statement.{statement}
 use Rattle.host_calls.proofs.wuraketozo_offer.Proof.Tie as tie

@@ -2,7 +2,7 @@
 -- Assumes nothing.
 use mathlib.Core.Path.{ap}
 use Rattle.wire_nops.specs.declared.Strictness.{Strictness}
-use Rattle.table_calls.specs.Table.{tableOf}
+use Rattle.table_rules.specs.Table.{tableOf}
 use Rattle.table_receiver.specs.Receive.{Packet, receiveOn}
 use borrow.Author.Needs.{needs}
 use Rattle.host_calls.proofs.Facts.{receives}

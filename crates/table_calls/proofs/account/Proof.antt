@@ -13,8 +13,8 @@ use Rattle.client_record.specs.Limits.{shareSize}
 use Rattle.client_record.specs.Record.{freshClient}
 use Rattle.client_reassembly.specs.Answer.{replyOf}
 use Rattle.client_ledger.specs.History.{accounting}
-use Rattle.table_calls.specs.Table.{sized, tableOf, lentOf, recordOf}
-use Rattle.table_calls.proofs.Facts.{account-keeps, share-fits, same-part}
+use Rattle.table_rules.specs.Table.{sized, tableOf, lentOf, recordOf}
+use Rattle.table_rules.proofs.Facts.{account-keeps, share-fits, same-part}
 use Rattle.table_calls.proofs.Contracts.{misfit-leaves, unknown-leaves, granted-leaves}
 use Rattle.table_calls.proofs.account.Statement.{statement}
 use Rattle.table_calls.proofs.account.Proof.Tie as tie

@@ -11,8 +11,8 @@ use borrow.Author.Tests.{not-true, not-false}
 use Rattle.client_record.specs.Limits.{shareSize}
 use Rattle.client_reassembly.specs.Answer.{replyOf}
 use Rattle.client_ledger.specs.History.{advancing}
-use Rattle.table_calls.specs.Table.{sized, tableOf, lentOf}
-use Rattle.table_calls.proofs.Facts.{share-fits, same-part}
+use Rattle.table_rules.specs.Table.{sized, tableOf, lentOf}
+use Rattle.table_rules.proofs.Facts.{share-fits, same-part}
 use Rattle.table_calls.proofs.Contracts.{misfit-leaves, unknown-leaves, granted-leaves}
 use Rattle.table_calls.proofs.advance.Statement.{statement}
 use Rattle.table_calls.proofs.advance.Proof.Tie as tie

@@ -22,8 +22,8 @@ use Rattle.client_reassembly.specs.declared.Step.{Step}
 use Rattle.client_reassembly.specs.Offer.{fragmentOn}
 use Rattle.client_reassembly.specs.Post.{Left}
 use Rattle.client_ledger.specs.History.{offering}
-use Rattle.table_calls.specs.Table.{Table, lentOf, sized, shareOf, recordOf, askOn, tableOf, Leaves}
-use Rattle.table_calls.proofs.Facts.{share-fits, share-cut}
+use Rattle.table_rules.specs.Table.{Table, lentOf, sized, shareOf, recordOf, askOn, tableOf, Leaves}
+use Rattle.table_rules.proofs.Facts.{share-fits, share-cut}
 use Rattle.table_calls.proofs.Contracts.{misfit-leaves, unknown-leaves, granted-leaves}
 use Rattle.table_calls.proofs.offer.Statement.{statement}
 use Rattle.table_calls.proofs.offer.Proof.Tie as tie

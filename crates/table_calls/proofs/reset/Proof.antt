@@ -10,8 +10,8 @@ use borrow.Author.Needs.{needs}
 use borrow.Author.Tests.{not-true, not-false}
 use Rattle.client_record.specs.declared.Client.{Client}
 use Rattle.client_record.specs.Limits.{clientLimit}
-use Rattle.table_calls.specs.Table.{sized, tableOf}
-use Rattle.table_calls.proofs.Facts.{fits, reset-refused-leaves, reset-leaves}
+use Rattle.table_rules.specs.Table.{sized, tableOf}
+use Rattle.table_rules.proofs.Facts.{fits, reset-refused-leaves, reset-leaves}
 use Rattle.table_calls.proofs.Contracts.{fill-none, fill-more, filled-all}
 use Rattle.table_calls.proofs.reset.Statement.{statement}
 use Rattle.table_calls.proofs.reset.Proof.Tie as tie

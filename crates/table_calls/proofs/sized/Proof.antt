@@ -3,7 +3,7 @@
 use mathlib.Core.Path.{sym}
 use borrow.Author.Needs.{needs}
 use Rattle.client_record.specs.Limits.{shareSize, clientLimit}
-use Rattle.table_calls.proofs.Facts.{too-few, too-many, by-store}
+use Rattle.table_rules.proofs.Facts.{too-few, too-many, by-store}
 use Rattle.table_calls.proofs.sized.Statement.{statement}
 use Rattle.table_calls.proofs.sized.Tie as tie
 

@@ -7,7 +7,7 @@ use lib.ListN.{length}
 use native.Mathlib.Omega.{arith}
 use borrow.Author.Needs.{needs}
 use Rattle.table_receiver.specs.Receive.{Packet}
-use Rattle.table_calls.specs.Table.{tableOf}
+use Rattle.table_rules.specs.Table.{tableOf}
 use Rattle.table_receiver.proofs.Facts.{Met, met, other-leaves, fragment-leaves}
 use Rattle.table_receiver.proofs.receive.Statement.{statement}
 use Rattle.table_receiver.proofs.receive.Proof.Tie as tie

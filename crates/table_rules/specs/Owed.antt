@@ -9,8 +9,8 @@ use Rattle.client_ledger.specs.Book.{Result}
 use Rattle.client_ledger.specs.Lent.{misfits, Own, answered, bookOf}
 use Rattle.client_ledger.specs.History.{Lent, Ask, Given}
 use Rattle.client_ledger.specs.Bookkeeping.{callOf}
-use Rattle.table_calls.specs.Table.{lentOf}
-use Rattle.table_calls.specs.Events.{Lending, current, another, Event, resetting, asking}
+use Rattle.table_rules.specs.Table.{lentOf}
+use Rattle.table_rules.specs.Events.{Lending, current, another, Event, resetting, asking}
 
 abbrev pub sizesFor : Lending → Lent → Lent
 sizesFor current l = l

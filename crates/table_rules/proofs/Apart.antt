@@ -15,11 +15,11 @@ use Rattle.client_record.proofs.SoundParts.{sound-parts}
 use Rattle.client_reassembly.proofs.Lasting.{fresh-client-sound, fresh-client-shaped}
 use Rattle.client_ledger.specs.Shapes.{Shaped}
 use Rattle.client_ledger.specs.History.{Lent, Ask, Given, callOn}
-use Rattle.table_calls.specs.Table.{Table, lentOf, sized, shareOf, recordOf, After, cleared, resetOn, afterCall, askOn}
-use Rattle.table_calls.specs.Events.{current, another, Event, resetting, asking, next, final, givenBy, gives, Allowed, Keeps, ownOnly}
-use Rattle.table_calls.specs.Apart.{Sums, Formed, Tested, Same, Apart}
-use Rattle.table_calls.proofs.Facts.{share-length, unknown-is, granted-is, reset-taken}
-use Rattle.table_calls.proofs.PutBack.{unknown-table, asked-record, asked-share, asked-sizes, asked-other, asked-formed, asked-tested}
+use Rattle.table_rules.specs.Table.{Table, lentOf, sized, shareOf, recordOf, After, cleared, resetOn, afterCall, askOn}
+use Rattle.table_rules.specs.Events.{current, another, Event, resetting, asking, next, final, givenBy, gives, Allowed, Keeps, ownOnly}
+use Rattle.table_rules.specs.Apart.{Sums, Formed, Tested, Same, Apart}
+use Rattle.table_rules.proofs.Facts.{share-length, unknown-is, granted-is, reset-taken}
+use Rattle.table_rules.proofs.PutBack.{unknown-table, asked-record, asked-share, asked-sizes, asked-other, asked-formed, asked-tested}
 
 -- ---- the sum is in the record test
 

@@ -27,16 +27,16 @@ use Rattle.client_ledger.proofs.Clock.{same-figures}
 use Rattle.client_ledger.proofs.Apart.{follows, assembled-pairs}
 use Rattle.client_ledger.proofs.Placed.{each-placed}
 use Rattle.client_ledger.proofs.Delivered.{own-delivery, own-bytes, own-untouched}
-use Rattle.table_calls.specs.Table.{Table, lentOf, sized, shareOf, recordOf, After, cleared, askOn}
-use Rattle.table_calls.specs.Events.{Event, current, resetting, final, givenBy, gives, ownOnly}
-use Rattle.table_calls.specs.Owed.{givenIn, history, owes, sizesAfter, pastAfter}
-use Rattle.table_calls.specs.Apart.{Sums, Same}
-use Rattle.table_calls.specs.Demand3.{Terms, opening, tableAfter, bookAfter, Demand3}
-use Rattle.table_calls.proofs.Facts.{unknown-is, granted-is}
-use Rattle.table_calls.proofs.Tests.{misfit-agrees}
-use Rattle.table_calls.proofs.Apart.{cleared-sizes, cleared-formed, cleared-tested, opens, apart}
-use Rattle.table_calls.proofs.Steps.{Holds, call-answer, cleared-holds}
-use Rattle.table_calls.proofs.Lists.{reset-answer, answers-all, final-holds}
+use Rattle.table_rules.specs.Table.{Table, lentOf, sized, shareOf, recordOf, After, cleared, askOn}
+use Rattle.table_rules.specs.Events.{Event, current, resetting, final, givenBy, gives, ownOnly}
+use Rattle.table_rules.specs.Owed.{givenIn, history, owes, sizesAfter, pastAfter}
+use Rattle.table_rules.specs.Apart.{Sums, Same}
+use Rattle.table_rules.specs.Demand3.{Terms, opening, tableAfter, bookAfter, Demand3}
+use Rattle.table_rules.proofs.Facts.{unknown-is, granted-is}
+use Rattle.table_rules.proofs.Tests.{misfit-agrees}
+use Rattle.table_rules.proofs.Apart.{cleared-sizes, cleared-formed, cleared-tested, opens, apart}
+use Rattle.table_rules.proofs.Steps.{Holds, call-answer, cleared-holds}
+use Rattle.table_rules.proofs.Lists.{reset-answer, answers-all, final-holds}
 
 -- ---- the set-up that opens the list
 

@@ -15,10 +15,10 @@ use Rattle.client_ledger.specs.Lent.{bookOf}
 use Rattle.client_ledger.specs.Stands.{offerOf}
 use Rattle.client_ledger.specs.History.{Ask, offering}
 use Rattle.client_ledger.specs.Whole.{Whole, handed, Taken, assembled}
-use Rattle.table_calls.specs.Table.{Table, lentOf, sized, shareOf, recordOf, askOn}
-use Rattle.table_calls.specs.Events.{Event, resetting, current, final, gives, Keeps, ownOnly}
-use Rattle.table_calls.specs.Owed.{history, owes}
-use Rattle.table_calls.specs.Apart.{Sums}
+use Rattle.table_rules.specs.Table.{Table, lentOf, sized, shareOf, recordOf, askOn}
+use Rattle.table_rules.specs.Events.{Event, resetting, current, final, gives, Keeps, ownOnly}
+use Rattle.table_rules.specs.Owed.{history, owes}
+use Rattle.table_rules.specs.Apart.{Sums}
 
 -- the list opens with a set-up that is taken: the table has the sizes that 20 asks for, and the calls behind it keep the terms
 pub record Terms (t : Table) (es : List Event) : Type 0 where

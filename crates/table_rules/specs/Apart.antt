@@ -8,8 +8,8 @@ use lib.ListN.{length}
 use Rattle.client_record.specs.declared.Client.{Client}
 use Rattle.client_record.specs.Record.{soundRecord}
 use Rattle.client_ledger.specs.Shapes.{Shaped}
-use Rattle.table_calls.specs.Table.{Table, lentOf, sized, shareOf, recordOf}
-use Rattle.table_calls.specs.Events.{Event, final, gives, Keeps, ownOnly}
+use Rattle.table_rules.specs.Table.{Table, lentOf, sized, shareOf, recordOf}
+use Rattle.table_rules.specs.Events.{Event, final, gives, Keeps, ownOnly}
 
 -- "offered = held + delivered + expired + clashed + repeated + turned away"
 abbrev pub Sums : Client → Type 0

@@ -25,7 +25,7 @@ use Rattle.client_reassembly.specs.declared.Refusal.the-variants.{TableMisfit}
 use Rattle.client_reassembly.specs.Advance as Advance
 use Rattle.client_reassembly.specs.Advance.{figures, accountOn}
 use Rattle.client_ledger.specs.History.{Lent, Ask, callOn}
-use Rattle.table_calls.specs.Table.{Table, lentOf, sized, shareOf, recordOf, After, resetOn, outLent, afterCall, askOn, Leaves, askTests, cleared}
+use Rattle.table_rules.specs.Table.{Table, lentOf, sized, shareOf, recordOf, After, resetOn, outLent, afterCall, askOn, Leaves, askTests, cleared}
 
 -- ---- the sizes of a table
 

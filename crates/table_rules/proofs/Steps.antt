@@ -18,14 +18,14 @@ use Rattle.client_ledger.specs.History.{Lent, Ask, offering, advancing, account
 use Rattle.client_ledger.specs.Bookkeeping.{callOf}
 use Rattle.client_ledger.proofs.Theorem.{one-client-theorem}
 use Rattle.client_ledger.proofs.Own.{own-misfit, own-unknown, own-granted, book-more, book-none}
-use Rattle.table_calls.specs.Table.{Table, lentOf, sized, shareOf, recordOf, After, cleared, resetOn, outLent, askOn}
-use Rattle.table_calls.specs.Events.{Lending, current, another, Event, resetting, asking, tableFor, next, givenBy, Allowed}
-use Rattle.table_calls.specs.Owed.{ownCall, sizesAfter, pastAfter, givenIn}
-use Rattle.table_calls.specs.Apart.{Formed}
-use Rattle.table_calls.proofs.Facts.{share-length, misfit-is, unknown-is, granted-is, reset-taken}
-use Rattle.table_calls.proofs.PutBack.{unknown-table, asked-sizes, asked-each, asked-formed}
-use Rattle.table_calls.proofs.Apart.{cleared-sizes}
-use Rattle.table_calls.proofs.Tests.{misfit-agrees, client-agrees}
+use Rattle.table_rules.specs.Table.{Table, lentOf, sized, shareOf, recordOf, After, cleared, resetOn, outLent, askOn}
+use Rattle.table_rules.specs.Events.{Lending, current, another, Event, resetting, asking, tableFor, next, givenBy, Allowed}
+use Rattle.table_rules.specs.Owed.{ownCall, sizesAfter, pastAfter, givenIn}
+use Rattle.table_rules.specs.Apart.{Formed}
+use Rattle.table_rules.proofs.Facts.{share-length, misfit-is, unknown-is, granted-is, reset-taken}
+use Rattle.table_rules.proofs.PutBack.{unknown-table, asked-sizes, asked-each, asked-formed}
+use Rattle.table_rules.proofs.Apart.{cleared-sizes}
+use Rattle.table_rules.proofs.Tests.{misfit-agrees, client-agrees}
 
 -- every record and share stands for its client's book
 pub record Holds (t : Table) (b : ℕ → Book) : Type 0 where

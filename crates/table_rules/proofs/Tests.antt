@@ -11,7 +11,7 @@ use borrow.Author.Tests.{ltb-true, ltb-false, eqb-true, eqb-false, le-leb, lt-le
 use Rattle.client_record.specs.Limits.{shareSize, clientLimit}
 use Rattle.client_ledger.specs.Lent.{countOff, storeOff, misfits, noClient, lentTests}
 use Rattle.client_ledger.specs.History.{Lent}
-use Rattle.table_calls.specs.Table.{sized, askTests}
+use Rattle.table_rules.specs.Table.{sized, askTests}
 
 -- ---- numbers
 

@@ -13,12 +13,12 @@ use Rattle.client_ledger.specs.Stands.{offerOf}
 use Rattle.client_ledger.specs.History.{offering, accounting}
 use Rattle.client_ledger.specs.Whole.{Whole, handed, Taken, assembled}
 use Rattle.client_ledger.proofs.Theorem.{one-client-theorem}
-use Rattle.table_calls.specs.Table.{Table, lentOf, shareOf, recordOf, After, askOn}
-use Rattle.table_calls.specs.Events.{Event, gives, Keeps, ownOnly}
-use Rattle.table_calls.specs.Apart.{Sums}
-use Rattle.table_calls.specs.Demand3.{Terms, opening, tableAfter, bookAfter}
-use Rattle.table_calls.proofs.Facts.{granted-is}
-use Rattle.table_calls.proofs.Demand3.{stands-all, demand-3}
+use Rattle.table_rules.specs.Table.{Table, lentOf, shareOf, recordOf, After, askOn}
+use Rattle.table_rules.specs.Events.{Event, gives, Keeps, ownOnly}
+use Rattle.table_rules.specs.Apart.{Sums}
+use Rattle.table_rules.specs.Demand3.{Terms, opening, tableAfter, bookAfter}
+use Rattle.table_rules.proofs.Facts.{granted-is}
+use Rattle.table_rules.proofs.Demand3.{stands-all, demand-3}
 
 -- ---- after every call: what is in front of any list that keeps the terms keeps them
 

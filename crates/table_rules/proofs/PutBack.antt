@@ -26,9 +26,9 @@ use Rattle.client_reassembly.proofs.Lasting.{elapse-shaped, fragment-call-sound
 use Rattle.client_ledger.specs.Shapes.{Shaped}
 use Rattle.client_ledger.specs.History.{Lent, Ask, offering, advancing, accounting, callOn}
 use Rattle.client_ledger.proofs.Shares.{fragment-call-share}
-use Rattle.table_calls.specs.Table.{Table, lentOf, sized, shareOf, recordOf, After, putBack, askOn}
-use Rattle.table_calls.specs.Apart.{Formed, Tested, Same}
-use Rattle.table_calls.proofs.Facts.{share-fits, shares-apart, unknown-is, granted-is, part-before, part-behind, account-keeps}
+use Rattle.table_rules.specs.Table.{Table, lentOf, sized, shareOf, recordOf, After, putBack, askOn}
+use Rattle.table_rules.specs.Apart.{Formed, Tested, Same}
+use Rattle.table_rules.proofs.Facts.{share-fits, shares-apart, unknown-is, granted-is, part-before, part-behind, account-keeps}
 
 -- ---- one client's own rules
 

@@ -6,7 +6,7 @@ use mathlib.Core.Bool.{false, cond}
 use mathlib.Core.List.{List, [], _∷_}
 use lib.Dec.{eqb}
 use Rattle.client_ledger.specs.History.{Ask, Given}
-use Rattle.table_calls.specs.Table.{Table, lentOf, sized, After, resetOn, askOn}
+use Rattle.table_rules.specs.Table.{Table, lentOf, sized, After, resetOn, askOn}
 
 -- the table that a call is lent: the one that the calls before it left, or another
 pub data Lending : Type 0 where
