@@ -17,8 +17,9 @@ use Rattle.wire_options.specs.Walk.{optionLimit, walkFrom}
 use Rattle.wire_area.specs.Area.{areaOf}
 use Rattle.wire_surplus.specs.Surplus.{startOf}
 use Rattle.wire_datagram.specs.Reading.{payloadLimit, accepted, reading}
-use Rattle.list_encoding.specs.Shape.{shapeOf}
-use Rattle.list_encoding.specs.Encoding.{readNumber, readFields, readBody, readKind, readOption, readOptions, decodedList}
+use Rattle.list_entry.specs.Shape.{shapeOf}
+use Rattle.list_entry.specs.Option.{readNumber, readFields, readBody, readKind, readOption}
+use Rattle.list_encoding.specs.Encoding.{readOptions, decodedList}
 use Rattle.list_payload.specs.Payload as Payload
 use Rattle.list_payload.specs.Payload.{wireOf, worked, workedAll, wires, listOf, payloadOf}
 use Rattle.list_writer.specs.Answer.{fits, putWhole, written}

@@ -1,7 +1,6 @@
 // The surplus area, laid over a buffer whose first byte is that of the UDP header.
-use list_encoding::entry;
-use list_encoding::entry::Entry;
-use list_encoding::entry::Field;
+use list_entry::Entry;
+use list_entry::Field;
 use list_wire::apc::COUNTS;
 use list_wire::wire;
 ghost use mathlib.Core.Path.{_≡_};
@@ -11,7 +10,7 @@ ghost use lib.ListN.{length, drop, replicate};
 ghost use Rattle.number_octets.specs.Octets.{octets, part, overlay};
 ghost use Rattle.number_checksum.specs.Checksum.{wordSum, folded, sent};
 ghost use Rattle.wire_datagram.specs.Reading.{isOdd};
-ghost use Rattle.list_encoding.specs.Encoding.{readOption};
+ghost use Rattle.list_entry.specs.Option.{readOption};
 ghost use Rattle.list_wire.specs.Parts.{Laid, Passes, wireRead, wiresRead, wiresListed, listedBytes};
 
 // Where the next option stands in the list, and where the one before it ends in the buffer.
@@ -60,7 +59,7 @@ fn put_listed(list: &[u8], crc: u32, buffer: &mut [u8], at: usize) -> usize
     requires { ⌜ at + length (wiresListed crc (now list)) ≤ length (now buffer) ⌝ }
     ensures { λ r. ⌜ Laid (now (buffer .entry)) at (wiresListed crc (now (list .entry))) (now (buffer .exit)) r ⌝ }
 {
-    let number = entry::number_at(list, 0, COUNTS);
+    let number = list_entry::number_at(list, 0, COUNTS);
     match number {
         Field::Value { value, next } => put_options(list, next, value as usize, crc, buffer, at),
         Field::Refused => at,
@@ -96,7 +95,7 @@ fn put_entry(list: &[u8], from: usize, crc: u32, buffer: &mut [u8], at: usize) -
     requires { ⌜ at + length (wireRead crc (readOption (drop from (now list)))) ≤ length (now buffer) ⌝ }
     ensures { λ r. ⌜ Passes (now (list .entry)) from crc (now (buffer .entry)) at (now (buffer .exit)) (r .next) (r .end) ⌝ }
 {
-    let found = entry::entry_at(list, from);
+    let found = list_entry::entry_at(list, from);
     match found {
         Entry::Fields {
             kind,

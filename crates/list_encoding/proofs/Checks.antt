@@ -12,26 +12,9 @@ use lib.ListN.{length, drop, drop-of-length-le}
 use lib.Seq.{drop-cons}
 use Rattle.wire_step.specs.Kinds.{apc}
 use Rattle.wire_options.specs.Walk.{Item, optionLimit}
-use Rattle.list_encoding.specs.Shape.{Shape, fields, raw, barred, shapeOf}
-use Rattle.list_encoding.specs.Encoding.{
-  Answer,
-  given,
-  refused,
-  unreadable,
-  longestBody,
-  Read,
-  got,
-  failed,
-  andThen,
-  readAs,
-  readNumber,
-  readOption,
-  readOptions,
-  toTheEnd,
-  decodedList,
-  total,
-  Shaped,
-}
+use Rattle.list_entry.specs.Shape.{Shape, fields, raw, barred, shapeOf}
+use Rattle.list_entry.specs.Option.{longestBody, Read, got, failed, andThen, readAs, readNumber, readOption, total, Shaped}
+use Rattle.list_encoding.specs.Encoding.{Answer, given, refused, unreadable, readOptions, toTheEnd, decodedList}
 use Rattle.list_encoding.specs.Wire.{
   crcWidth,
   longestShort,
@@ -47,10 +30,11 @@ use Rattle.list_encoding.specs.Wire.{
   sizedBefore,
   sizedAt,
 }
-use Rattle.list_encoding.proofs.Shapes.{shape-cases, shape-short, shape-token}
-use Rattle.list_encoding.proofs.Places.{ValueAt, place-of}
-use Rattle.list_encoding.proofs.Readers.{OptionAt, option-at}
-use Rattle.list_encoding.proofs.Entered.{FieldsAt, BodyAt}
+use Rattle.list_entry.proofs.Shapes.{shape-cases, shape-token}
+use Rattle.list_encoding.proofs.Shapes.{shape-short}
+use Rattle.list_entry.proofs.Places.{ValueAt, place-of}
+use Rattle.list_entry.proofs.Readers.{OptionAt, option-at}
+use Rattle.list_entry.proofs.Entered.{FieldsAt, BodyAt}
 
 -- ---- the size of one option
 

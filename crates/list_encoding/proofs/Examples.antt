@@ -7,28 +7,9 @@ use lib.ListN.{replicate}
 use Rattle.number_octets.specs.Octets.{number, octets}
 use Rattle.number_varint.specs.SevenBit.{isLast, isIdle, isNarrow, inFront, front, narrowed, number as frontNumber, groups, encoded}
 use Rattle.wire_options.specs.Walk.{Item, optionLimit}
-use Rattle.list_encoding.specs.Shape.{shapeOf}
-use Rattle.list_encoding.specs.Encoding.{
-  Answer,
-  given,
-  refused,
-  unreadable,
-  forbidden,
-  itemOf,
-  encodedFields,
-  encodedBody,
-  encodedOption,
-  encodedOptions,
-  encodedList,
-  readNumber,
-  readFields,
-  readBody,
-  readKind,
-  readOption,
-  readOptions,
-  decodedList,
-}
-use Rattle.list_encoding.specs.Answer.{numbers, values, entryAt}
+use Rattle.list_entry.specs.Shape.{shapeOf}
+use Rattle.list_entry.specs.Option.{forbidden, itemOf, encodedFields, encodedBody, encodedOption, readNumber, readFields, readBody, readKind, readOption}
+use Rattle.list_encoding.specs.Encoding.{Answer, given, refused, unreadable, encodedOptions, encodedList, readOptions, decodedList}
 use Rattle.list_encoding.specs.Wire.{wholeLength, bodyOnWire, optionSize, wireSize, measured}
 
 -- figure 1: a REQ with token 300; figure 3: no option
@@ -82,12 +63,7 @@ written : encodedList (itemOf 4 (0xFF ∷ 0xFF ∷ []) ∷ itemOf 190 (7 ∷ [])
 unfolding isLast groups encoded number shapeOf encodedFields encodedBody encodedOption encodedOptions encodedList
 written = refl
 
--- what `entry_at` and `check` find in figure 1, and the sizes around the extended form
-entry-1 : entryAt (0x01 ∷ 0x06 ∷ 0xAC ∷ 0x02 ∷ []) 1 ≡ given (numbers 6 300 0 4)
-unfolding isLast isIdle isNarrow inFront front narrowed frontNumber number octets shapeOf optionLimit
-    readNumber readFields readBody readKind readOption values entryAt
-entry-1 = refl
-
+-- what `check` finds in figure 1, and the sizes around the extended form
 totals-1 : measured (decodedList (0x01 ∷ 0x06 ∷ 0xAC ∷ 0x02 ∷ [])) ≡ given (record { count = 1; size = 6 })
 unfolding isLast isIdle isNarrow inFront front narrowed frontNumber octets shapeOf optionLimit
     readNumber readFields readBody readKind readOption readOptions decodedList wholeLength bodyOnWire optionSize wireSize

@@ -1,13 +1,6 @@
--- `Laws` has the laws of encoded option lists, and `Entered` what an answer of `entry_at` says, for the crates that link this one. `Shapes` goes through
--- the kinds, `Numbers`, `Parts` and `Readers` have what is read from the front, `Places` and `Entries` the same from a position, `Checks` the walk that measures,
--- and `Examples` computed examples.
+-- `Laws` has the laws of encoded option lists, for the crates that link this one. `Shapes` has the sizes of fields, `Checks` the walk that measures, and
+-- `Examples` computed examples.
 pub mod Shapes
-pub mod Numbers
-pub mod Parts
-pub mod Places
-pub mod Readers
 pub mod Laws
-pub mod Entries
-pub mod Entered
 pub mod Checks
 pub mod Examples

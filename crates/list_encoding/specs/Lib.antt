@@ -1,6 +1,3 @@
--- `Shape` says how options of each kind stand in an encoded option list, and `Encoding` writes and reads such lists. `Answer` says what the functions
--- of `entry` answer, and `Wire` what `check` answers: the size of options on the wire.
-pub mod Shape
+-- `Encoding` writes and reads encoded option lists. `Wire` says what `check` answers: the size of options on the wire.
 pub mod Encoding
-pub mod Answer
 pub mod Wire

@@ -6,8 +6,8 @@ use lib.Dec.{eqb, leb}
 use lib.ListN.{length, drop}
 use Rattle.wire_step.specs.Kinds.{apc}
 use Rattle.wire_options.specs.Walk.{Item}
-use Rattle.list_encoding.specs.Shape.{Shape, fields, raw, barred, shapeOf}
-use Rattle.list_encoding.specs.Encoding.{Answer, given, refused, unreadable, forbidden, Read, got, failed, readOption, total}
+use Rattle.list_entry.specs.Shape.{Shape, fields, raw, barred, shapeOf}
+use Rattle.list_entry.specs.Option.{Answer, given, refused, unreadable, forbidden, Read, got, failed, readOption, total}
 use Rattle.list_encoding.specs.declared.check.Checked.{Checked}
 use Rattle.list_encoding.specs.declared.check.Checked.the-variants.{Sound, Unreadable, Forbidden}
 use Rattle.list_encoding.specs.declared.check.Measured.{Measured}

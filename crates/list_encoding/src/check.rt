@@ -1,11 +1,11 @@
 // Whether an encoded option list can be taken whole, and what its options take on the wire.
-use crate::entry;
-use crate::entry::Entry;
-use crate::entry::Field;
+use list_entry::Entry;
+use list_entry::Field;
 ghost use mathlib.Core.Path.{_≡_};
 ghost use Prim.Native.Nat.{_≤_};
 ghost use lib.ListN.{drop};
-ghost use Rattle.list_encoding.specs.Encoding.{longestBody, toTheEnd, readOptions, decodedList};
+ghost use Rattle.list_entry.specs.Option.{longestBody};
+ghost use Rattle.list_encoding.specs.Encoding.{toTheEnd, readOptions, decodedList};
 ghost use Rattle.list_encoding.specs.Wire.{wholeLength, fieldsOnWire, measured, checkedAnswer, sizedAt, measuredAnswer};
 
 pub enum Checked {
@@ -31,7 +31,7 @@ const LONGEST_SHORT_BODY: usize = 252;
 pub fn check(list: &[u8]) -> Checked
     ensures { λ r. ⌜ checkedAnswer r ≡ measured (decodedList (now (list .entry))) ⌝ }
 {
-    let number = entry::number_at(list, 0, COUNTS);
+    let number = list_entry::number_at(list, 0, COUNTS);
     match number {
         Field::Value { value, next } => check_options(list, next, value as usize),
         Field::Refused => Checked::Unreadable,
@@ -71,7 +71,7 @@ fn check_options(list: &[u8], start: usize, count: usize) -> Checked
 fn measure_at(list: &[u8], at: usize) -> Measured
     ensures { λ r. ⌜ measuredAnswer r ≡ sizedAt (now (list .entry)) at ⌝ }
 {
-    let found = entry::entry_at(list, at);
+    let found = list_entry::entry_at(list, at);
     match found {
         Entry::Fields {
             kind,

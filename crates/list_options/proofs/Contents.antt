@@ -15,12 +15,12 @@ use Rattle.wire_step.specs.Step.{stepOf}
 use Rattle.wire_step.specs.declared.Step.the-variants.{Found}
 use Rattle.wire_step.proofs.Steps.{step-found}
 use Rattle.wire_options.specs.Walk.{Item, itemOf}
-use Rattle.list_encoding.specs.Shape.{Shape, fields, raw, shapeOf}
-use Rattle.list_encoding.specs.Encoding.{encodedFields, encodedBody, encodedOption, longestBody}
+use Rattle.list_entry.specs.Shape.{Shape, fields, raw, shapeOf}
+use Rattle.list_entry.specs.Option.{encodedFields, encodedBody, encodedOption, longestBody}
 use Rattle.list_options.specs.Listing.{unworked, contentCode, Within, ContentOf}
 use Rattle.list_options.specs.declared.Content.{Content}
 use Rattle.list_options.specs.declared.Content.the-variants.{Bare, One, Two, Raw}
-use Rattle.list_encoding.proofs.Shapes.{shape-cases}
+use Rattle.list_entry.proofs.Shapes.{shape-cases}
 use Rattle.list_options.proofs.Founds.{Fitting, found-fits}
 use Rattle.list_options.proofs.Listings.{unworked-apc, unworked-other, unworked-kind, found-length}
 

@@ -11,8 +11,9 @@ use Rattle.number_varint.specs.SevenBit.{isLast, groups, encoded}
 use Rattle.wire_step.specs.Kinds.{classOf}
 use Rattle.wire_step.specs.Step.{headerOf, stepOf}
 use Rattle.wire_options.specs.Walk.{walkFrom, optionLimit}
-use Rattle.list_encoding.specs.Shape.{shapeOf}
-use Rattle.list_encoding.specs.Encoding.{encodedFields, encodedBody, encodedOption, encodedOptions, encodedList}
+use Rattle.list_entry.specs.Shape.{shapeOf}
+use Rattle.list_entry.specs.Option.{encodedFields, encodedBody, encodedOption}
+use Rattle.list_encoding.specs.Encoding.{encodedOptions, encodedList}
 use Rattle.list_options.specs.Listing.{unworked, unworkedAll, fillOf, listing, roomFor}
 
 -- a REQ with token 300, and EOL with two zero bytes behind it

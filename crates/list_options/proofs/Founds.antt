@@ -18,10 +18,10 @@ use Rattle.wire_step.specs.declared.Class.the-variants.{EndOfList, NoOperation,
 use Rattle.wire_step.specs.declared.Header.the-variants.{Sound}
 use Rattle.wire_step.specs.declared.Step.the-variants.{Found}
 use Rattle.wire_step.proofs.Steps.{header-sound, step-found}
-use Rattle.list_encoding.specs.Shape.{Shape, fields, raw, barred, shapeOf}
-use Rattle.list_encoding.specs.Encoding.{longestBody, total}
+use Rattle.list_entry.specs.Shape.{Shape, fields, raw, barred, shapeOf}
+use Rattle.list_entry.specs.Option.{longestBody, total}
 use Rattle.list_encoding.specs.Wire.{fieldsOnWire}
-use Rattle.list_encoding.proofs.Shapes.{cond-cases, shape-raw}
+use Rattle.list_entry.proofs.Shapes.{cond-cases, shape-raw}
 
 -- ---- the classes of kinds, row by row
 

@@ -18,8 +18,9 @@ use Rattle.wire_step.specs.declared.Step.the-variants.{Found}
 use Rattle.wire_step.proofs.Steps.{step-found}
 use Rattle.wire_options.specs.Walk.{Item, Walked, listed, faulty, itemOf, walkFrom, optionLimit, itemsOf}
 use Rattle.wire_options.proofs.Rests.{walk-all}
-use Rattle.list_encoding.specs.Shape.{Shape, fields, raw, barred, shapeOf}
-use Rattle.list_encoding.specs.Encoding.{encodedFields, encodedBody, encodedOption, encodedOptions, total, Shaped, ValidOption, Each, Valid, itemOf as optionOf}
+use Rattle.list_entry.specs.Shape.{Shape, fields, raw, barred, shapeOf}
+use Rattle.list_entry.specs.Option.{encodedFields, encodedBody, encodedOption, total, Shaped, ValidOption, itemOf as optionOf}
+use Rattle.list_encoding.specs.Encoding.{encodedOptions, Each, Valid}
 use Rattle.list_encoding.specs.Wire.{crcWidth, widthsOf, fieldsOnWire}
 use Rattle.list_options.specs.Listing.{unworked, unworkedAll}
 use Rattle.list_encoding.proofs.Shapes.{shape-few}

@@ -5,7 +5,8 @@ use mathlib.Core.List.{List, [], _∷_, _++_}
 use Prim.Native.Nat.{ℕ}
 use Rattle.wire_options.specs.Walk.{Item, walkFrom, optionLimit, itemsOf}
 use Rattle.wire_options.proofs.Rests.{Rest, rest-all}
-use Rattle.list_encoding.specs.Encoding.{encodedOption, encodedOptions}
+use Rattle.list_entry.specs.Option.{encodedOption}
+use Rattle.list_encoding.specs.Encoding.{encodedOptions}
 use Rattle.list_options.specs.Listing.{unworked, unworkedAll, Sound}
 
 abbrev pub code : List Item → List ℕ

@@ -11,8 +11,9 @@ use Rattle.number_varint.specs.SevenBit.{encoded}
 pub use Rattle.number_varint.specs.Answer.{tooSmall}
 use Rattle.wire_step.specs.Kinds.{apc}
 use Rattle.wire_options.specs.Walk.{Item, Walked, listed, faulty, itemsOf}
-use Rattle.list_encoding.specs.Shape.{shapeOf}
-use Rattle.list_encoding.specs.Encoding.{Answer, given, refused, itemOf, encodedBody, encodedList, longestBody}
+use Rattle.list_entry.specs.Shape.{shapeOf}
+use Rattle.list_entry.specs.Option.{itemOf, encodedBody, longestBody}
+use Rattle.list_encoding.specs.Encoding.{Answer, given, refused, encodedList}
 use Rattle.list_options.specs.declared.Listed.{Listed}
 use Rattle.list_options.specs.declared.Listed.the-variants.{Written, Full}
 use Rattle.list_options.specs.declared.Content.{Content}

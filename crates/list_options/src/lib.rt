@@ -13,7 +13,8 @@ ghost use Rattle.wire_nops.specs.Nops.{nopsOf};
 ghost use Rattle.wire_step.specs.Kinds.{frag};
 ghost use Rattle.wire_step.specs.Step.{stepOf};
 ghost use Rattle.wire_options.specs.Walk.{itemOf, walkFrom, optionLimit, itemsOf};
-ghost use Rattle.list_encoding.specs.Encoding.{encodedOption, encodedOptions};
+ghost use Rattle.list_entry.specs.Option.{encodedOption};
+ghost use Rattle.list_encoding.specs.Encoding.{encodedOptions};
 ghost use Rattle.list_options.specs.Listing.{unworked, unworkedAll, fillOf, Sound, ListedInto, contentCode, Within, ContentOf, WrittenAt};
 
 pub enum Listed {

@@ -24,8 +24,9 @@ use Rattle.wire_datagram.specs.Reading.{payloadLimit, extent, apcValues, allAre
 use Rattle.wire_datagram.specs.declared.reading.Apc.the-variants.{Absent, Right, Wrong}
 use Rattle.wire_datagram.specs.declared.reading.Verdict.the-variants.{Read}
 use Rattle.wire_datagram.specs.declared.reading.Reading.{Reading}
-use Rattle.list_encoding.specs.Shape.{fields, raw, barred, shapeOf}
-use Rattle.list_encoding.specs.Encoding.{given, decodedList, encodedList, longestBody, Shaped, ValidOption, Each as EachValid, Valid, total}
+use Rattle.list_entry.specs.Shape.{fields, raw, barred, shapeOf}
+use Rattle.list_entry.specs.Option.{longestBody, Shaped, ValidOption, total}
+use Rattle.list_encoding.specs.Encoding.{given, decodedList, encodedList, Each as EachValid, Valid}
 use Rattle.list_encoding.specs.Wire.{longestShort}
 use Rattle.list_options.specs.Listing.{unworked, unworkedAll, listing}
 use Rattle.list_encoding.proofs.Laws.{encode-decode}

@@ -9,8 +9,9 @@ use Rattle.wire_step.specs.Kinds.{classOf}
 use Rattle.wire_step.specs.Step.{headerOf, stepOf}
 use Rattle.wire_options.specs.Walk.{listed, walkFrom, optionLimit}
 use Rattle.wire_datagram.specs.declared.reading.Verdict.the-variants.{BadSum, Read}
-use Rattle.list_encoding.specs.Shape.{shapeOf}
-use Rattle.list_encoding.specs.Encoding.{encodedFields, encodedBody, encodedOption, encodedOptions, encodedList}
+use Rattle.list_entry.specs.Shape.{shapeOf}
+use Rattle.list_entry.specs.Option.{encodedFields, encodedBody, encodedOption}
+use Rattle.list_encoding.specs.Encoding.{encodedOptions, encodedList}
 use Rattle.list_options.specs.Listing.{unworked, unworkedAll, listing}
 use Rattle.list_readings.specs.Catalogue.{walkOfValue}
 

@@ -13,7 +13,7 @@ use lib.ListN.{length, take, drop, set, replicate, length-append, length-replica
 use lib.Seq.{length-take-le, drop-drop, drop-at}
 use Rattle.number_octets.specs.Octets.{octets, overlay}
 use Rattle.number_octets.proofs.Laws.{length-octets, length-overlay, take-overlay, overlay-append, overlay-sets, octets-mod}
-use Rattle.list_encoding.specs.Encoding.{itemOf}
+use Rattle.list_entry.specs.Option.{itemOf}
 use Rattle.list_encoding.specs.Wire.{longestShort, wholeLength}
 use Rattle.list_payload.specs.Payload.{wireOf}
 use Rattle.list_wire.specs.Parts.{Laid, headOf}

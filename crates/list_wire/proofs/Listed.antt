@@ -14,16 +14,18 @@ use Rattle.number_octets.proofs.Laws.{length-octets, octets-number, part-bytes}
 use Rattle.number_crc32c.specs.Crc.{crcOf}
 use Rattle.wire_step.specs.Kinds.{apc}
 use Rattle.wire_options.specs.Walk.{Item, optionLimit}
-use Rattle.list_encoding.specs.Shape.{fields, raw, shapeOf}
-use Rattle.list_encoding.specs.Encoding.{given, Read, got, failed, andThen, readAs, readNumber, readOption, readOptions, decodedList, itemOf, total}
-use Rattle.list_encoding.specs.Answer.{values}
+use Rattle.list_entry.specs.Shape.{fields, raw, shapeOf}
+use Rattle.list_entry.specs.Option.{Read, got, failed, andThen, readAs, readNumber, readOption, itemOf, total}
+use Rattle.list_encoding.specs.Encoding.{given, readOptions, decodedList}
+use Rattle.list_entry.specs.Answer.{values}
 use Rattle.list_encoding.specs.Wire.{wholeLength, crcWidth, bodyOnWire, optionSize, wireSize, widthsOf, fieldsOnWire}
-use Rattle.list_encoding.proofs.Parts.{then-got, as-got, end-got}
-use Rattle.list_encoding.proofs.Shapes.{shape-cases}
-use Rattle.list_encoding.proofs.Numbers.{bytes-drop}
-use Rattle.list_encoding.proofs.Laws.{option-read}
-use Rattle.list_encoding.proofs.Places.{ValueAt}
-use Rattle.list_encoding.proofs.Entered.{FieldsAt, BodyAt}
+use Rattle.list_entry.proofs.Parts.{then-got, as-got}
+use Rattle.list_encoding.proofs.Laws.{end-got}
+use Rattle.list_entry.proofs.Shapes.{shape-cases}
+use Rattle.list_entry.proofs.Numbers.{bytes-drop}
+use Rattle.list_entry.proofs.Laws.{option-read}
+use Rattle.list_entry.proofs.Places.{ValueAt}
+use Rattle.list_entry.proofs.Entered.{FieldsAt, BodyAt}
 use Rattle.list_payload.specs.Payload.{wireOf, worked, workedAll, wires}
 use Rattle.list_wire.specs.Parts.{Laid, fieldBytes, fieldBody, workedBy, wireRead, leftBehind, wiresRead, wiresCounted, wiresListed, apcRead, apcsRead}
 use Rattle.list_wire.proofs.Laying.{wire-length, laid-append, behind-room}

@@ -1,7 +1,6 @@
 // The CRC that the APCs of an option list carry.
-use list_encoding::entry;
-use list_encoding::entry::Entry;
-use list_encoding::entry::Field;
+use list_entry::Entry;
+use list_entry::Field;
 ghost use mathlib.Core.Path.{_≡_};
 ghost use lib.ListN.{drop};
 ghost use Rattle.number_crc32c.specs.Crc.{crcOf};
@@ -22,7 +21,7 @@ struct Seen {
 pub fn crc_for(list: &[u8], data: &[u8]) -> u32
     ensures { λ r. ⌜ wiresListed r (now (list .entry)) ≡ wiresListed (crcOf (now («data» .entry))) (now (list .entry)) ⌝ }
 {
-    let number = entry::number_at(list, 0, COUNTS);
+    let number = list_entry::number_at(list, 0, COUNTS);
     match number {
         Field::Value { value, next } => {
             if has_apc(list, next, value as usize) {
@@ -55,7 +54,7 @@ fn has_apc(list: &[u8], start: usize, count: usize) -> bool
 fn look(list: &[u8], from: usize) -> Seen
     ensures { λ r. ⌜ Sees (now (list .entry)) from (r .next) (r .apc) ⌝ }
 {
-    let found = entry::entry_at(list, from);
+    let found = list_entry::entry_at(list, from);
     match found {
         Entry::Fields {
             kind,

@@ -3,7 +3,7 @@ ghost use mathlib.Core.List.{[], _∷_, _++_};
 ghost use Prim.Native.Nat.{_+_, _≤_};
 ghost use lib.ListN.{length};
 ghost use Rattle.number_octets.specs.Octets.{octets};
-ghost use Rattle.list_encoding.specs.Encoding.{longestBody, itemOf};
+ghost use Rattle.list_entry.specs.Option.{longestBody, itemOf};
 ghost use Rattle.list_encoding.specs.Wire.{wholeLength, fieldsOnWire};
 ghost use Rattle.list_payload.specs.Payload.{wireOf};
 ghost use Rattle.list_wire.specs.Parts.{Laid, headOf, fieldBody};

@@ -8,7 +8,8 @@ use lib.Dec.{leb}
 use lib.ListN.{length, drop}
 use Rattle.wire_options.specs.Walk.{Item}
 use Rattle.wire_datagram.specs.Reading.{payloadLimit}
-use Rattle.list_encoding.specs.Encoding.{Answer, given, refused, unreadable, forbidden, decodedList}
+use Rattle.list_entry.specs.Option.{forbidden}
+use Rattle.list_encoding.specs.Encoding.{Answer, given, refused, unreadable, decodedList}
 use Rattle.list_payload.specs.Payload.{Datagram, payloadOf}
 use Rattle.list_writer.specs.declared.Written.{Written}
 use Rattle.list_writer.specs.declared.Written.the-variants.{Payload, Unreadable, Forbidden, TooLarge}

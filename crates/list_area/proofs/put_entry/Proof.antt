@@ -6,9 +6,9 @@ use Prim.Native.Nat.{ℕ, _-_}
 use native.Mathlib.Omega.{arith}
 use lib.ListN.{length, drop}
 use Rattle.number_octets.specs.Octets.{Octets, part}
-use Rattle.list_encoding.specs.Answer.{entryAnswer}
+use Rattle.list_entry.specs.Answer.{entryAnswer}
 use Rattle.list_encoding.specs.Wire.{wholeLength}
-use Rattle.list_encoding.proofs.Entered.{FieldsAt, BodyAt, entry-fields, entry-body, entry-refused}
+use Rattle.list_entry.proofs.Entered.{FieldsAt, BodyAt, entry-fields, entry-body, entry-refused}
 use Rattle.list_wire.specs.Parts.{fieldBody, wireRead, leftBehind}
 use Rattle.list_wire.proofs.Laying.{laid-as, laid-none, wire-length}
 use Rattle.list_wire.proofs.Listed.{Found, field-length, fields-wire, body-wire, body-worked}

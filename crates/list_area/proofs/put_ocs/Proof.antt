@@ -8,43 +8,43 @@ use borrow.Author.Needs.{needs}
 use Rattle.list_area.proofs.put_ocs.Statement.{statement}
 use Rattle.list_area.proofs.put_ocs.Tie as tie
 
--- src/lib.rt:29:43
+-- src/lib.rt:28:43
 sub-add-block : tie.Need-sub-add-block
 sub-add-block c = search needs
 
--- src/lib.rt:29:61
+-- src/lib.rt:28:61
 sub-add-block-2 : tie.Need-sub-add-block-2
 sub-add-block-2 c = search needs
 
--- src/lib.rt:29:61
+-- src/lib.rt:28:61
 part-add-block-start : tie.Need-part-add-block-start
 part-add-block-start c = search needs
 
--- src/lib.rt:29:61
+-- src/lib.rt:28:61
 part-add-block-end : tie.Need-part-add-block-end
 part-add-block-end c = search needs
 
--- src/lib.rt:29:9
+-- src/lib.rt:28:9
 add-block-requires : tie.Need-add-block-requires
 add-block-requires c κs = search needs
 
--- src/lib.rt:30:36
+-- src/lib.rt:29:36
 add-put-u16 : tie.Need-add-put-u16
 add-put-u16 c = search needs
 
--- src/lib.rt:30:49
+-- src/lib.rt:29:49
 field-requires : tie.Need-field-requires
 field-requires c κs = search needs
 
--- src/lib.rt:30:5
+-- src/lib.rt:29:5
 put-u16-requires : tie.Need-put-u16-requires
 put-u16-requires c κs = search needs
 
--- src/lib.rt:24:1
+-- src/lib.rt:23:1
 same-length : tie.Need-same-length
 same-length c = search needs
 
--- src/lib.rt:24:1
+-- src/lib.rt:23:1
 returns : tie.Need-returns
 returns c =
     let on-field = c .before .before .before in

@@ -5,7 +5,7 @@ use mathlib.Core.List.{List, [], _++_, append-nil}
 use Prim.Native.Nat.{ℕ, _-_}
 use native.Mathlib.Omega.{arith}
 use lib.ListN.{length, drop, length-append}
-use Rattle.list_encoding.specs.Encoding.{readOption}
+use Rattle.list_entry.specs.Option.{readOption}
 use Rattle.list_wire.specs.Parts.{Laid, wireRead, wiresRead}
 use Rattle.list_wire.proofs.Laying.{laid-as, laid-none, laid-length}
 use Rattle.list_wire.proofs.Listed.{turn-room, turn-laid, turn-rest, turn-none}

@@ -10,8 +10,8 @@ use Rattle.wire_step.specs.Kinds.{classOf}
 use Rattle.wire_step.specs.declared.Class.the-variants.{Fixed}
 use Rattle.wire_step.proofs.Classes.{class-token}
 use Rattle.wire_step.proofs.Steps.{FoundIn, step-found}
-use Rattle.list_encoding.specs.Shape.{shapeOf}
-use Rattle.list_encoding.proofs.Shapes.{shape-token}
+use Rattle.list_entry.specs.Shape.{shapeOf}
+use Rattle.list_entry.proofs.Shapes.{shape-token}
 use Rattle.list_options.proofs.Founds.{fixed-length}
 use Rattle.list_options.proofs.Contents.{byte-number, content-bare, content-one, content-two, content-raw}
 use borrow.Author.Needs.{needs}

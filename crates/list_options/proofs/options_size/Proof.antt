@@ -14,7 +14,7 @@ use Rattle.wire_step.specs.declared.Step.the-variants.{Found}
 use Rattle.wire_options.specs.Walk.{Item, itemOf, walkFrom, optionLimit, itemsOf}
 use Rattle.wire_options.proofs.Runs.{run-some}
 use Rattle.wire_options.proofs.Rests.{Rest, RestBy, Taken, rest-over, rest-nops, rest-by}
-use Rattle.list_encoding.specs.Encoding.{encodedOption}
+use Rattle.list_entry.specs.Option.{encodedOption}
 use Rattle.list_options.specs.Listing.{unworked}
 use Rattle.list_options.proofs.Listings.{walk-short}
 use Rattle.list_options.proofs.Rests.{whole, code, code-none, code-first, rest-sound}

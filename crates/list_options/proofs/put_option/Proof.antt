@@ -7,7 +7,7 @@ use native.Mathlib.Omega.{arith}
 use lib.ListN.{length, length-append}
 use Rattle.number_varint.specs.SevenBit.{encoded}
 use Rattle.wire_options.specs.Walk.{itemOf}
-use Rattle.list_encoding.specs.Encoding.{encodedOption}
+use Rattle.list_entry.specs.Option.{encodedOption}
 use Rattle.list_options.specs.Listing.{unworked, contentCode}
 use Rattle.list_options.proofs.Contents.{option-code}
 use Rattle.list_options.proofs.Writes.{written-length, written-both}

@@ -3,9 +3,9 @@
 use mathlib.Core.Path.{sym, ap, _∙_}
 use native.Mathlib.Omega.{arith}
 use Rattle.list_encoding.specs.Wire.{measured}
-use Rattle.list_encoding.proofs.Places.{ValueAt, value-there, none-there}
+use Rattle.list_entry.proofs.Places.{ValueAt, value-there, none-there}
 use Rattle.list_encoding.proofs.Checks.{list-counted, list-uncounted}
-use Rattle.list_encoding.specs.Answer.{fieldAnswer}
+use Rattle.list_entry.specs.Answer.{fieldAnswer}
 use borrow.Author.Needs.{needs}
 use Rattle.list_encoding.proofs.check.check.Statement.{statement}
 use Rattle.list_encoding.proofs.check.check.Tie as tie

@@ -3,8 +3,8 @@
 use mathlib.Core.Path.{_≡_, sym, ap}
 use Prim.Native.Nat.{ℕ, suc, _≤_}
 use native.Mathlib.Omega.{arith}
-use Rattle.list_encoding.specs.Shape.{shapeOf}
-use Rattle.list_encoding.specs.Encoding.{total}
+use Rattle.list_entry.specs.Shape.{shapeOf}
+use Rattle.list_entry.specs.Option.{total}
 use Rattle.list_encoding.specs.Wire.{fieldsOnWire}
 use Rattle.list_encoding.proofs.Checks.{fields-token, fields-none}
 use Rattle.list_encoding.proofs.check.fields_length.Statement.{statement}

@@ -3,9 +3,9 @@
 use mathlib.Core.Path.{sym, ap, _∙_}
 use Prim.Native.Nat.{ℕ}
 use Rattle.list_encoding.specs.Encoding.{given}
-use Rattle.list_encoding.specs.Answer.{entryAnswer}
+use Rattle.list_entry.specs.Answer.{entryAnswer}
 use Rattle.list_encoding.specs.Wire.{wholeLength, measuredAnswer}
-use Rattle.list_encoding.proofs.Entered.{FieldsAt, BodyAt, entry-fields, entry-body, entry-refused}
+use Rattle.list_entry.proofs.Entered.{FieldsAt, BodyAt, entry-fields, entry-body, entry-refused}
 use Rattle.list_encoding.proofs.Checks.{fields-most, fields-size, body-size, sized-refused}
 use borrow.Author.Needs.{needs}
 use Rattle.list_encoding.proofs.check.measure_at.Statement.{statement}

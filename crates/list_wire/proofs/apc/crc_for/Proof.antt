@@ -4,10 +4,10 @@ use mathlib.Core.Path.{sym, ap, _∙_}
 use Prim.Native.Nat.{ℕ}
 use lib.ListN.{drop}
 use Rattle.number_crc32c.specs.Crc.{crcOf}
-use Rattle.list_encoding.proofs.Places.{ValueAt, value-there, none-there}
+use Rattle.list_entry.proofs.Places.{ValueAt, value-there, none-there}
 use Rattle.list_wire.specs.Parts.{wiresListed}
 use Rattle.list_wire.proofs.Listed.{no-apc, listed-counted, listed-uncounted}
-use Rattle.list_encoding.specs.Answer.{fieldAnswer}
+use Rattle.list_entry.specs.Answer.{fieldAnswer}
 use borrow.Author.Needs.{needs}
 use Rattle.list_wire.proofs.apc.crc_for.Statement.{statement}
 use Rattle.list_wire.proofs.apc.crc_for.Tie as tie

@@ -6,7 +6,7 @@ use mathlib.Core.List.{List}
 use Prim.Native.Nat.{ℕ, _-_}
 use native.Mathlib.Omega.{arith}
 use lib.ListN.{drop}
-use Rattle.list_encoding.specs.Encoding.{readOption}
+use Rattle.list_entry.specs.Option.{readOption}
 use Rattle.list_wire.specs.Parts.{leftBehind, apcsRead}
 use Rattle.list_wire.proofs.Listed.{apc-turn, apc-none}
 use borrow.Author.Needs.{needs}

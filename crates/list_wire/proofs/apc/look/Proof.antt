@@ -5,9 +5,9 @@ use Prim.Native.Nat.{ℕ}
 use lib.Dec.{eqb}
 use lib.ListN.{drop}
 use Rattle.wire_step.specs.Kinds.{apc}
-use Rattle.list_encoding.specs.Shape.{shapeOf}
-use Rattle.list_encoding.specs.Answer.{entryAnswer}
-use Rattle.list_encoding.proofs.Entered.{FieldsAt, BodyAt, entry-fields, entry-body, entry-refused}
+use Rattle.list_entry.specs.Shape.{shapeOf}
+use Rattle.list_entry.specs.Answer.{entryAnswer}
+use Rattle.list_entry.proofs.Entered.{FieldsAt, BodyAt, entry-fields, entry-body, entry-refused}
 use Rattle.list_wire.specs.Parts.{apcRead, leftBehind}
 use Rattle.list_wire.proofs.Listed.{raw-other}
 use borrow.Author.Needs.{needs}

@@ -4,8 +4,8 @@ use mathlib.Core.Path.{_≡_, refl, sym, ap, ap₂, _∙_}
 use mathlib.Core.List.{List, _++_}
 use Prim.Native.Nat.{ℕ}
 use native.Mathlib.Omega.{arith}
-use Rattle.list_encoding.specs.Shape.{shapeOf}
-use Rattle.list_encoding.specs.Encoding.{itemOf, total}
+use Rattle.list_entry.specs.Shape.{shapeOf}
+use Rattle.list_entry.specs.Option.{itemOf, total}
 use Rattle.list_encoding.specs.Wire.{fieldsOnWire}
 use Rattle.list_encoding.proofs.Checks.{fields-none}
 use Rattle.list_payload.specs.Payload.{wireOf}
