@@ -11,7 +11,7 @@ use Rattle.client_record.proofs.Assembly.Laws as Assembly
 use Rattle.client_record.proofs.Client.Laws as Client
 use Rattle.host_values.proofs.Address.Laws as Address
 use Rattle.host_readings.proofs.Reading.Laws as Reading
-use Rattle.host_readings.proofs.Rereading.Laws as Rereading
+use Rattle.host_rereadings.proofs.Rereading.Laws as Rereading
 use Rattle.host_values.proofs.Listing.Laws as Listing
 use Rattle.host_values.proofs.Written.Laws as Written
 use Rattle.host_values.proofs.Figures.Laws as Figures

@@ -2,7 +2,7 @@
 // call asks anything of the values of its arguments. `host_wire` does the work of those that have no table.
 use client_record::Client;
 use host_readings::Reading;
-use host_readings::Rereading;
+use host_rereadings::Rereading;
 use host_values::Address;
 use host_values::Answer;
 use host_values::Fragment;
@@ -22,9 +22,10 @@ ghost use Rattle.client_record.specs.Limits.{datagramLimit, shareSize, clientLi
 ghost use Rattle.client_ledger.specs.History.{Ask, offering, advancing, accounting};
 ghost use Rattle.table_rules.specs.Table.{tableOf, resetOn, askOn};
 ghost use Rattle.table_receiver.specs.Receive.{receiveOn};
-ghost use Rattle.host_readings.specs.Reading.{hostReading, hostRereading};
+ghost use Rattle.host_readings.specs.Reading.{hostReading};
 ghost use Rattle.host_readings.specs.Listable.{verdictFor};
 ghost use Rattle.host_readings.specs.Setting.{strictnessFor};
+ghost use Rattle.host_rereadings.specs.Rereading.{hostRereading};
 ghost use Rattle.host_values.specs.Answer.{arrivalFrom};
 ghost use Rattle.host_wire.specs.Left.{Lists, Writes};
 ghost use Rattle.host_calls.specs.Left.{recordSize, Leaves, Receives};

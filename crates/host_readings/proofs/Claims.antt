@@ -1,27 +1,13 @@
 -- A value of include/wuraketozo.h tells the whole answer: whatever the crates below answer, the papers' answer can be read back from the value,
--- so no two of them have one. Each reading back is by the value's numbers, and each case computes. Of a rereading it is said of what `rereading`
--- answers, which is never a fragment. Assumes nothing.
-use Prim.Native.Nat.{ℕ, _+_}
+-- so no two of them have one. Each reading back is by the value's numbers, and each case computes. Assumes nothing.
+use Prim.Native.Nat.{ℕ}
 use mathlib.Core.Path.{_≡_, refl, ap, _∙_}
 use mathlib.Core.Bool.{Bool, true, false, cond}
-use mathlib.Core.List.{List, [], _∷_}
-use lib.Dec.{eqb, ltb}
-use lib.ListN.{length, take, drop}
-use Rattle.number_tests.specs.Tests.{firstOf}
-use Rattle.number_offsets.specs.Offsets.{udpHeader}
-use Rattle.wire_nops.specs.declared.Strictness.{Strictness}
-use Rattle.wire_options.specs.Strict.{walkBy}
-use Rattle.wire_options.specs.Walk.{Walked, listed, faulty, optionLimit}
-use Rattle.wire_options.specs.declared.walk.Fault.{Fault}
-use Rattle.wire_options.specs.declared.walk.Fault.the-variants as Met
+use lib.Dec.{eqb}
 use Rattle.wire_area.specs.declared.Fragment.{Fragment}
 use Rattle.wire_datagram.specs.Reading as Read
 use Rattle.wire_datagram.specs.Reading.{answerOf}
-use Rattle.wire_original.specs.Rereading as Reread
-use Rattle.wire_surplus.specs.Surplus.{startOf}
 use Rattle.wire_datagram.specs.Verdict.{verdictSays, apcSays}
-use Rattle.wire_surplus.specs.declared.Start.{Start}
-use Rattle.wire_surplus.specs.declared.Start.the-variants as Begun
 use Rattle.wire_datagram.specs.declared.reading.Apc.{Apc}
 use Rattle.wire_datagram.specs.declared.reading.Apc.the-variants.{Absent, Right, Wrong}
 use Rattle.wire_datagram.specs.declared.reading.Verdict.{Verdict}
@@ -45,10 +31,7 @@ use Rattle.wire_datagram.specs.declared.reading.Reading.{Reading as Whole}
 use Rattle.wire_datagram.specs.declared.reading.Outcome.{Outcome}
 use Rattle.wire_datagram.specs.declared.reading.Outcome.the-variants.{Refused as Unread, Accepted}
 use Rattle.host_readings.specs.declared.Reading.{Reading}
-use Rattle.host_readings.specs.declared.Rereading.{Rereading}
-use Rattle.host_readings.specs.Reading.{flagOf, noFragment, fragmentIn, hostReading, hostRereading}
-
--- ---- readings
+use Rattle.host_readings.specs.Reading.{flagOf, fragmentIn, hostReading}
 
 abbrev pub apcFrom : ℕ → Apc
 apcFrom n = cond (eqb n 0) Absent (cond (eqb n 1) Right Wrong)
@@ -91,24 +74,11 @@ answerFrom v =
     }))
     (Read.refused (v .refusal))
 
-abbrev pub reAnswerFrom : Rereading → Reread.ReAnswer
-reAnswerFrom v =
-    cond (eqb (v .refusal) 0)
-    (Reread.rereads (record {
-      user = v .user;
-      verdict = verdictFrom (v .verdict) noFragment;
-      options = v .options;
-      count = v .count;
-      fill = v .fill;
-      apc = apcFrom (v .apc);
-    }))
-    (Reread.refused (v .refusal))
-
 flag-recovered : (b : Bool) → eqb (flagOf b) 1 ≡ b
 flag-recovered true = refl
 flag-recovered false = refl
 
-apc-recovered : (a : Apc) → apcFrom (apcSays a .number) ≡ a
+pub apc-recovered : (a : Apc) → apcFrom (apcSays a .number) ≡ a
 apc-recovered Absent = refl
 apc-recovered Right = refl
 apc-recovered Wrong = refl
@@ -153,49 +123,3 @@ reading-recovered (Unread LengthOutOfRange) = refl
 reading-recovered (Unread ChecksumWrong) = refl
 reading-recovered (Accepted r) =
     ap (λ (v : Verdict). readWith r v (apcFrom (apcSays (r .apc) .number))) (piece-recovered (r .verdict)) ∙ ap (readWith r (r .verdict)) (apc-recovered (r .apc))
-
--- ---- rereadings: their verdict is never "piece", so that the value needs no fragment
-
-abbrev Recovered : Reread.ReAnswer → Type 0
-Recovered a = reAnswerFrom (hostRereading a) ≡ a
-
-faulty-recovered : (r : ℕ) (f : Fault) → Recovered (Reread.originalFaulty r f)
-faulty-recovered r Met.Malformed = refl
-faulty-recovered r Met.Unsafe = refl
-faulty-recovered r Met.FragData = refl
-faulty-recovered r Met.Crowded = refl
-faulty-recovered r Met.Tail = refl
-faulty-recovered r Met.Padded = refl
-
-walked-recovered : (original : List ℕ) (r from : ℕ) (w : Walked) → Recovered (Reread.rewalked original r from w)
-walked-recovered original r from (listed items fill) =
-    ap (λ (a : Apc). Reread.rereads (record {
-      user = Reread.places 0 r;
-      verdict = Listed;
-      options = Reread.places from (length original);
-      count = length items;
-      fill = fill;
-      apc = a;
-    })) (apc-recovered (Read.apcOf (take r original) (Read.apcValues items)))
-walked-recovered original r from (faulty f) = faulty-recovered r f
-
-started-recovered : (how : Strictness) (original : List ℕ) (r : ℕ) (s : Start) → Recovered (Reread.restarted how original r s)
-started-recovered how original r Begun.Empty = refl
-started-recovered how original r Begun.Short = refl
-started-recovered how original r Begun.Pad = refl
-started-recovered how original r Begun.Unsummed = refl
-started-recovered how original r Begun.BadSum = refl
-started-recovered how original r (Begun.List at) = walked-recovered original r (r + at) (walkBy how optionLimit 0 (drop (r + at) original))
-
-tested-recovered : (long past : Bool) (a : Reread.ReAnswer) → Recovered a → Recovered (Reread.reAnswered (firstOf ((long, 2) ∷ (past, 6) ∷ [])) a)
-unfolding firstOf
-tested-recovered true past a h = refl
-tested-recovered false true a h = refl
-tested-recovered false false a h = h
-
-pub rereading-recovered : (how : Strictness) (original : List ℕ) (r : ℕ)
-    → reAnswerFrom (hostRereading (Reread.rereading how original r)) ≡ Reread.rereading how original r
-unfolding Reread.rereading
-rereading-recovered how original r =
-    tested-recovered (ltb Reread.originalLimit (length original)) (ltb (length original) r) _
-    (started-recovered how original r (startOf (Read.isOdd (udpHeader + r)) true (drop r original)))

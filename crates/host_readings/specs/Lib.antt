@@ -1,4 +1,4 @@
--- What a reading of a payload and of an original is among the values of include/wuraketozo.h (`Reading`), what of one is listed (`Listable`), and how it
+-- What a reading of a payload is among the values of include/wuraketozo.h (`Reading`), what of one is listed (`Listable`), and how it
 -- is asked for (`Setting`).
 pub mod Reading
 pub mod Listable

@@ -4,33 +4,20 @@ use mathlib.Core.Bool.{cond}
 use lib.Dec.{eqb}
 use Rattle.wire_datagram.specs.Verdict.{verdictSays}
 use Rattle.wire_datagram.specs.Reading.{extent}
-use Rattle.wire_original.specs.Rereading.{places}
 use Rattle.wire_datagram.specs.declared.reading.Apc.the-variants.{Absent}
 use Rattle.wire_datagram.specs.declared.reading.Verdict.{Verdict}
 use Rattle.wire_datagram.specs.declared.reading.Verdict.the-variants.{Bare, Read}
 use Rattle.wire_datagram.specs.declared.reading.Extent.{Extent}
 use Rattle.wire_datagram.specs.declared.reading.Reading.{Reading}
-use Rattle.wire_original.specs.declared.OriginalExtent.{OriginalExtent}
-use Rattle.wire_original.specs.declared.Rereading.{Rereading}
 
 -- the number of "read" is a verdict with options, any other one without
 abbrev pub verdictFor : ℕ → Verdict
 verdictFor number = cond (eqb number (verdictSays Read .number)) Read Bare
 
--- a reading, and a rereading, with as much as its listing looks at
+-- a reading with as much as its listing looks at
 abbrev pub readingFor : ℕ → Extent → Reading
 readingFor number options = record {
   user = extent 0 0;
-  verdict = verdictFor number;
-  options = options;
-  count = 0;
-  fill = 0;
-  apc = Absent;
-}
-
-abbrev pub rereadingFor : ℕ → OriginalExtent → Rereading
-rereadingFor number options = record {
-  user = places 0 0;
   verdict = verdictFor number;
   options = options;
   count = 0;

@@ -1,4 +1,4 @@
--- A reading and a rereading as values of include/wuraketozo.h. What a value does not say is 0.
+-- A reading as a value of include/wuraketozo.h. What a value does not say is 0.
 use Prim.Native.Nat.{ℕ}
 use mathlib.Core.Bool.{Bool, true, false}
 use mathlib.Core.Option.{Option, none, some}
@@ -6,13 +6,9 @@ use Rattle.wire_area.specs.declared.Fragment.{Fragment}
 use Rattle.wire_datagram.specs.Verdict.{verdictSays, apcSays}
 use Rattle.wire_datagram.specs.Reading as Read
 use Rattle.wire_datagram.specs.Reading.{extent}
-use Rattle.wire_original.specs.Rereading as Reread
-use Rattle.wire_original.specs.Rereading.{places}
 use Rattle.wire_datagram.specs.declared.reading.Verdict.{Verdict}
 use Rattle.wire_datagram.specs.declared.reading.Reading.{Reading as Accepted}
-use Rattle.wire_original.specs.declared.Rereading.{Rereading as Reaccepted}
 use Rattle.host_readings.specs.declared.Reading.{Reading}
-use Rattle.host_readings.specs.declared.Rereading.{Rereading}
 
 abbrev pub flagOf : Bool → ℕ
 flagOf true = 1
@@ -53,9 +49,6 @@ unread refusal = record {
   last = 0;
 }
 
-abbrev pub unreread : ℕ → Rereading
-unreread refusal = record { refusal = refusal; verdict = 0; user = places 0 0; options = places 0 0; count = 0; fill = 0; apc = 0 }
-
 abbrev pub withFragment : Fragment → Accepted → Reading
 withFragment f r = record {
   refusal = 0;
@@ -76,24 +69,7 @@ withFragment f r = record {
 abbrev pub readingFrom : Accepted → Reading
 readingFrom r = withFragment (fragmentIn (r .verdict)) r
 
--- the same of an original, which is never a fragment
-abbrev pub rereadingFrom : Reaccepted → Rereading
-rereadingFrom r = record {
-  refusal = 0;
-  verdict = verdictSays (r .verdict) .number;
-  user = r .user;
-  options = r .options;
-  count = r .count;
-  fill = r .fill;
-  apc = apcSays (r .apc) .number;
-}
-
 -- demand 2's reading of a payload
 abbrev pub hostReading : Read.Answer → Reading
 hostReading (Read.refused n) = unread n
 hostReading (Read.reads r) = readingFrom r
-
--- and of an original
-abbrev pub hostRereading : Reread.ReAnswer → Rereading
-hostRereading (Reread.refused n) = unreread n
-hostRereading (Reread.rereads r) = rereadingFrom r

@@ -1,6 +1,5 @@
-// Readings and rereadings as values of include/wuraketozo.h, and as much of one as its listing looks at. A refusal is 0, or document 01's
-// number. What a value does not say is 0. Positions keep their types: an `Extent` is bytes of a payload, an `OriginalExtent` or an
-// `OriginalOffset` places in an original.
+// Readings as values of include/wuraketozo.h, and as much of one as its listing looks at. A refusal is 0, or document 01's number. What a value
+// does not say is 0. Positions keep their types: an `Extent` is bytes of a payload, an `OriginalOffset` a place in an original.
 use number_offsets::OriginalOffset;
 use number_offsets::PacketOffset;
 use wire_datagram::reading;
@@ -10,16 +9,11 @@ use wire_datagram::reading::Outcome;
 use wire_datagram::reading::Refusal;
 use wire_datagram::reading::Verdict;
 use wire_nops::Strictness;
-use wire_original::OriginalExtent;
-use wire_original::RereadOutcome;
-use wire_original::RereadRefusal;
 ghost use mathlib.Core.Path.{_≡_};
 ghost use Rattle.wire_datagram.specs.Verdict.{verdictSays, apcSays};
 ghost use Rattle.wire_datagram.specs.Reading.{extent, answerOf, refusalNumber};
-ghost use Rattle.wire_original.specs.Rereading.{places, reAnswerOf, reRefusalNumber};
-ghost use Rattle.host_readings.specs.Reading.{flagOf, noFragment, fragmentIn, unread, unreread, readingFrom, rereadingFrom};
-ghost use Rattle.host_readings.specs.Reading.{hostReading, hostRereading};
-ghost use Rattle.host_readings.specs.Listable.{verdictFor, readingFor, rereadingFor};
+ghost use Rattle.host_readings.specs.Reading.{flagOf, noFragment, fragmentIn, unread, readingFrom, hostReading};
+ghost use Rattle.host_readings.specs.Listable.{verdictFor, readingFor};
 ghost use Rattle.host_readings.specs.Setting.{strictnessFor};
 
 // What `wuraketozo_read` answers.
@@ -37,18 +31,6 @@ pub struct Reading {
     pub part: Extent,
     pub option_start: OriginalOffset,
     pub last: u32,
-}
-
-// What `wuraketozo_reread` answers.
-#[repr(C)]
-pub struct Rereading {
-    pub refusal: u32,
-    pub verdict: u32,
-    pub user: OriginalExtent,
-    pub options: OriginalExtent,
-    pub count: usize,
-    pub fill: usize,
-    pub apc: u32,
 }
 
 // The number of a verdict with which options are listed.
@@ -70,7 +52,7 @@ fn flag(b: bool) -> u32
     if b { 1 } else { 0 }
 }
 
-fn verdict_number(verdict: Verdict) -> u32
+pub fn verdict_number(verdict: Verdict) -> u32
     ensures { λ r. ⌜ r ≡ verdictSays verdict .number ⌝ }
 {
     match verdict {
@@ -90,7 +72,7 @@ fn verdict_number(verdict: Verdict) -> u32
     }
 }
 
-fn apc_number(apc: Apc) -> u32
+pub fn apc_number(apc: Apc) -> u32
     ensures { λ r. ⌜ r ≡ apcSays apc .number ⌝ }
 {
     match apc {
@@ -108,16 +90,6 @@ pub fn refusal_number(refusal: Refusal) -> u32
         Refusal::PayloadTooLong => 2,
         Refusal::LengthOutOfRange => 3,
         Refusal::ChecksumWrong => 4,
-    }
-}
-
-fn reread_number(refusal: RereadRefusal) -> u32
-    ensures { λ r. ⌜ r ≡ reRefusalNumber refusal ⌝ }
-{
-    match refusal {
-        RereadRefusal::OriginalTooLong => 2,
-        RereadRefusal::OptionStartPastEnd => 6,
-        RereadRefusal::UnsafeOption => 5,
     }
 }
 
@@ -164,15 +136,6 @@ fn no_bytes() -> Extent
     }
 }
 
-fn no_places() -> OriginalExtent
-    ensures { λ r. ⌜ r ≡ places 0 0 ⌝ }
-{
-    OriginalExtent {
-        from: OriginalOffset(0),
-        to: OriginalOffset(0),
-    }
-}
-
 // A refusal, or with 0 the reading that says nothing.
 pub fn unread(refusal: u32) -> Reading
     ensures { λ r. ⌜ r ≡ unread refusal ⌝ }
@@ -191,21 +154,6 @@ pub fn unread(refusal: u32) -> Reading
         part: none,
         option_start: OriginalOffset(0),
         last: 0,
-    }
-}
-
-fn unreread(refusal: u32) -> Rereading
-    ensures { λ r. ⌜ r ≡ unreread refusal ⌝ }
-{
-    let none = no_places();
-    Rereading {
-        refusal: refusal,
-        verdict: 0,
-        user: none,
-        options: none,
-        count: 0,
-        fill: 0,
-        apc: 0,
     }
 }
 
@@ -240,24 +188,6 @@ pub fn reading_from(reading: reading::Reading) -> Reading
     }
 }
 
-fn rereading_from(rereading: wire_original::Rereading) -> Rereading
-    ensures { λ r. ⌜ r ≡ rereadingFrom rereading ⌝ }
-{
-    let verdict = rereading.verdict;
-    let user = rereading.user;
-    let options = rereading.options;
-    let apc = rereading.apc;
-    Rereading {
-        refusal: 0,
-        verdict: verdict_number(verdict),
-        user: user,
-        options: options,
-        count: rereading.count,
-        fill: rereading.fill,
-        apc: apc_number(apc),
-    }
-}
-
 pub fn reading_of(outcome: Outcome) -> Reading
     ensures { λ r. ⌜ r ≡ hostReading (answerOf outcome) ⌝ }
 {
@@ -267,18 +197,9 @@ pub fn reading_of(outcome: Outcome) -> Reading
     }
 }
 
-pub fn rereading_of(outcome: RereadOutcome) -> Rereading
-    ensures { λ r. ⌜ r ≡ hostRereading (reAnswerOf outcome) ⌝ }
-{
-    match outcome {
-        RereadOutcome::Refused(refusal) => unreread(reread_number(refusal)),
-        RereadOutcome::Accepted(rereading) => rereading_from(rereading),
-    }
-}
-
 // ---- to be listed
 
-fn verdict_for(number: u32) -> Verdict
+pub fn verdict_for(number: u32) -> Verdict
     ensures { λ r. ⌜ r ≡ verdictFor number ⌝ }
 {
     if number == READ {
@@ -294,22 +215,6 @@ pub fn reading_for(number: u32, options: Extent) -> reading::Reading
     let verdict = verdict_for(number);
     let none = no_bytes();
     reading::Reading {
-        user: none,
-        verdict: verdict,
-        options: options,
-        count: 0,
-        fill: 0,
-        apc: Apc::Absent,
-    }
-}
-
-// And of a rereading.
-pub fn rereading_for(number: u32, options: OriginalExtent) -> wire_original::Rereading
-    ensures { λ r. ⌜ r ≡ rereadingFor number options ⌝ }
-{
-    let verdict = verdict_for(number);
-    let none = no_places();
-    wire_original::Rereading {
         user: none,
         verdict: verdict,
         options: options,

@@ -13,7 +13,8 @@ use Rattle.list_readings.specs.Catalogue.{walkOfValue}
 use Rattle.list_writer.specs.Answer as Compose
 use Rattle.list_writer.specs.Answer.{writtenAnswer, Wrote}
 use Rattle.list_writer.specs.declared.Written as Compose′
-use Rattle.host_readings.specs.Listable.{verdictFor, readingFor, rereadingFor}
+use Rattle.host_readings.specs.Listable.{verdictFor, readingFor}
+use Rattle.host_rereadings.specs.Listable.{rereadingFor}
 use Rattle.host_values.specs.Lists.{hostListing, hostWritten}
 use Rattle.host_values.specs.declared.Listing.{Listing}
 use Rattle.host_values.specs.declared.Written.{Written}

@@ -1,7 +1,7 @@
 // The calls of include/wuraketozo.h that have no table: reading, listing, writing. `host_calls` exports each under its name there, with the
 // same contract. No call asks anything of the values of its arguments.
 use host_readings::Reading;
-use host_readings::Rereading;
+use host_rereadings::Rereading;
 use host_values::Address;
 use host_values::Listing;
 use host_values::Written;
@@ -15,9 +15,10 @@ ghost use Rattle.wire_datagram.specs.Reading.{reading};
 ghost use Rattle.wire_original.specs.Rereading.{rereading};
 ghost use Rattle.list_readings.specs.Catalogue.{walkOfValue};
 ghost use Rattle.list_writer.specs.Answer.{written, datagramFor};
-ghost use Rattle.host_readings.specs.Reading.{hostReading, hostRereading};
+ghost use Rattle.host_readings.specs.Reading.{hostReading};
 ghost use Rattle.host_readings.specs.Listable.{verdictFor};
 ghost use Rattle.host_readings.specs.Setting.{strictnessFor};
+ghost use Rattle.host_rereadings.specs.Rereading.{hostRereading};
 ghost use Rattle.host_wire.specs.Left.{Lists, Writes};
 
 // ---- reading
@@ -36,7 +37,7 @@ pub fn read(payload: &[u8], source: Address, destination: Address, strictness: u
 pub fn reread(original: &[u8], option_start: OriginalOffset, strictness: u32) -> Rereading
     ensures { λ r. ⌜ r ≡ hostRereading (rereading (strictnessFor strictness) (now (original .entry)) («option_start» .0)) ⌝ }
 {
-    host_readings::rereading_of(wire_original::reread(
+    host_rereadings::rereading_of(wire_original::reread(
         original,
         option_start,
         host_readings::strictness_for(strictness),
@@ -57,7 +58,7 @@ pub fn list(payload: &[u8], verdict: u32, options: Extent, buffer: &mut [u8]) ->
 pub fn relist(original: &[u8], verdict: u32, options: OriginalExtent, buffer: &mut [u8]) -> Listing
     ensures { λ r. ⌜ Lists (walkOfValue (now (original .entry)) (verdictFor verdict) (options .from .0) (options .to .0)) (now (buffer .entry)) r (now (buffer .exit)) ⌝ }
 {
-    let rereading = host_readings::rereading_for(verdict, options);
+    let rereading = host_rereadings::rereading_for(verdict, options);
     host_values::listing_of(list_readings::list_rereading(original, rereading, buffer))
 }
 

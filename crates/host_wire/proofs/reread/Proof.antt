@@ -3,7 +3,7 @@
 use mathlib.Core.Path.{ap, _∙_}
 use Rattle.wire_nops.specs.declared.Strictness.{Strictness}
 use Rattle.wire_original.specs.Rereading.{rereading}
-use Rattle.host_readings.specs.Reading.{hostRereading}
+use Rattle.host_rereadings.specs.Rereading.{hostRereading}
 use borrow.Author.Needs.{needs}
 use Rattle.host_wire.proofs.reread.Statement.{statement}
 use Rattle.host_wire.proofs.reread.Tie as tie

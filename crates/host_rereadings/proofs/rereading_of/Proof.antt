@@ -1,12 +1,12 @@
--- `host_readings::rereading_of` meets its contract: a refusal is its number, and a rereading its parts.
+-- `host_rereadings::rereading_of` meets its contract: a refusal is its number, and a rereading its parts.
 -- Assumes nothing.
 use mathlib.Core.Path.{sym, ap, _∙_}
 use Rattle.wire_original.specs.Rereading.{reAnswerOf}
 use Rattle.wire_original.specs.declared.RereadOutcome.{RereadOutcome}
-use Rattle.host_readings.specs.Reading.{unreread, hostRereading}
+use Rattle.host_rereadings.specs.Rereading.{unreread, hostRereading}
 use borrow.Author.Needs.{needs}
-use Rattle.host_readings.proofs.rereading_of.Statement.{statement}
-use Rattle.host_readings.proofs.rereading_of.Tie as tie
+use Rattle.host_rereadings.proofs.rereading_of.Statement.{statement}
+use Rattle.host_rereadings.proofs.rereading_of.Tie as tie
 
 enum-known-outcome : tie.Need-enum-known-outcome
 enum-known-outcome c = search needs

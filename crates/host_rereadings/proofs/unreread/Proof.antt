@@ -1,8 +1,8 @@
--- `host_readings::unreread` meets its contract: all but the refusal is 0.
+-- `host_rereadings::unreread` meets its contract: all but the refusal is 0.
 -- Assumes nothing.
 use borrow.Author.Needs.{needs}
-use Rattle.host_readings.proofs.unreread.Statement.{statement}
-use Rattle.host_readings.proofs.unreread.Tie as tie
+use Rattle.host_rereadings.proofs.unreread.Statement.{statement}
+use Rattle.host_rereadings.proofs.unreread.Tie as tie
 
 no-places-requires : tie.Need-no-places-requires
 no-places-requires c κs = search needs

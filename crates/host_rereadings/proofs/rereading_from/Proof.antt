@@ -1,8 +1,8 @@
--- `host_readings::rereading_from` meets its contract: each field is the rereading's.
+-- `host_rereadings::rereading_from` meets its contract: each field is the rereading's.
 -- Assumes nothing.
 use borrow.Author.Needs.{needs}
-use Rattle.host_readings.proofs.rereading_from.Statement.{statement}
-use Rattle.host_readings.proofs.rereading_from.Tie as tie
+use Rattle.host_rereadings.proofs.rereading_from.Statement.{statement}
+use Rattle.host_rereadings.proofs.rereading_from.Tie as tie
 
 verdict-number-requires : tie.Need-verdict-number-requires
 verdict-number-requires c κs = search needs

@@ -1,8 +1,8 @@
--- `host_readings::rereading_for` meets its contract: the verdict is that of the number.
+-- `host_rereadings::rereading_for` meets its contract: the verdict is that of the number.
 -- Assumes nothing.
 use borrow.Author.Needs.{needs}
-use Rattle.host_readings.proofs.rereading_for.Statement.{statement}
-use Rattle.host_readings.proofs.rereading_for.Tie as tie
+use Rattle.host_rereadings.proofs.rereading_for.Statement.{statement}
+use Rattle.host_rereadings.proofs.rereading_for.Tie as tie
 
 verdict-for-requires : tie.Need-verdict-for-requires
 verdict-for-requires c κs = search needs
