@@ -16,16 +16,17 @@ use Rattle.wire_options.specs.declared.walk.Fault.{Fault}
 use Rattle.wire_options.specs.declared.walk.Fault.the-variants as Met
 use Rattle.wire_area.specs.declared.Fragment.{Fragment}
 use Rattle.wire_datagram.specs.Reading as Read
+use Rattle.wire_reading.specs.Reading as Says
 use Rattle.wire_datagram.specs.Reading.{answerOf}
 use Rattle.wire_original.specs.Rereading as Reread
 use Rattle.wire_surplus.specs.Surplus.{startOf}
-use Rattle.wire_datagram.specs.Verdict.{verdictSays, apcSays}
+use Rattle.wire_reading.specs.Verdict.{verdictSays, apcSays}
 use Rattle.wire_surplus.specs.declared.Start.{Start}
 use Rattle.wire_surplus.specs.declared.Start.the-variants as Begun
-use Rattle.wire_datagram.specs.declared.reading.Apc.{Apc}
-use Rattle.wire_datagram.specs.declared.reading.Apc.the-variants.{Absent, Right, Wrong}
-use Rattle.wire_datagram.specs.declared.reading.Verdict.{Verdict}
-use Rattle.wire_datagram.specs.declared.reading.Verdict.the-variants.{
+use Rattle.wire_reading.specs.declared.Apc.{Apc}
+use Rattle.wire_reading.specs.declared.Apc.the-variants.{Absent, Right, Wrong}
+use Rattle.wire_reading.specs.declared.Verdict.{Verdict}
+use Rattle.wire_reading.specs.declared.Verdict.the-variants.{
   Bare,
   Short,
   Pad,
@@ -41,7 +42,7 @@ use Rattle.wire_datagram.specs.declared.reading.Verdict.the-variants.{
   Piece,
 }
 use Rattle.wire_datagram.specs.declared.reading.Refusal.the-variants.{PayloadTooShort, PayloadTooLong, LengthOutOfRange, ChecksumWrong}
-use Rattle.wire_datagram.specs.declared.reading.Reading.{Reading as Whole}
+use Rattle.wire_reading.specs.declared.Reading.{Reading as Whole}
 use Rattle.wire_datagram.specs.declared.reading.Outcome.{Outcome}
 use Rattle.wire_datagram.specs.declared.reading.Outcome.the-variants.{Refused as Unread, Accepted}
 use Rattle.host_readings.specs.declared.Reading.{Reading}
@@ -176,7 +177,7 @@ walked-recovered original r from (listed items fill) =
       count = length items;
       fill = fill;
       apc = a;
-    })) (apc-recovered (Read.apcOf (take r original) (Read.apcValues items)))
+    })) (apc-recovered (Says.apcOf (take r original) (Says.apcValues items)))
 walked-recovered original r from (faulty f) = faulty-recovered r f
 
 started-recovered : (how : Strictness) (original : List ℕ) (r : ℕ) (s : Start) → Recovered (Reread.restarted how original r s)
@@ -198,4 +199,4 @@ pub rereading-recovered : (how : Strictness) (original : List ℕ) (r : ℕ)
 unfolding Reread.rereading
 rereading-recovered how original r =
     tested-recovered (ltb Reread.originalLimit (length original)) (ltb (length original) r) _
-    (started-recovered how original r (startOf (Read.isOdd (udpHeader + r)) true (drop r original)))
+    (started-recovered how original r (startOf (Says.isOdd (udpHeader + r)) true (drop r original)))

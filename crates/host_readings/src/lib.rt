@@ -3,19 +3,19 @@
 // `OriginalOffset` places in an original.
 use number_offsets::OriginalOffset;
 use number_offsets::PacketOffset;
-use wire_datagram::reading;
-use wire_datagram::reading::Apc;
-use wire_datagram::reading::Extent;
 use wire_datagram::reading::Outcome;
 use wire_datagram::reading::Refusal;
-use wire_datagram::reading::Verdict;
 use wire_nops::Strictness;
 use wire_original::OriginalExtent;
 use wire_original::RereadOutcome;
 use wire_original::RereadRefusal;
+use wire_reading::Apc;
+use wire_reading::Extent;
+use wire_reading::Verdict;
 ghost use mathlib.Core.Path.{_≡_};
-ghost use Rattle.wire_datagram.specs.Verdict.{verdictSays, apcSays};
-ghost use Rattle.wire_datagram.specs.Reading.{extent, answerOf, refusalNumber};
+ghost use Rattle.wire_reading.specs.Verdict.{verdictSays, apcSays};
+ghost use Rattle.wire_datagram.specs.Reading.{answerOf, refusalNumber};
+ghost use Rattle.wire_reading.specs.Reading.{extent};
 ghost use Rattle.wire_original.specs.Rereading.{places, reAnswerOf, reRefusalNumber};
 ghost use Rattle.host_readings.specs.Reading.{flagOf, noFragment, fragmentIn, unread, unreread, readingFrom, rereadingFrom};
 ghost use Rattle.host_readings.specs.Reading.{hostReading, hostRereading};
@@ -209,7 +209,7 @@ fn unreread(refusal: u32) -> Rereading
     }
 }
 
-pub fn reading_from(reading: reading::Reading) -> Reading
+pub fn reading_from(reading: wire_reading::Reading) -> Reading
     ensures { λ r. ⌜ r ≡ readingFrom reading ⌝ }
 {
     let verdict = reading.verdict;
@@ -288,12 +288,12 @@ fn verdict_for(number: u32) -> Verdict
 }
 
 // As much of a reading as its listing looks at: the verdict's number and the option list.
-pub fn reading_for(number: u32, options: Extent) -> reading::Reading
+pub fn reading_for(number: u32, options: Extent) -> wire_reading::Reading
     ensures { λ r. ⌜ r ≡ readingFor number options ⌝ }
 {
     let verdict = verdict_for(number);
     let none = no_bytes();
-    reading::Reading {
+    wire_reading::Reading {
         user: none,
         verdict: verdict,
         options: options,
