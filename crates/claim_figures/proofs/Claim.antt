@@ -16,7 +16,8 @@ use Rattle.wire_step.specs.Step.{headerOf, stepOf}
 use Rattle.wire_options.specs.Walk.{optionLimit, walkFrom}
 use Rattle.wire_area.specs.Area.{areaOf}
 use Rattle.wire_surplus.specs.Surplus.{startOf}
-use Rattle.wire_datagram.specs.Reading.{payloadLimit, accepted, reading}
+use Rattle.wire_datagram.specs.Reading.{accepted, reading}
+use Rattle.wire_reading.specs.Reading.{payloadLimit}
 use Rattle.list_entry.specs.Shape.{shapeOf}
 use Rattle.list_entry.specs.Option.{readNumber, readFields, readBody, readKind, readOption}
 use Rattle.list_encoding.specs.Encoding.{readOptions, decodedList}

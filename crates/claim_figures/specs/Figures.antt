@@ -8,9 +8,10 @@ use Rattle.number_varint.specs.SevenBit.{encoded}
 use Rattle.wire_nops.specs.declared.Strictness.the-variants.{Plain}
 use Rattle.wire_surplus.specs.Surplus.{ocsOf}
 use Rattle.wire_datagram.specs.Reading as Reading
-use Rattle.wire_datagram.specs.Reading.{udpLength, isOdd, reading}
-use Rattle.wire_datagram.specs.declared.reading.Verdict.{Verdict}
-use Rattle.wire_datagram.specs.declared.reading.Verdict.the-variants.{Short, Pad, Malformed}
+use Rattle.wire_datagram.specs.Reading.{udpLength, reading}
+use Rattle.wire_reading.specs.Reading.{isOdd}
+use Rattle.wire_reading.specs.declared.Verdict.{Verdict}
+use Rattle.wire_reading.specs.declared.Verdict.the-variants.{Short, Pad, Malformed}
 use Rattle.list_encoding.specs.Encoding as Encoding
 use Rattle.list_writer.specs.Answer.{written, datagramFor}
 use Rattle.client_record.specs.Limits.{datagramLimit, shareSize}

@@ -3,7 +3,7 @@
 use mathlib.Core.Path.{_≡_, refl}
 use mathlib.Core.List.{[], _∷_}
 use prog.Memory.{size}
-use Rattle.wire_datagram.proofs.reading.Extent.Laws as Extent
+use Rattle.wire_reading.proofs.Extent.Laws as Extent
 use Rattle.wire_original.proofs.OriginalExtent.Laws as OriginalExtent
 use Rattle.client_record.proofs.Flow.Laws as Flow
 use Rattle.client_record.proofs.Fragment.Laws as Held

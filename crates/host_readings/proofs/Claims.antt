@@ -7,11 +7,11 @@ use lib.Dec.{eqb}
 use Rattle.wire_area.specs.declared.Fragment.{Fragment}
 use Rattle.wire_datagram.specs.Reading as Read
 use Rattle.wire_datagram.specs.Reading.{answerOf}
-use Rattle.wire_datagram.specs.Verdict.{verdictSays, apcSays}
-use Rattle.wire_datagram.specs.declared.reading.Apc.{Apc}
-use Rattle.wire_datagram.specs.declared.reading.Apc.the-variants.{Absent, Right, Wrong}
-use Rattle.wire_datagram.specs.declared.reading.Verdict.{Verdict}
-use Rattle.wire_datagram.specs.declared.reading.Verdict.the-variants.{
+use Rattle.wire_reading.specs.Verdict.{verdictSays, apcSays}
+use Rattle.wire_reading.specs.declared.Apc.{Apc}
+use Rattle.wire_reading.specs.declared.Apc.the-variants.{Absent, Right, Wrong}
+use Rattle.wire_reading.specs.declared.Verdict.{Verdict}
+use Rattle.wire_reading.specs.declared.Verdict.the-variants.{
   Bare,
   Short,
   Pad,
@@ -27,7 +27,7 @@ use Rattle.wire_datagram.specs.declared.reading.Verdict.the-variants.{
   Piece,
 }
 use Rattle.wire_datagram.specs.declared.reading.Refusal.the-variants.{PayloadTooShort, PayloadTooLong, LengthOutOfRange, ChecksumWrong}
-use Rattle.wire_datagram.specs.declared.reading.Reading.{Reading as Whole}
+use Rattle.wire_reading.specs.declared.Reading.{Reading as Whole}
 use Rattle.wire_datagram.specs.declared.reading.Outcome.{Outcome}
 use Rattle.wire_datagram.specs.declared.reading.Outcome.the-variants.{Refused as Unread, Accepted}
 use Rattle.host_readings.specs.declared.Reading.{Reading}

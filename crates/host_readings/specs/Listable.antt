@@ -2,13 +2,13 @@
 use Prim.Native.Nat.{ℕ}
 use mathlib.Core.Bool.{cond}
 use lib.Dec.{eqb}
-use Rattle.wire_datagram.specs.Verdict.{verdictSays}
-use Rattle.wire_datagram.specs.Reading.{extent}
-use Rattle.wire_datagram.specs.declared.reading.Apc.the-variants.{Absent}
-use Rattle.wire_datagram.specs.declared.reading.Verdict.{Verdict}
-use Rattle.wire_datagram.specs.declared.reading.Verdict.the-variants.{Bare, Read}
-use Rattle.wire_datagram.specs.declared.reading.Extent.{Extent}
-use Rattle.wire_datagram.specs.declared.reading.Reading.{Reading}
+use Rattle.wire_reading.specs.Verdict.{verdictSays}
+use Rattle.wire_reading.specs.Reading.{extent}
+use Rattle.wire_reading.specs.declared.Apc.the-variants.{Absent}
+use Rattle.wire_reading.specs.declared.Verdict.{Verdict}
+use Rattle.wire_reading.specs.declared.Verdict.the-variants.{Bare, Read}
+use Rattle.wire_reading.specs.declared.Extent.{Extent}
+use Rattle.wire_reading.specs.declared.Reading.{Reading}
 
 -- the number of "read" is a verdict with options, any other one without
 abbrev pub verdictFor : ℕ → Verdict

@@ -3,11 +3,11 @@ use Prim.Native.Nat.{ℕ}
 use mathlib.Core.Bool.{Bool, true, false}
 use mathlib.Core.Option.{Option, none, some}
 use Rattle.wire_area.specs.declared.Fragment.{Fragment}
-use Rattle.wire_datagram.specs.Verdict.{verdictSays, apcSays}
+use Rattle.wire_reading.specs.Verdict.{verdictSays, apcSays}
 use Rattle.wire_datagram.specs.Reading as Read
-use Rattle.wire_datagram.specs.Reading.{extent}
-use Rattle.wire_datagram.specs.declared.reading.Verdict.{Verdict}
-use Rattle.wire_datagram.specs.declared.reading.Reading.{Reading as Accepted}
+use Rattle.wire_reading.specs.Reading.{extent}
+use Rattle.wire_reading.specs.declared.Verdict.{Verdict}
+use Rattle.wire_reading.specs.declared.Reading.{Reading as Accepted}
 use Rattle.host_readings.specs.declared.Reading.{Reading}
 
 abbrev pub flagOf : Bool → ℕ

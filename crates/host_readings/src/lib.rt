@@ -2,16 +2,16 @@
 // does not say is 0. Positions keep their types: an `Extent` is bytes of a payload, an `OriginalOffset` a place in an original.
 use number_offsets::OriginalOffset;
 use number_offsets::PacketOffset;
-use wire_datagram::reading;
-use wire_datagram::reading::Apc;
-use wire_datagram::reading::Extent;
 use wire_datagram::reading::Outcome;
 use wire_datagram::reading::Refusal;
-use wire_datagram::reading::Verdict;
 use wire_nops::Strictness;
+use wire_reading::Apc;
+use wire_reading::Extent;
+use wire_reading::Verdict;
 ghost use mathlib.Core.Path.{_≡_};
-ghost use Rattle.wire_datagram.specs.Verdict.{verdictSays, apcSays};
-ghost use Rattle.wire_datagram.specs.Reading.{extent, answerOf, refusalNumber};
+ghost use Rattle.wire_reading.specs.Verdict.{verdictSays, apcSays};
+ghost use Rattle.wire_datagram.specs.Reading.{answerOf, refusalNumber};
+ghost use Rattle.wire_reading.specs.Reading.{extent};
 ghost use Rattle.host_readings.specs.Reading.{flagOf, noFragment, fragmentIn, unread, readingFrom, hostReading};
 ghost use Rattle.host_readings.specs.Listable.{verdictFor, readingFor};
 ghost use Rattle.host_readings.specs.Setting.{strictnessFor};
@@ -157,7 +157,7 @@ pub fn unread(refusal: u32) -> Reading
     }
 }
 
-pub fn reading_from(reading: reading::Reading) -> Reading
+pub fn reading_from(reading: wire_reading::Reading) -> Reading
     ensures { λ r. ⌜ r ≡ readingFrom reading ⌝ }
 {
     let verdict = reading.verdict;
@@ -209,12 +209,12 @@ pub fn verdict_for(number: u32) -> Verdict
 }
 
 // As much of a reading as its listing looks at: the verdict's number and the option list.
-pub fn reading_for(number: u32, options: Extent) -> reading::Reading
+pub fn reading_for(number: u32, options: Extent) -> wire_reading::Reading
     ensures { λ r. ⌜ r ≡ readingFor number options ⌝ }
 {
     let verdict = verdict_for(number);
     let none = no_bytes();
-    reading::Reading {
+    wire_reading::Reading {
         user: none,
         verdict: verdict,
         options: options,

@@ -13,13 +13,13 @@ use Rattle.wire_options.specs.Strict.{walkBy}
 use Rattle.wire_options.specs.Walk.{Walked, listed, faulty, optionLimit}
 use Rattle.wire_options.specs.declared.walk.Fault.{Fault}
 use Rattle.wire_options.specs.declared.walk.Fault.the-variants as Met
-use Rattle.wire_datagram.specs.Reading as Read
+use Rattle.wire_reading.specs.Reading as Says
 use Rattle.wire_original.specs.Rereading as Reread
 use Rattle.wire_surplus.specs.Surplus.{startOf}
 use Rattle.wire_surplus.specs.declared.Start.{Start}
 use Rattle.wire_surplus.specs.declared.Start.the-variants as Begun
-use Rattle.wire_datagram.specs.declared.reading.Apc.{Apc}
-use Rattle.wire_datagram.specs.declared.reading.Verdict.the-variants.{Read as Listed}
+use Rattle.wire_reading.specs.declared.Apc.{Apc}
+use Rattle.wire_reading.specs.declared.Verdict.the-variants.{Read as Listed}
 use Rattle.host_rereadings.specs.declared.Rereading.{Rereading}
 use Rattle.host_readings.specs.Reading.{noFragment}
 use Rattle.host_readings.proofs.Claims.{apcFrom, verdictFrom, apc-recovered}
@@ -58,7 +58,7 @@ walked-recovered original r from (listed items fill) =
       count = length items;
       fill = fill;
       apc = a;
-    })) (apc-recovered (Read.apcOf (take r original) (Read.apcValues items)))
+    })) (apc-recovered (Says.apcOf (take r original) (Says.apcValues items)))
 walked-recovered original r from (faulty f) = faulty-recovered r f
 
 started-recovered : (how : Strictness) (original : List ℕ) (r : ℕ) (s : Start) → Recovered (Reread.restarted how original r s)
@@ -80,4 +80,4 @@ pub rereading-recovered : (how : Strictness) (original : List ℕ) (r : ℕ)
 unfolding Reread.rereading
 rereading-recovered how original r =
     tested-recovered (ltb Reread.originalLimit (length original)) (ltb (length original) r) _
-    (started-recovered how original r (startOf (Read.isOdd (udpHeader + r)) true (drop r original)))
+    (started-recovered how original r (startOf (Says.isOdd (udpHeader + r)) true (drop r original)))

@@ -1,6 +1,6 @@
 -- A rereading as a value of include/wuraketozo.h. What a value does not say is 0.
 use Prim.Native.Nat.{ℕ}
-use Rattle.wire_datagram.specs.Verdict.{verdictSays, apcSays}
+use Rattle.wire_reading.specs.Verdict.{verdictSays, apcSays}
 use Rattle.wire_original.specs.Rereading as Reread
 use Rattle.wire_original.specs.Rereading.{places}
 use Rattle.wire_original.specs.declared.Rereading.{Rereading as Reaccepted}

@@ -1,10 +1,10 @@
 // Rereadings as values of include/wuraketozo.h, and as much of one as its listing looks at. A refusal is 0, or document 01's number. What a value
 // does not say is 0. Positions keep their types: an `OriginalExtent` is places in an original.
 use number_offsets::OriginalOffset;
-use wire_datagram::reading::Apc;
 use wire_original::OriginalExtent;
 use wire_original::RereadOutcome;
 use wire_original::RereadRefusal;
+use wire_reading::Apc;
 ghost use mathlib.Core.Path.{_≡_};
 ghost use Rattle.wire_original.specs.Rereading.{places, reAnswerOf, reRefusalNumber};
 ghost use Rattle.host_rereadings.specs.Rereading.{unreread, rereadingFrom, hostRereading};

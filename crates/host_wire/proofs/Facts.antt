@@ -3,8 +3,8 @@
 use Prim.Native.Nat.{ℕ}
 use mathlib.Core.Path.{_≡_, ap, subst, _∙_}
 use mathlib.Core.List.{List}
-use Rattle.wire_datagram.specs.declared.reading.Extent.{Extent}
-use Rattle.wire_datagram.specs.declared.reading.Reading.{Reading}
+use Rattle.wire_reading.specs.declared.Extent.{Extent}
+use Rattle.wire_reading.specs.declared.Reading.{Reading}
 use Rattle.wire_original.specs.declared.OriginalExtent.{OriginalExtent}
 use Rattle.wire_original.specs.declared.Rereading.{Rereading}
 use Rattle.list_options.specs.Listing.{listedAnswer, ListedInto}

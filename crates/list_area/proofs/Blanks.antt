@@ -11,7 +11,7 @@ use lib.Seq.{length-take-le, take-append-seam, drop-at}
 use Rattle.number_octets.specs.Octets.{octets, overlay}
 use Rattle.number_octets.proofs.Laws.{length-octets, overlay-sets}
 use Rattle.number_checksum.specs.Checksum.{wordSum, folded, sent}
-use Rattle.wire_datagram.specs.Reading.{isOdd}
+use Rattle.wire_reading.specs.Reading.{isOdd}
 use Rattle.list_payload.specs.Payload.{padding, areaWith, areaOf}
 use Rattle.list_wire.specs.Parts.{Laid}
 use Rattle.list_payload.proofs.Areas.{ocsFor, area-is, area-length}

@@ -9,7 +9,7 @@ ghost use Prim.Native.Nat.{_+_, _-_, _%_, _≤_};
 ghost use lib.ListN.{length, drop, replicate};
 ghost use Rattle.number_octets.specs.Octets.{octets, part, overlay};
 ghost use Rattle.number_checksum.specs.Checksum.{wordSum, folded, sent};
-ghost use Rattle.wire_datagram.specs.Reading.{isOdd};
+ghost use Rattle.wire_reading.specs.Reading.{isOdd};
 ghost use Rattle.list_entry.specs.Option.{readOption};
 ghost use Rattle.list_wire.specs.Parts.{Laid, Passes, wireRead, wiresRead, wiresListed, listedBytes};
 

@@ -20,10 +20,11 @@ use Rattle.wire_step.specs.Kinds.{classOf, apc, frag}
 use Rattle.wire_step.specs.declared.Class.the-variants.{Fixed}
 use Rattle.wire_step.proofs.Classes.{class-varying}
 use Rattle.wire_options.specs.Walk.{Item, listed, walkFrom, optionLimit}
-use Rattle.wire_datagram.specs.Reading.{payloadLimit, extent, apcValues, allAre, apcOf, reads, reading}
-use Rattle.wire_datagram.specs.declared.reading.Apc.the-variants.{Absent, Right, Wrong}
-use Rattle.wire_datagram.specs.declared.reading.Verdict.the-variants.{Read}
-use Rattle.wire_datagram.specs.declared.reading.Reading.{Reading}
+use Rattle.wire_datagram.specs.Reading.{reads, reading}
+use Rattle.wire_reading.specs.Reading.{payloadLimit, extent, apcValues, allAre, apcOf}
+use Rattle.wire_reading.specs.declared.Apc.the-variants.{Absent, Right, Wrong}
+use Rattle.wire_reading.specs.declared.Verdict.the-variants.{Read}
+use Rattle.wire_reading.specs.declared.Reading.{Reading}
 use Rattle.list_entry.specs.Shape.{fields, raw, barred, shapeOf}
 use Rattle.list_entry.specs.Option.{longestBody, Shaped, ValidOption, total}
 use Rattle.list_encoding.specs.Encoding.{given, decodedList, encodedList, Each as EachValid, Valid}

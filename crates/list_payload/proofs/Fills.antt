@@ -12,9 +12,10 @@ use Rattle.number_octets.specs.Octets.{octets}
 use Rattle.number_checksum.specs.Checksum.{wordSum, folded, sent}
 use Rattle.wire_nops.specs.declared.Strictness.{Strictness}
 use Rattle.wire_options.specs.Walk.{Item}
-use Rattle.wire_datagram.specs.Reading.{reads, reading, isOdd}
-use Rattle.wire_datagram.specs.declared.reading.Verdict.the-variants.{Read}
-use Rattle.wire_datagram.specs.declared.reading.Reading.{Reading}
+use Rattle.wire_datagram.specs.Reading.{reads, reading}
+use Rattle.wire_reading.specs.Reading.{isOdd}
+use Rattle.wire_reading.specs.declared.Verdict.the-variants.{Read}
+use Rattle.wire_reading.specs.declared.Reading.{Reading}
 use Rattle.wire_datagram.proofs.Lists.{reading-fill}
 use Rattle.list_payload.specs.Payload.{wires, workedAll, listOf, padding, areaWith, areaOf, Datagram, sizeOf, datagramWith, udpChecksumOf, payloadOf}
 

@@ -21,19 +21,9 @@ use Rattle.wire_nops.specs.declared.Strictness.the-variants.{Plain}
 use Rattle.wire_options.specs.Walk.{Item, listed, walkFrom, optionLimit}
 use Rattle.wire_area.specs.Area.{plain, areaOf as areaWalk}
 use Rattle.wire_surplus.specs.Surplus.{padOf, startOf}
-use Rattle.wire_datagram.specs.Reading.{
-  payloadLimit,
-  udpLength,
-  udpChecksum,
-  pseudoHeader,
-  isOdd,
-  walked,
-  started,
-  accepted,
-  reads,
-  reading,
-}
-use Rattle.wire_datagram.specs.declared.reading.Reading.{Reading}
+use Rattle.wire_datagram.specs.Reading.{udpLength, udpChecksum, pseudoHeader, accepted, reads, reading}
+use Rattle.wire_reading.specs.Reading.{payloadLimit, isOdd, walked, started}
+use Rattle.wire_reading.specs.declared.Reading.{Reading}
 use Rattle.wire_datagram.proofs.Refusals.{Sized, sumOf, reading-accepted}
 use Rattle.list_payload.specs.Payload.{workedAll, listOf, areaOf, Datagram, sizeOf, frontOf, datagramWith, udpChecksumOf, payloadOf}
 use Rattle.list_payload.proofs.Wires.{Each, walk-wires}

@@ -8,12 +8,12 @@ use lib.ListN.{length, take, drop}
 use Rattle.wire_nops.specs.declared.Strictness.{Strictness}
 use Rattle.wire_step.specs.Kinds.{apc}
 use Rattle.wire_options.specs.Walk.{Item, Walked, listed, walkFrom, optionLimit}
-use Rattle.wire_datagram.specs.Extents.{bytesIn}
+use Rattle.wire_reading.specs.Extents.{bytesIn}
 use Rattle.wire_datagram.specs.Reading.{reads, reading}
-use Rattle.wire_datagram.specs.declared.reading.Apc.{Apc}
-use Rattle.wire_datagram.specs.declared.reading.Apc.the-variants.{Absent, Right}
-use Rattle.wire_datagram.specs.declared.reading.Verdict.the-variants.{Read}
-use Rattle.wire_datagram.specs.declared.reading.Reading.{Reading}
+use Rattle.wire_reading.specs.declared.Apc.{Apc}
+use Rattle.wire_reading.specs.declared.Apc.the-variants.{Absent, Right}
+use Rattle.wire_reading.specs.declared.Verdict.the-variants.{Read}
+use Rattle.wire_reading.specs.declared.Reading.{Reading}
 use Rattle.list_encoding.specs.Encoding.{given, decodedList}
 use Rattle.list_options.specs.Listing.{listing}
 use Rattle.list_payload.specs.Payload.{workedAll}

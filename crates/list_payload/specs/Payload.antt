@@ -10,7 +10,8 @@ use Rattle.number_checksum.specs.Checksum.{wordSum, folded, sent}
 use Rattle.number_crc32c.specs.Crc.{crcOf}
 use Rattle.wire_step.specs.Kinds.{apc}
 use Rattle.wire_options.specs.Walk.{Item}
-use Rattle.wire_datagram.specs.Reading.{pseudoHeader, udpSum, isOdd}
+use Rattle.wire_datagram.specs.Reading.{pseudoHeader, udpSum}
+use Rattle.wire_reading.specs.Reading.{isOdd}
 use Rattle.list_encoding.specs.Wire.{longestShort, crcWidth}
 
 -- an option on the wire: the extended form is used only where the short would pass 254

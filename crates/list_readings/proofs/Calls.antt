@@ -10,7 +10,7 @@ use lib.Seq.{take-at}
 use Rattle.number_octets.specs.Octets.{Octets}
 use Rattle.wire_nops.specs.declared.Strictness.{Strictness}
 use Rattle.wire_datagram.specs.Reading.{reads, reading, answerOf}
-use Rattle.wire_datagram.specs.declared.reading.Reading.{Reading}
+use Rattle.wire_reading.specs.declared.Reading.{Reading}
 use Rattle.wire_datagram.specs.declared.reading.Outcome.{Outcome}
 use Rattle.wire_datagram.specs.declared.reading.Outcome.the-variants.{Refused, Accepted}
 use Rattle.list_options.specs.Listing.{ListedInto}

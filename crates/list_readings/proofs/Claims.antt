@@ -12,13 +12,15 @@ use Rattle.number_octets.specs.Octets.{Octets}
 use Rattle.wire_nops.specs.declared.Strictness.{Strictness}
 use Rattle.wire_nops.specs.declared.Strictness.the-variants.{Plain}
 use Rattle.wire_options.specs.Walk.{Item, Walked, listed, walkFrom, optionLimit, itemsOf}
-use Rattle.wire_datagram.specs.Reading.{reads, reading, isRead}
+use Rattle.wire_datagram.specs.Reading.{reads, reading}
+use Rattle.wire_reading.specs.Reading.{isRead}
 use Rattle.wire_original.specs.Rereading.{rereads, rereading}
-use Rattle.wire_datagram.specs.declared.reading.Verdict.{Verdict}
-use Rattle.wire_datagram.specs.declared.reading.Verdict.the-variants.{Read}
-use Rattle.wire_datagram.specs.declared.reading.Reading.{Reading}
+use Rattle.wire_reading.specs.declared.Verdict.{Verdict}
+use Rattle.wire_reading.specs.declared.Verdict.the-variants.{Read}
+use Rattle.wire_reading.specs.declared.Reading.{Reading}
 use Rattle.wire_original.specs.declared.Rereading.{Rereading}
-use Rattle.wire_datagram.proofs.Lists.{Lists, lists-part, read-verdict, reading-lists}
+use Rattle.wire_datagram.proofs.Lists.{reading-lists}
+use Rattle.wire_reading.proofs.Lists.{Lists, lists-part, read-verdict}
 use Rattle.wire_original.proofs.Lists.{rereading-lists}
 use Rattle.list_encoding.specs.Encoding.{given, refused}
 use Rattle.list_options.specs.Listing.{tooSmall, fillOf, listing, roomFor, ListedInto}

@@ -8,7 +8,7 @@ use Rattle.number_varint.specs.SevenBit.{isLast, groups, encoded}
 use Rattle.wire_step.specs.Kinds.{classOf}
 use Rattle.wire_step.specs.Step.{headerOf, stepOf}
 use Rattle.wire_options.specs.Walk.{listed, walkFrom, optionLimit}
-use Rattle.wire_datagram.specs.declared.reading.Verdict.the-variants.{BadSum, Read}
+use Rattle.wire_reading.specs.declared.Verdict.the-variants.{BadSum, Read}
 use Rattle.list_entry.specs.Shape.{shapeOf}
 use Rattle.list_entry.specs.Option.{encodedFields, encodedBody, encodedOption}
 use Rattle.list_encoding.specs.Encoding.{encodedOptions, encodedList}

@@ -10,8 +10,8 @@ use lib.Dec.{leb}
 use lib.ListN.{length}
 use Rattle.number_octets.specs.Octets.{part}
 use Rattle.wire_options.specs.Walk.{Walked, listed, walkFrom, optionLimit}
-use Rattle.wire_datagram.specs.Reading.{isRead}
-use Rattle.wire_datagram.specs.declared.reading.Verdict.{Verdict}
+use Rattle.wire_reading.specs.Reading.{isRead}
+use Rattle.wire_reading.specs.declared.Verdict.{Verdict}
 use Rattle.list_readings.specs.Catalogue.{isListed, walkOfValue}
 
 module _ (verdict : Verdict) (from to size : ℕ) where

@@ -7,8 +7,8 @@ use lib.Dec.{leb}
 use lib.ListN.{length}
 use Rattle.number_octets.specs.Octets.{part}
 use Rattle.wire_options.specs.Walk.{Walked, listed, walkFrom, optionLimit}
-use Rattle.wire_datagram.specs.Reading.{isRead}
-use Rattle.wire_datagram.specs.declared.reading.Verdict.{Verdict}
+use Rattle.wire_reading.specs.Reading.{isRead}
+use Rattle.wire_reading.specs.declared.Verdict.{Verdict}
 
 -- The verdict is "read" and the option list lies within so many bytes. With a value that no reading gave, it need not.
 abbrev pub isListed : Verdict → ℕ → ℕ → ℕ → Bool

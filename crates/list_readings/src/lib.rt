@@ -1,11 +1,10 @@
 // Listing a reading or a rereading as an encoded option list. Document 01, "Dockets and the writer".
 use list_options::Listed;
-use wire_datagram::reading;
-use wire_datagram::reading::Extent;
-use wire_datagram::reading::Reading;
-use wire_datagram::reading::Verdict;
 use wire_original::OriginalExtent;
 use wire_original::Rereading;
+use wire_reading::Extent;
+use wire_reading::Reading;
+use wire_reading::Verdict;
 ghost use mathlib.Core.Path.{_≡_};
 ghost use Rattle.list_options.specs.Listing.{ListedInto};
 ghost use Rattle.list_readings.specs.Catalogue.{isListed, walkOfValue};
@@ -52,7 +51,7 @@ fn is_listed(verdict: Verdict, options: Extent, size: usize) -> bool
     if size < options.to.0 {
         return false;
     }
-    reading::is_read(verdict)
+    wire_reading::is_read(verdict)
 }
 
 // The same of a list within an original of `size` bytes.
@@ -65,5 +64,5 @@ fn is_relisted(verdict: Verdict, places: OriginalExtent, size: usize) -> bool
     if size < places.to.0 {
         return false;
     }
-    reading::is_read(verdict)
+    wire_reading::is_read(verdict)
 }

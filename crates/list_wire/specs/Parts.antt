@@ -9,7 +9,7 @@ use Rattle.number_octets.specs.Octets.{octets, overlay}
 use Rattle.number_crc32c.specs.Crc.{crcOf}
 use Rattle.wire_step.specs.Kinds.{apc}
 use Rattle.wire_options.specs.Walk.{Item}
-use Rattle.wire_datagram.specs.Reading.{isOdd}
+use Rattle.wire_reading.specs.Reading.{isOdd}
 use Rattle.list_entry.specs.Shape.{shapeOf}
 use Rattle.list_entry.specs.Option.{Read, got, failed, readNumber, readOption}
 use Rattle.list_encoding.specs.Wire.{longestShort, crcWidth, widthsOf}

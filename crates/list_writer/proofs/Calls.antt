@@ -9,9 +9,10 @@ use lib.Seq.{take-at, drop-at}
 use Rattle.number_octets.specs.Octets.{Octets}
 use Rattle.wire_nops.specs.declared.Strictness.the-variants.{Plain}
 use Rattle.wire_options.specs.Walk.{walkFrom, optionLimit}
-use Rattle.wire_datagram.specs.Extents.{bytesIn}
-use Rattle.wire_datagram.specs.declared.reading.Reading.{Reading}
-use Rattle.wire_datagram.proofs.Lists.{lists-part, reading-lists}
+use Rattle.wire_reading.specs.Extents.{bytesIn}
+use Rattle.wire_reading.specs.declared.Reading.{Reading}
+use Rattle.wire_datagram.proofs.Lists.{reading-lists}
+use Rattle.wire_reading.proofs.Lists.{lists-part}
 use Rattle.list_encoding.specs.Encoding.{given, decodedList}
 use Rattle.list_options.specs.Listing.{listing}
 use Rattle.list_writer.specs.Answer.{written, datagramFor, Wrote}

@@ -12,7 +12,7 @@ use lib.ListN.{length, drop}
 use Rattle.number_tests.proofs.Tests.{both-true}
 use Rattle.number_octets.specs.Octets.{Octets}
 use Rattle.wire_options.specs.Walk.{Item}
-use Rattle.wire_datagram.specs.Reading.{payloadLimit}
+use Rattle.wire_reading.specs.Reading.{payloadLimit}
 use Rattle.list_encoding.specs.Encoding.{Answer, given, refused, decodedList}
 use Rattle.list_writer.specs.Answer.{tooLarge, fits, put, untouched, putWhole, outcomeBy, written, datagramFor}
 use Rattle.list_payload.specs.Payload.{Datagram, payloadOf}

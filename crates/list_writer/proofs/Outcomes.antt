@@ -15,7 +15,7 @@ use Rattle.number_octets.proofs.Laws.{length-octets}
 use Rattle.number_offsets.specs.Offsets.{udpHeader}
 use Rattle.number_crc32c.specs.Crc.{crcOf}
 use Rattle.wire_options.specs.Walk.{Item}
-use Rattle.wire_datagram.specs.Reading.{payloadLimit, isOdd}
+use Rattle.wire_reading.specs.Reading.{payloadLimit, isOdd}
 use Rattle.list_encoding.specs.Encoding.{Answer, given, refused, decodedList}
 use Rattle.list_encoding.specs.Wire.{Totals, totalsOf, measured, wireSize}
 use Rattle.list_payload.specs.Payload.{listOf, areaOf, Datagram, sizeOf, udpChecksumOf, payloadOf}

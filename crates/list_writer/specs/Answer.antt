@@ -7,7 +7,7 @@ use Prim.Native.Nat.{ℕ}
 use lib.Dec.{leb}
 use lib.ListN.{length, drop}
 use Rattle.wire_options.specs.Walk.{Item}
-use Rattle.wire_datagram.specs.Reading.{payloadLimit}
+use Rattle.wire_reading.specs.Reading.{payloadLimit}
 use Rattle.list_entry.specs.Option.{forbidden}
 use Rattle.list_encoding.specs.Encoding.{Answer, given, refused, unreadable, decodedList}
 use Rattle.list_payload.specs.Payload.{Datagram, payloadOf}

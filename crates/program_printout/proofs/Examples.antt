@@ -13,7 +13,8 @@ use Rattle.wire_step.specs.Step.{headerOf, stepOf}
 use Rattle.wire_options.specs.Walk.{walkFrom, optionLimit}
 use Rattle.wire_area.specs.Area.{areaOf}
 use Rattle.wire_surplus.specs.Surplus.{startOf}
-use Rattle.wire_datagram.specs.Reading.{payloadLimit, pseudoHeader, accepted, reading}
+use Rattle.wire_datagram.specs.Reading.{pseudoHeader, accepted, reading}
+use Rattle.wire_reading.specs.Reading.{payloadLimit}
 use Rattle.program_text.specs.Digits.{digitsIn, decimalOf}
 use Rattle.program_lines.specs.Lines.{numbersOf, itemLine, itemLines}
 use Rattle.program_verdict.specs.Words.{verdictLine}

@@ -15,7 +15,7 @@ use Rattle.number_octets.specs.Octets.{part}
 use Rattle.number_octets.proofs.Laws.{part-rest}
 use Rattle.number_offsets.specs.Offsets.{udpHeader}
 use Rattle.wire_nops.specs.declared.Strictness.the-variants.{Plain}
-use Rattle.wire_datagram.specs.Reading.{payloadLimit}
+use Rattle.wire_reading.specs.Reading.{payloadLimit}
 use Rattle.wire_datagram.proofs.Refusals.{refused-long}
 use Rattle.program_report.specs.Words.{refusedWord}
 use Rattle.program_report.specs.Report.{numberLine, answerText, reportOf}

@@ -15,12 +15,13 @@ use Rattle.wire_nops.specs.declared.Strictness.the-variants.{Plain}
 use Rattle.wire_step.specs.Kinds.{widthsOf}
 use Rattle.wire_options.specs.Walk.{Item, Walked, listed, faulty, walkFrom, optionLimit}
 use Rattle.wire_options.proofs.Sizes.{bodySizes, walk-bounded}
-use Rattle.wire_datagram.specs.Extents.{bytesIn, sizeOf}
-use Rattle.wire_datagram.specs.Reading.{Answer, refused, reads, payloadLimit, reading, isRead}
-use Rattle.wire_datagram.specs.declared.reading.Extent.{Extent}
-use Rattle.wire_datagram.specs.declared.reading.Reading.{Reading}
-use Rattle.wire_datagram.specs.declared.reading.Verdict.{Verdict}
-use Rattle.wire_datagram.specs.declared.reading.Verdict.the-variants.{Bare, Short, Pad, Unsummed, BadSum, Malformed, Unsafe, FragData, Crowded, Tail, Padded, Read, Piece}
+use Rattle.wire_reading.specs.Extents.{bytesIn, sizeOf}
+use Rattle.wire_datagram.specs.Reading.{Answer, refused, reads, reading}
+use Rattle.wire_reading.specs.Reading.{payloadLimit, isRead}
+use Rattle.wire_reading.specs.declared.Extent.{Extent}
+use Rattle.wire_reading.specs.declared.Reading.{Reading}
+use Rattle.wire_reading.specs.declared.Verdict.{Verdict}
+use Rattle.wire_reading.specs.declared.Verdict.the-variants.{Bare, Short, Pad, Unsummed, BadSum, Malformed, Unsafe, FragData, Crowded, Tail, Padded, Read, Piece}
 use Rattle.wire_datagram.proofs.Claims.{met-none}
 use Rattle.program_text.specs.Digits.{digit, digitsIn, longest, decimalOf, hexOf}
 use Rattle.program_text.specs.Characters.{blank, newline}

@@ -7,7 +7,8 @@ use Prim.Native.Nat.{ℕ, _+_}
 use lib.Dec.{ltb}
 use lib.ListN.{length, take, drop}
 use Rattle.number_octets.specs.Octets.{part}
-use Rattle.wire_datagram.specs.Reading.{payloadLimit, refusalNumber}
+use Rattle.wire_datagram.specs.Reading.{refusalNumber}
+use Rattle.wire_reading.specs.Reading.{payloadLimit}
 use Rattle.wire_datagram.specs.declared.reading.Refusal.the-variants.{PayloadTooShort}
 use Rattle.program_report.specs.Words.{refusedWord}
 use Rattle.program_report.specs.Report.{numberLine, reportOf}

@@ -8,12 +8,14 @@ use native.Mathlib.Omega.{arith}
 use lib.ListN.{length}
 use Rattle.wire_nops.specs.declared.Strictness.{Strictness}
 use Rattle.wire_options.specs.Walk.{walkFrom, optionLimit}
-use Rattle.wire_datagram.specs.Extents.{sizeOf}
-use Rattle.wire_datagram.specs.Reading.{reads, reading, isRead}
-use Rattle.wire_datagram.specs.declared.reading.Extent.{Extent}
-use Rattle.wire_datagram.specs.declared.reading.Reading.{Reading}
+use Rattle.wire_reading.specs.Extents.{sizeOf}
+use Rattle.wire_datagram.specs.Reading.{reads, reading}
+use Rattle.wire_reading.specs.Reading.{isRead}
+use Rattle.wire_reading.specs.declared.Extent.{Extent}
+use Rattle.wire_reading.specs.declared.Reading.{Reading}
 use Rattle.wire_datagram.proofs.Claims.{met-none, in-range, user-extent}
-use Rattle.wire_datagram.proofs.Lists.{ListsIn, lists-part, read-verdict, reading-lists}
+use Rattle.wire_datagram.proofs.Lists.{reading-lists}
+use Rattle.wire_reading.proofs.Lists.{ListsIn, lists-part, read-verdict}
 use Rattle.program_lines.specs.Lines.{isListed}
 use Rattle.program_verdict.specs.Words.{verdictLine}
 use Rattle.program_report.specs.Words.{userWord}

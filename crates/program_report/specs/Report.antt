@@ -4,10 +4,11 @@ use mathlib.Core.List.{List, [], _∷_, _++_}
 use Prim.Native.Nat.{ℕ}
 use Rattle.wire_nops.specs.declared.Strictness.the-variants.{Plain}
 use Rattle.wire_options.specs.Walk.{walkFrom, optionLimit}
-use Rattle.wire_datagram.specs.Extents.{sizeOf, bytesIn}
-use Rattle.wire_datagram.specs.Reading.{Answer, refused, reads, reading, isRead}
-use Rattle.wire_datagram.specs.declared.reading.Extent.{Extent}
-use Rattle.wire_datagram.specs.declared.reading.Reading.{Reading}
+use Rattle.wire_reading.specs.Extents.{sizeOf, bytesIn}
+use Rattle.wire_datagram.specs.Reading.{Answer, refused, reads, reading}
+use Rattle.wire_reading.specs.Reading.{isRead}
+use Rattle.wire_reading.specs.declared.Extent.{Extent}
+use Rattle.wire_reading.specs.declared.Reading.{Reading}
 use Rattle.program_text.specs.Digits.{decimalOf}
 use Rattle.program_text.specs.Characters.{blank, newline}
 use Rattle.program_lines.specs.Lines.{itemLines, itemsOf}

@@ -5,10 +5,10 @@ use mathlib.Core.List.{List}
 use Prim.Native.Nat.{ℕ, _≤_}
 use lib.ListN.{length}
 use Rattle.wire_options.specs.Walk.{walkFrom, optionLimit}
-use Rattle.wire_datagram.specs.Extents.{bytesIn}
-use Rattle.wire_datagram.specs.Reading.{isRead}
-use Rattle.wire_datagram.specs.declared.reading.Extent.{Extent}
-use Rattle.wire_datagram.specs.declared.reading.Reading.{Reading}
+use Rattle.wire_reading.specs.Extents.{bytesIn}
+use Rattle.wire_reading.specs.Reading.{isRead}
+use Rattle.wire_reading.specs.declared.Extent.{Extent}
+use Rattle.wire_reading.specs.declared.Reading.{Reading}
 use Rattle.program_lines.specs.Lines.{isListed}
 
 -- an extent of a payload whose bytes are a list of options without fault

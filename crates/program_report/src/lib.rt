@@ -1,10 +1,10 @@
 // The report on an IPv4 payload, as the program prints it (document 01, "The program"). It is read plainly.
 use wire_datagram::reading;
-use wire_datagram::reading::Extent;
 use wire_datagram::reading::Outcome;
-use wire_datagram::reading::Reading;
 use wire_datagram::reading::Refusal;
 use wire_nops::Strictness;
+use wire_reading::Extent;
+use wire_reading::Reading;
 ghost use mathlib.Core.Path.{_≡_};
 ghost use Prim.Native.Nat.{_≤_};
 ghost use lib.ListN.{length};
@@ -50,7 +50,7 @@ fn put_reading(payload: &[u8], reading: Reading, text: &mut [u8]) -> usize
     let options = reading.options;
     let counted = program_text::put_line(b"user ", user.to.0 - user.from.0, text, 0);
     let judged = program_verdict::put_verdict(verdict, text, counted);
-    if reading::is_read(verdict) {
+    if wire_reading::is_read(verdict) {
         return put_listing(payload, options, reading.fill, text, judged);
     }
     judged

@@ -4,8 +4,8 @@ use list_options::Listed;
 use list_writer::Written;
 use wire_datagram::reading;
 use wire_datagram::reading::Outcome;
-use wire_datagram::reading::Reading;
 use wire_nops::Strictness;
+use wire_reading::Reading;
 
 const ROOM: usize = 128;
 

@@ -2,7 +2,7 @@
 -- Assumes nothing.
 use mathlib.Core.Path.{_≡_, refl}
 use mathlib.Core.List.{[], _∷_}
-use Rattle.wire_datagram.specs.declared.reading.Verdict.the-variants.{Bare}
+use Rattle.wire_reading.specs.declared.Verdict.the-variants.{Bare}
 use Rattle.program_verdict.specs.Words.{verdictLine}
 
 -- verdict none

@@ -1,8 +1,8 @@
 -- The words of verdicts, as lists of ASCII characters (document 01, "The program" and "Reading one IPv4 payload").
 use mathlib.Core.List.{List, [], _∷_, _++_}
 use Prim.Native.Nat.{ℕ}
-use Rattle.wire_datagram.specs.declared.reading.Verdict.{Verdict}
-use Rattle.wire_datagram.specs.Verdict.{verdictSays}
+use Rattle.wire_reading.specs.declared.Verdict.{Verdict}
+use Rattle.wire_reading.specs.Verdict.{verdictSays}
 use Rattle.program_text.specs.Characters.{blank, newline}
 
 -- verdict

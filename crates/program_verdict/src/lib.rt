@@ -1,5 +1,5 @@
 // The line of a verdict in a report (document 01, "The program").
-use wire_datagram::reading::Verdict;
+use wire_reading::Verdict;
 ghost use Prim.Native.Nat.{_≤_};
 ghost use lib.ListN.{length};
 ghost use Rattle.program_text.specs.Put.{Put};

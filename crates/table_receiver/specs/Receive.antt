@@ -6,11 +6,11 @@ use mathlib.Core.Option.{Option, none, some}
 use Rattle.number_octets.specs.Octets.{number, part}
 use Rattle.wire_nops.specs.declared.Strictness.{Strictness}
 use Rattle.wire_area.specs.declared.Fragment.{Fragment}
-use Rattle.wire_datagram.specs.Verdict.{verdictSays}
+use Rattle.wire_reading.specs.Verdict.{verdictSays}
 use Rattle.wire_datagram.specs.Reading as Reading
 use Rattle.wire_datagram.specs.Reading.{Answer, reading, refusalNumber}
-use Rattle.wire_datagram.specs.declared.reading.Verdict.{Verdict}
-use Rattle.wire_datagram.specs.declared.reading.Reading.{Reading}
+use Rattle.wire_reading.specs.declared.Verdict.{Verdict}
+use Rattle.wire_reading.specs.declared.Reading.{Reading}
 use Rattle.wire_datagram.specs.declared.reading.Outcome.{Outcome}
 use Rattle.wire_datagram.specs.declared.reading.Outcome.the-variants.{Refused as Unread, Accepted}
 use Rattle.client_record.specs.declared.Client.{Client}

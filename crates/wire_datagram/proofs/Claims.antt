@@ -2,6 +2,7 @@
 -- Both go by what the area's start and walk come to: every case has the user data's extent, and only "read" has more.
 -- Assumes nothing.
 use mathlib.Core.Path.{_≡_, refl, sym, ap, subst, _∙_}
+use mathlib.Core.Bool.{Bool}
 use mathlib.Core.List.{List}
 use mathlib.Core.Logic.{_⊎_, inl, inr}
 use mathlib.Core.Option.{Option, none, some}
@@ -17,46 +18,19 @@ use Rattle.number_octets.proofs.Laws.{part-take}
 use Rattle.number_offsets.specs.Offsets.{udpHeader}
 use Rattle.wire_nops.specs.declared.Strictness.{Strictness}
 use Rattle.wire_options.specs.Walk.{Item, listed, walkFrom, optionLimit}
-use Rattle.wire_area.specs.Area.{AreaWalk, plain, piece, fault, areaOf}
+use Rattle.wire_area.specs.Area.{plain, piece, areaOf}
 use Rattle.wire_area.specs.declared.Fragment.{Fragment}
 use Rattle.wire_surplus.specs.Surplus.{startOf}
-use Rattle.wire_datagram.specs.Reading.{
-  noData,
-  udpLength,
-  udpChecksum,
-  refusalTests,
-  extent,
-  optionless,
-  walked,
-  started,
-  isOdd,
-  accepted,
-  reads,
-  answered,
-  reading,
-}
-use Rattle.wire_surplus.specs.declared.Start.{Start}
-use Rattle.wire_surplus.specs.declared.Start.the-variants.{Empty, Short, Pad, Unsummed, BadSum, List as ListAt}
-use Rattle.wire_datagram.specs.declared.reading.Apc.the-variants.{Absent}
-use Rattle.wire_datagram.specs.declared.reading.Verdict.{Verdict}
-use Rattle.wire_datagram.specs.declared.reading.Verdict.the-variants.{Read, Piece}
-use Rattle.wire_datagram.specs.declared.reading.Reading.{Reading}
-use Rattle.wire_datagram.proofs.Cases.{Other, accepted-by}
+use Rattle.wire_reading.specs.Reading.{noData, extent, optionless, walked, isOdd}
+use Rattle.wire_reading.specs.declared.Apc.the-variants.{Absent}
+use Rattle.wire_reading.specs.declared.Verdict.{Verdict}
+use Rattle.wire_reading.specs.declared.Verdict.the-variants.{Read, Piece}
+use Rattle.wire_reading.specs.declared.Reading.{Reading}
+use Rattle.wire_reading.proofs.Cases.{Other, started-by}
+use Rattle.wire_reading.proofs.Claims.{started-user}
+use Rattle.wire_datagram.specs.Reading.{udpLength, udpChecksum, refusalTests, accepted, reads, answered, reading}
 
 -- ---- the user data
-
-walked-user : (p : List ℕ) (size from : ℕ) (w : AreaWalk) → walked p size from w .user ≡ extent udpHeader size
-walked-user p size from (plain items fill) = refl
-walked-user p size from (piece f) = refl
-walked-user p size from (fault f) = refl
-
-pub started-user : (how : Strictness) (p : List ℕ) (size : ℕ) (start : Start) → started how p size start .user ≡ extent udpHeader size
-started-user how p size Empty = refl
-started-user how p size Short = refl
-started-user how p size Pad = refl
-started-user how p size Unsummed = refl
-started-user how p size BadSum = refl
-started-user how p size (ListAt at) = walked-user p size (size + at) (areaOf how (noData size) (size + at) (drop (size + at) p))
 
 pub accepted-user : (how : Strictness) (p : List ℕ) → accepted how p .user ≡ extent udpHeader (udpLength p)
 unfolding accepted
@@ -86,9 +60,14 @@ pub reading-by : (how : Strictness) (P : Reading → Type 0) (p s d : List ℕ) 
     → P (walked p (udpLength p) from (plain items fill)))
     → ((from : ℕ) (f : Fragment) → from ≤ length p → areaOf how (noData (udpLength p)) from (drop from p) ≡ piece f → P (optionless (udpLength p) (Piece f)))
     → P r
+unfolding accepted
 reading-by how P p s d r e by-other by-list by-piece =
     let m = met-none how p s d r e in
-    subst P (m .1) (accepted-by how P p (in-range p s d (m .0) .1) by-other by-list by-piece)
+    let L : ℕ = udpLength p in
+    let odd : Bool = isOdd L in
+    let unused : Bool = eqb (udpChecksum p) 0 in
+    subst P (m .1)
+    (started-by how P p L (in-range p s d (m .0) .1) by-other by-list by-piece odd unused (startOf odd unused (drop L p)) refl)
 
 -- the user data of a reading is bytes 8 to L, whatever the verdict
 pub user-extent : (how : Strictness) (p s d : List ℕ) (r : Reading) → reading how p s d ≡ reads r → r .user ≡ extent udpHeader (udpLength p)

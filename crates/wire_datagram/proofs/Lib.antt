@@ -1,11 +1,8 @@
-pub mod Apcs
-pub mod Cases
 pub mod Claims
 pub mod Faults
 pub mod Lists
 pub mod Paddings
 pub mod Pieces
-pub mod Readings
 pub mod Refusals
 pub mod Stricts
 pub mod Sums

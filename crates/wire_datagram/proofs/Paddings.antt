@@ -14,9 +14,10 @@ use Rattle.wire_options.specs.Walk.{optionLimit}
 use Rattle.wire_options.specs.declared.walk.Fault.the-variants.{Padded as paddedList}
 use Rattle.wire_options.proofs.Paddings.{Padding}
 use Rattle.wire_area.proofs.Paddings.{PiecePadding, area-padded}
-use Rattle.wire_datagram.specs.Reading.{noData, udpLength, reads, reading}
-use Rattle.wire_datagram.specs.declared.reading.Reading.{Reading}
-use Rattle.wire_datagram.specs.declared.reading.Verdict.the-variants.{Padded}
+use Rattle.wire_reading.specs.Reading.{noData}
+use Rattle.wire_datagram.specs.Reading.{udpLength, reads, reading}
+use Rattle.wire_reading.specs.declared.Reading.{Reading}
+use Rattle.wire_reading.specs.declared.Verdict.the-variants.{Padded}
 use Rattle.wire_datagram.proofs.Faults.{ListStarts, reading-fault}
 
 -- the walk of the option list, `at` bytes behind L, or of a piece's options up to Frag. Start, comes to eight NOPs in a row

@@ -10,10 +10,11 @@ use Rattle.wire_nops.specs.declared.Strictness.{Strictness}
 use Rattle.wire_area.specs.Area.{piece}
 use Rattle.wire_area.specs.declared.Fragment.{Fragment}
 use Rattle.wire_area.proofs.Areas.{area-piece}
-use Rattle.wire_datagram.specs.Reading.{noData, udpLength, reads, reading}
-use Rattle.wire_datagram.specs.declared.reading.Verdict.the-variants.{Piece}
-use Rattle.wire_datagram.specs.declared.reading.Reading.{Reading}
-use Rattle.wire_datagram.proofs.Cases.{Other}
+use Rattle.wire_reading.specs.Reading.{noData}
+use Rattle.wire_datagram.specs.Reading.{udpLength, reads, reading}
+use Rattle.wire_reading.specs.declared.Verdict.the-variants.{Piece}
+use Rattle.wire_reading.specs.declared.Reading.{Reading}
+use Rattle.wire_reading.proofs.Cases.{Other}
 use Rattle.wire_datagram.proofs.Claims.{met-none, in-range, reading-by}
 
 pub record Within (p : List ℕ) (f : Fragment) : Type 0 where

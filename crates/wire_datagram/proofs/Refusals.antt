@@ -12,7 +12,8 @@ use Rattle.number_tests.specs.Tests.{firstOf}
 use Rattle.number_offsets.specs.Offsets.{udpHeader}
 use Rattle.number_checksum.specs.Checksum.{wordSum, folded, allOnes}
 use Rattle.wire_nops.specs.declared.Strictness.{Strictness}
-use Rattle.wire_datagram.specs.Reading.{payloadLimit, udpLength, udpChecksum, pseudoHeader, accepted, refused, reads, reading}
+use Rattle.wire_reading.specs.Reading.{payloadLimit}
+use Rattle.wire_datagram.specs.Reading.{udpLength, udpChecksum, pseudoHeader, accepted, refused, reads, reading}
 
 -- what refusals 1 to 3 leave of a payload
 pub record Sized (payload : List ℕ) : Type 0 where

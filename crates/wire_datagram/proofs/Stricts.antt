@@ -4,19 +4,18 @@ use mathlib.Core.Path.{_≡_, refl, ap}
 use mathlib.Core.List.{List}
 use mathlib.Core.Logic.{_⊎_, inl, inr, ⊎-elim}
 use mathlib.Core.Option.{Option, none, some}
-use Prim.Native.Nat.{ℕ, _+_}
+use Prim.Native.Nat.{ℕ}
 use lib.Dec.{eqb}
 use lib.ListN.{drop}
 use Rattle.number_tests.specs.Tests.{firstOf}
 use Rattle.wire_nops.specs.declared.Strictness.{Strictness}
 use Rattle.wire_nops.specs.declared.Strictness.the-variants.{Plain}
-use Rattle.wire_area.proofs.Stricts.{area-or-plain}
 use Rattle.wire_surplus.specs.Surplus.{startOf}
-use Rattle.wire_surplus.specs.declared.Start.{Start}
-use Rattle.wire_surplus.specs.declared.Start.the-variants.{Empty, Short, Pad, Unsummed, BadSum, List as ListAt}
-use Rattle.wire_datagram.specs.Reading.{noData, udpLength, udpChecksum, refusalTests, optionless, walked, started, isOdd, accepted, answered, reads, reading}
-use Rattle.wire_datagram.specs.declared.reading.Reading.{Reading}
-use Rattle.wire_datagram.specs.declared.reading.Verdict.the-variants.{Padded}
+use Rattle.wire_reading.specs.Reading.{optionless, isOdd}
+use Rattle.wire_reading.specs.declared.Reading.{Reading}
+use Rattle.wire_reading.specs.declared.Verdict.the-variants.{Padded}
+use Rattle.wire_reading.proofs.Stricts.{started-or-plain}
+use Rattle.wire_datagram.specs.Reading.{udpLength, udpChecksum, refusalTests, accepted, answered, reads, reading}
 
 module _ (how : Strictness) (p : List ℕ) where
   -- the user data, 8 to L, and no option
@@ -26,20 +25,9 @@ module _ (how : Strictness) (p : List ℕ) where
   abbrev OrPlain : Reading → Reading → Type 0
   OrPlain r q = (r ≡ padded) ⊎ (r ≡ q)
 
-  started-or-plain : (start : Start) → OrPlain (started how p (udpLength p) start) (started Plain p (udpLength p) start)
-  started-or-plain Empty = inr refl
-  started-or-plain Short = inr refl
-  started-or-plain Pad = inr refl
-  started-or-plain Unsummed = inr refl
-  started-or-plain BadSum = inr refl
-  started-or-plain (ListAt at) =
-      let from : ℕ = udpLength p + at in
-      ⊎-elim (λ e. inl (ap (walked p (udpLength p) from) e)) (λ e. inr (ap (walked p (udpLength p) from) e))
-      (area-or-plain how (noData (udpLength p)) from (drop from p))
-
   accepted-or-plain : OrPlain (accepted how p) (accepted Plain p)
   unfolding accepted
-  accepted-or-plain = started-or-plain (startOf (isOdd (udpLength p)) (eqb (udpChecksum p) 0) (drop (udpLength p) p))
+  accepted-or-plain = started-or-plain how p (udpLength p) (startOf (isOdd (udpLength p)) (eqb (udpChecksum p) 0) (drop (udpLength p) p))
 
   pub reading-or-plain : (s d : List ℕ) → (reading how p s d ≡ reads padded) ⊎ (reading how p s d ≡ reading Plain p s d)
   unfolding reading

@@ -1,36 +1,26 @@
 -- Demand 2's "user data survives", of every payload that 1 to 3 let pass and whose UDP checksum is zero or right: it is read, with the user data
 -- 8 to L, whatever the area holds and however long it is. Only a list whose datagram has no user data can be a piece's.
 -- Assumes nothing.
-use mathlib.Core.Path.{_≡_, refl, subst}
-use mathlib.Core.Bool.{Bool, true, false}
+use mathlib.Core.Path.{_≡_, subst}
 use mathlib.Core.List.{List}
 use mathlib.Core.Logic.{_⊎_}
 use Prim.Native.Nat.{ℕ, _<_}
 use native.Mathlib.Omega.{arith}
-use borrow.Author.Tests.{eqb-true}
 use lib.ListN.{drop}
 use Rattle.number_offsets.specs.Offsets.{udpHeader}
 use Rattle.number_checksum.specs.Checksum.{allOnes}
 use Rattle.wire_nops.specs.declared.Strictness.{Strictness}
-use Rattle.wire_area.specs.Area.{piece, areaOf}
 use Rattle.wire_area.specs.declared.Fragment.{Fragment}
-use Rattle.wire_area.proofs.Areas.{data-not-piece}
-use Rattle.wire_datagram.specs.Reading.{noData, udpLength, udpChecksum, extent, accepted, reads, reading}
-use Rattle.wire_datagram.specs.declared.reading.Verdict.the-variants.{Piece}
-use Rattle.wire_datagram.specs.declared.reading.Reading.{Reading}
-use Rattle.wire_datagram.proofs.Cases.{Other}
+use Rattle.wire_reading.specs.Reading.{extent}
+use Rattle.wire_reading.specs.declared.Verdict.the-variants.{Piece}
+use Rattle.wire_reading.specs.declared.Reading.{Reading}
+use Rattle.wire_reading.proofs.Cases.{Other}
+use Rattle.wire_reading.proofs.Pieces.{piece-empty}
+use Rattle.wire_datagram.specs.Reading.{udpLength, udpChecksum, accepted, reads, reading}
 use Rattle.wire_datagram.proofs.Claims.{accepted-user, reading-by}
 use Rattle.wire_datagram.proofs.Refusals.{Sized, sumOf, reading-accepted}
 
 -- ---- a piece has no user data
-
--- the walk of such a list, by whether there is user data
-piece-empty : (how : Strictness) (size from : ℕ) (l : List ℕ) (f : Fragment) → areaOf how (noData size) from l ≡ piece f → size ≡ udpHeader
-piece-empty how size from l f = go (noData size) refl
-  where
-    go : (t : Bool) → noData size ≡ t → areaOf how t from l ≡ piece f → size ≡ udpHeader
-    go true e q = eqb-true size udpHeader e
-    go false e q = absurd (data-not-piece how from l f q)
 
 -- a payload that is read as a piece has no user data: its L is 8
 pub piece-has-none : (how : Strictness) (p s d : List ℕ) (r : Reading) (f : Fragment) → reading how p s d ≡ reads r → r .verdict ≡ Piece f → udpLength p ≡ udpHeader

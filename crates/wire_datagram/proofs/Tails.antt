@@ -11,9 +11,10 @@ use Rattle.wire_options.specs.Walk.{optionLimit}
 use Rattle.wire_options.specs.declared.walk.Fault.the-variants.{Tail as tailed}
 use Rattle.wire_options.proofs.Tails.{Tailed}
 use Rattle.wire_area.proofs.Tails.{PieceTail, area-tail}
-use Rattle.wire_datagram.specs.Reading.{noData, udpLength, reads, reading}
-use Rattle.wire_datagram.specs.declared.reading.Reading.{Reading}
-use Rattle.wire_datagram.specs.declared.reading.Verdict.the-variants.{Tail}
+use Rattle.wire_reading.specs.Reading.{noData}
+use Rattle.wire_datagram.specs.Reading.{udpLength, reads, reading}
+use Rattle.wire_reading.specs.declared.Reading.{Reading}
+use Rattle.wire_reading.specs.declared.Verdict.the-variants.{Tail}
 use Rattle.wire_datagram.proofs.Faults.{ListStarts, reading-fault}
 
 -- the option list, `at` bytes behind L, has a tail, or a piece's options up to Frag. Start have one

@@ -5,7 +5,7 @@ use Rattle.wire_datagram.specs.declared.parts.Examined.the-variants.{Ref
 use Rattle.wire_datagram.specs.declared.parts.Parts.{Parts}
 use Rattle.wire_datagram.specs.declared.reading.Outcome.{Outcome}
 use Rattle.wire_datagram.specs.declared.reading.Outcome.the-variants.{Refused, Accepted}
-use Rattle.wire_datagram.specs.declared.reading.Reading.{Reading}
+use Rattle.wire_reading.specs.declared.Reading.{Reading}
 
 abbrev pub gathered : Parts → Reading
 gathered p = record {

@@ -1,47 +1,22 @@
--- Reading one IPv4 payload, and rereading a reassembled original (document 01, "Reading one IPv4 payload" and "Walking the list").
-use mathlib.Core.Bool.{Bool, true, false, cond, not, _&&_, _||_}
+-- Reading one IPv4 payload (document 01, "Reading one IPv4 payload").
+use mathlib.Core.Bool.{Bool, false, not, _&&_, _||_}
 use mathlib.Core.List.{List, [], _∷_, _++_}
 use mathlib.Core.Option.{Option, none, some}
-use Prim.Native.Nat.{ℕ, _+_, _-_, _%_}
+use Prim.Native.Nat.{ℕ}
 use lib.Dec.{eqb, ltb}
 use lib.ListN.{length, take, drop}
 use Rattle.number_octets.specs.Octets.{number, octets, part}
 use Rattle.number_offsets.specs.Offsets.{udpHeader}
 use Rattle.number_tests.specs.Tests.{firstOf}
 use Rattle.number_checksum.specs.Checksum.{wordSum, folded, allOnes}
-use Rattle.number_crc32c.specs.Crc.{crcOf}
 use Rattle.wire_nops.specs.declared.Strictness.{Strictness}
-use Rattle.wire_step.specs.Kinds.{apc}
-use Rattle.wire_options.specs.Walk.{Item}
-use Rattle.wire_area.specs.Area.{AreaWalk, plain, piece, fault, areaOf}
-use Rattle.wire_options.specs.declared.walk.Fault.{Fault}
-use Rattle.wire_options.specs.declared.walk.Fault.the-variants.{Malformed as malformedList, Unsafe as unsafeList, FragData as fragData, Crowded as crowdedList, Tail as tailed, Padded as paddedList}
 use Rattle.wire_surplus.specs.Surplus.{startOf}
-use Rattle.wire_surplus.specs.declared.Start.{Start}
-use Rattle.wire_surplus.specs.declared.Start.the-variants.{
-  Empty,
-  Short as shortArea,
-  Pad as badPad,
-  Unsummed as noSum,
-  BadSum as badSum,
-  List as ListAt,
-}
-use Rattle.wire_datagram.specs.declared.reading.Extent.{Extent}
-use Rattle.wire_datagram.specs.declared.reading.Apc.{Apc}
-use Rattle.wire_datagram.specs.declared.reading.Apc.the-variants.{Absent, Right, Wrong}
-use Rattle.wire_datagram.specs.declared.reading.Verdict.{Verdict}
-use Rattle.wire_datagram.specs.declared.reading.Verdict.the-variants.{Bare, Short, Pad, Unsummed, BadSum, Malformed, Unsafe, FragData, Crowded, Tail, Padded, Read, Piece}
-use Rattle.wire_datagram.specs.declared.reading.Reading.{Reading}
+use Rattle.wire_reading.specs.Reading.{payloadLimit, started, isOdd}
+use Rattle.wire_reading.specs.declared.Reading.{Reading}
 use Rattle.wire_datagram.specs.declared.reading.Refusal.{Refusal}
 use Rattle.wire_datagram.specs.declared.reading.Refusal.the-variants.{PayloadTooShort, PayloadTooLong, LengthOutOfRange, ChecksumWrong}
 use Rattle.wire_datagram.specs.declared.reading.Outcome.{Outcome}
 use Rattle.wire_datagram.specs.declared.reading.Outcome.the-variants.{Refused, Accepted}
-
--- ---- limits
-
--- an IPv4 packet of 65,535 bytes less its header
-unfoldable pub payloadLimit : ℕ
-payloadLimit = 65515
 
 -- ---- the UDP header (RFC 768)
 
@@ -74,67 +49,6 @@ refusalTests payload source destination =
     ∷ (not (eqb (udpChecksum payload) 0) && not (sumHolds (pseudoHeader source destination size) (take size payload)), 4)
     ∷ []
 
--- ---- what a reading says
-
-abbrev pub extent : ℕ → ℕ → Extent
-extent from to = record { from = record { 0 = from }; to = record { 0 = to } }
-
--- the values of the APCs in a list
-unfoldable pub apcValues : List Item → List ℕ
-apcValues [] = []
-apcValues (item ∷ items) = cond (eqb (item .kind) apc) (number (item .body) ∷ apcValues items) (apcValues items)
-
-unfoldable pub allAre : ℕ → List ℕ → Bool
-allAre n [] = true
-allAre n (x ∷ xs) = eqb x n && allAre n xs
-
--- none without an APC, wrong if any differs from the CRC32c of the user data
-abbrev pub apcOf : List ℕ → List ℕ → Apc
-apcOf user [] = Absent
-apcOf user (v ∷ values) = cond (allAre (crcOf user) (v ∷ values)) Right Wrong
-
--- a reading that reports no option
-abbrev pub optionless : ℕ → Verdict → Reading
-optionless size verdict = record { user = extent udpHeader size; verdict = verdict; options = extent 0 0; count = 0; fill = 0; apc = Absent }
-
-abbrev pub verdictOf : Fault → Verdict
-verdictOf malformedList = Malformed
-verdictOf unsafeList = Unsafe
-verdictOf fragData = FragData
-verdictOf crowdedList = Crowded
-verdictOf tailed = Tail
-verdictOf paddedList = Padded
-
--- the reading after the walk of a list at packet offset `from`
-abbrev pub walked : List ℕ → ℕ → ℕ → AreaWalk → Reading
-walked payload size from (plain items fill) = record {
-  user = extent udpHeader size;
-  verdict = Read;
-  options = extent from (length payload);
-  count = length items;
-  fill = fill;
-  apc = apcOf (part udpHeader (size - udpHeader) payload) (apcValues items);
-}
-walked payload size from (piece fragment) = optionless size (Piece fragment)
-walked payload size from (fault f) = optionless size (verdictOf f)
-
--- whether there is no user data: L is that of a header alone
-abbrev pub noData : ℕ → Bool
-noData size = eqb size udpHeader
-
-abbrev pub started : Strictness → List ℕ → ℕ → Start → Reading
-started how payload size Empty = optionless size Bare
-started how payload size shortArea = optionless size Short
-started how payload size badPad = optionless size Pad
-started how payload size noSum = optionless size Unsummed
-started how payload size badSum = optionless size BadSum
-started how payload size (ListAt at) =
-    walked payload size (size + at) (areaOf how (noData size) (size + at) (drop (size + at) payload))
-
--- whether an offset is odd
-abbrev pub isOdd : ℕ → Bool
-isOdd n = eqb (n % 2) 1
-
 -- the reading of a payload that no refusal meets; the area is what stands behind the UDP length
 unfoldable pub accepted : Strictness → List ℕ → Reading
 accepted how payload =
@@ -166,19 +80,3 @@ refusalNumber ChecksumWrong = 4
 abbrev pub answerOf : Outcome → Answer
 answerOf (Refused refusal) = refused (refusalNumber refusal)
 answerOf (Accepted r) = reads r
-
--- options are reported only with "read"
-abbrev pub isRead : Verdict → Bool
-isRead Bare = false
-isRead Short = false
-isRead Pad = false
-isRead Unsummed = false
-isRead BadSum = false
-isRead Malformed = false
-isRead Unsafe = false
-isRead FragData = false
-isRead Crowded = false
-isRead Tail = false
-isRead Padded = false
-isRead Read = true
-isRead (Piece fragment) = false

@@ -1,14 +1,14 @@
 // The parts of a reading, for the way from one call to another: two words that stand side by side in a reading stand apart here. A processor hands
 // a word that was just stored on to a load of that word, but not two words to a load of both. User data starts behind the UDP header: that is not
 // handed on.
-use crate::reading::Apc;
-use crate::reading::Extent;
 use crate::reading::Outcome;
-use crate::reading::Reading;
 use crate::reading::Refusal;
-use crate::reading::Verdict;
 use number_offsets::PacketOffset;
 use number_offsets::UDP_HEADER;
+use wire_reading::Apc;
+use wire_reading::Extent;
+use wire_reading::Reading;
+use wire_reading::Verdict;
 ghost use mathlib.Core.Path.{_≡_};
 ghost use Rattle.number_offsets.specs.Offsets.{udpHeader};
 ghost use Rattle.wire_datagram.specs.Parts.{gathered, outcomeOf};

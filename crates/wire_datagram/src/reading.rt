@@ -1,23 +1,13 @@
-// The reading of a payload: refusals in order, the user data's extent, and a verdict on the surplus area.
+// The reading of a payload: refusals in order, and what `wire_reading` says of a payload that none meets.
 use crate::parts;
 use crate::parts::Examined;
-use number_offsets::PacketOffset;
 use number_offsets::UDP_HEADER;
-use wire_area::Area;
-use wire_area::Fragment;
 use wire_nops::Strictness;
-use wire_options::walk::Apcs;
-use wire_options::walk::Fault;
-use wire_surplus::Start;
+use wire_reading::Reading;
 ghost use mathlib.Core.Path.{_≡_};
-ghost use Prim.Native.Nat.{_-_, _≤_};
-ghost use lib.ListN.{length, drop};
-ghost use Rattle.number_octets.specs.Octets.{part};
-ghost use Rattle.number_offsets.specs.Offsets.{udpHeader};
-ghost use Rattle.wire_area.specs.Area.{areaOf};
-ghost use Rattle.wire_surplus.specs.Surplus.{startOf};
-ghost use Rattle.wire_datagram.specs.Reading.{payloadLimit, pseudoHeader, udpSum, isOdd, optionless, verdictOf, walked, noData, started, reading, answerOf, isRead};
-ghost use Rattle.wire_datagram.specs.ByWalk.{apcBy};
+ghost use Prim.Native.Nat.{_≤_};
+ghost use lib.ListN.{length};
+ghost use Rattle.wire_datagram.specs.Reading.{pseudoHeader, udpSum, reading, answerOf};
 ghost use Rattle.wire_datagram.specs.Parts.{outcomeOf};
 ghost use Rattle.wire_datagram.specs.Sums.{Begins};
 
@@ -26,48 +16,6 @@ pub const PAYLOAD_LIMIT: usize = 65515;
 
 // UDP's protocol number.
 const UDP: u64 = 17;
-
-// Bytes of a packet, counted from its UDP header.
-#[repr(C)]
-pub struct Extent {
-    pub from: PacketOffset,
-    pub to: PacketOffset,
-}
-
-// What the APC options say of the user data: none there, all right, or one that differs.
-pub enum Apc {
-    Absent,
-    Right,
-    Wrong,
-}
-
-// The verdict on the surplus area, in document 01's words; `Bare` is its "none". In the order of the numbers that hosts get.
-pub enum Verdict {
-    Bare,
-    Short,
-    Pad,
-    Unsummed,
-    BadSum,
-    Malformed,
-    Unsafe,
-    FragData,
-    Crowded,
-    Read,
-    Piece(Fragment),
-    Tail,
-    Padded,
-}
-
-pub struct Reading {
-    // The user data. It is to be delivered with every verdict but `Piece`.
-    pub user: Extent,
-    pub verdict: Verdict,
-    // The option list with its fill. Empty, with no option, no fill and no APC, unless the verdict is `Read`.
-    pub options: Extent,
-    pub count: usize,
-    pub fill: usize,
-    pub apc: Apc,
-}
 
 pub enum Refusal {
     PayloadTooShort,
@@ -121,7 +69,12 @@ pub fn examine(
             return Examined::Refused(Refusal::ChecksumWrong);
         }
     }
-    Examined::Accepted(parts::parts_of(accept(payload, size, checksum == 0, strictness)))
+    Examined::Accepted(parts::parts_of(wire_reading::accept(
+        payload,
+        size,
+        checksum == 0,
+        strictness,
+    )))
 }
 
 // The sum over the pseudo-header and a datagram.
@@ -145,121 +98,4 @@ pub fn pseudo_sum(source: [u8; 4], destination: [u8; 4], size: usize) -> u64
     let addresses = number_octets::get_u32(&source, 0) as u64
         + number_octets::get_u32(&destination, 0) as u64;
     addresses + UDP + size as u64
-}
-
-// The reading of a payload that no refusal meets. `unused`: the UDP checksum is zero. Most payloads have no surplus area, and none is started.
-fn accept(payload: &[u8], size: usize, unused: bool, strictness: Strictness) -> Reading
-    requires { ⌜ (udpHeader ≤ size) × (size ≤ length (now payload)) × (length (now payload) ≤ payloadLimit) ⌝ }
-    ensures { λ r. ⌜ r ≡ started strictness (now (payload .entry)) size (startOf (isOdd size) unused (drop size (now (payload .entry)))) ⌝ }
-{
-    if payload.len() == size {
-        return optionless(size, Verdict::Bare);
-    }
-    let start = wire_surplus::start_of(&payload[size..], size % 2 == 1, unused);
-    match start {
-        Start::Empty => optionless(size, Verdict::Bare),
-        Start::Short => optionless(size, Verdict::Short),
-        Start::Pad => optionless(size, Verdict::Pad),
-        Start::Unsummed => optionless(size, Verdict::Unsummed),
-        Start::BadSum => optionless(size, Verdict::BadSum),
-        Start::List(at) => listed(payload, size, PacketOffset(size + at), strictness),
-    }
-}
-
-// The reading whose option list starts at `from`.
-fn listed(payload: &[u8], size: usize, from: PacketOffset, strictness: Strictness) -> Reading
-    requires { ⌜ (udpHeader ≤ size) × (size ≤ from .0) × (from .0 ≤ length (now payload)) ⌝ }
-    ensures { λ r. ⌜ r ≡ walked (now (payload .entry)) size (from .0) (areaOf strictness (noData size) (from .0) (drop (from .0) (now (payload .entry)))) ⌝ }
-{
-    let at = from.0;
-    let list = wire_area::walk_area(&payload[at..], from, size == UDP_HEADER, strictness);
-    match list {
-        Area::Listed { count, fill, apcs } => Reading {
-            user: Extent {
-                from: PacketOffset(UDP_HEADER),
-                to: PacketOffset(size),
-            },
-            verdict: Verdict::Read,
-            options: Extent {
-                from,
-                to: PacketOffset(payload.len()),
-            },
-            count,
-            fill,
-            apc: apc_of(payload, UDP_HEADER, size, apcs),
-        },
-        Area::Piece(fragment) => optionless(size, Verdict::Piece(fragment)),
-        Area::Faulty(fault) => optionless(size, verdict_of(fault)),
-    }
-}
-
-// What the APCs say of the user data, which stands at `from` to `to` of `bytes`. A CRC is computed only where an APC asks for it.
-pub fn apc_of(bytes: &[u8], from: usize, to: usize, apcs: Apcs) -> Apc
-    requires { ⌜ (from ≤ to) × (to ≤ length (now bytes)) ⌝ }
-    ensures { λ r. ⌜ r ≡ apcBy (part from (to - from) (now (bytes .entry))) apcs ⌝ }
-{
-    match apcs {
-        Apcs::Absent => Apc::Absent,
-        Apcs::Same(value) => {
-            if value == number_crc32c::crc32c(&bytes[from..to]) {
-                return Apc::Right;
-            }
-            Apc::Wrong
-        }
-        Apcs::Different => Apc::Wrong,
-    }
-}
-
-fn verdict_of(fault: Fault) -> Verdict
-    ensures { λ r. ⌜ r ≡ verdictOf fault ⌝ }
-{
-    match fault {
-        Fault::Malformed => Verdict::Malformed,
-        Fault::Unsafe => Verdict::Unsafe,
-        Fault::FragData => Verdict::FragData,
-        Fault::Crowded => Verdict::Crowded,
-        Fault::Tail => Verdict::Tail,
-        Fault::Padded => Verdict::Padded,
-    }
-}
-
-// Only a reading with this verdict reports options.
-pub fn is_read(verdict: Verdict) -> bool
-    ensures { λ r. ⌜ r ≡ isRead verdict ⌝ }
-{
-    match verdict {
-        Verdict::Bare => false,
-        Verdict::Short => false,
-        Verdict::Pad => false,
-        Verdict::Unsummed => false,
-        Verdict::BadSum => false,
-        Verdict::Malformed => false,
-        Verdict::Unsafe => false,
-        Verdict::FragData => false,
-        Verdict::Crowded => false,
-        Verdict::Tail => false,
-        Verdict::Padded => false,
-        Verdict::Read => true,
-        Verdict::Piece(_) => false,
-    }
-}
-
-// A reading that reports no option.
-fn optionless(size: usize, verdict: Verdict) -> Reading
-    ensures { λ r. ⌜ r ≡ optionless size verdict ⌝ }
-{
-    Reading {
-        user: Extent {
-            from: PacketOffset(UDP_HEADER),
-            to: PacketOffset(size),
-        },
-        verdict,
-        options: Extent {
-            from: PacketOffset(0),
-            to: PacketOffset(0),
-        },
-        count: 0,
-        fill: 0,
-        apc: Apc::Absent,
-    }
 }

@@ -22,10 +22,10 @@ use Rattle.wire_options.proofs.Tails.{Tailed, tailed-by}
 use Rattle.wire_surplus.specs.Surplus.{startOf}
 use Rattle.wire_surplus.specs.declared.Start.{Start}
 use Rattle.wire_surplus.specs.declared.Start.the-variants.{Empty, Short as shortArea, Pad as badPad, Unsummed as noSum, BadSum as badSum, List as ListAt}
-use Rattle.wire_datagram.specs.Reading.{isOdd}
-use Rattle.wire_datagram.specs.Reading.{verdictOf}
-use Rattle.wire_datagram.specs.declared.reading.Verdict.the-variants.{Tail, Padded}
-use Rattle.wire_datagram.proofs.Faults.{faultIn, fault-named}
+use Rattle.wire_reading.specs.Reading.{isOdd}
+use Rattle.wire_reading.specs.Reading.{verdictOf}
+use Rattle.wire_reading.specs.declared.Verdict.the-variants.{Tail, Padded}
+use Rattle.wire_reading.proofs.Faults.{faultIn, fault-named}
 use Rattle.wire_original.specs.Rereading.{originalLimit, ReAnswer, refused, rereads, originalOptionless, rewalked, restarted, reTests, reAnswered, rereading}
 use Rattle.wire_original.specs.declared.Rereading.{Rereading}
 use Rattle.wire_original.proofs.Refusals.{re-accepted}

@@ -17,16 +17,16 @@ use Rattle.wire_options.specs.Strict.{walkBy}
 use Rattle.wire_options.proofs.Stricts.{listed-plain}
 use Rattle.wire_options.specs.declared.walk.Fault.the-variants.{Malformed as malformedList, Unsafe as unsafeList, FragData as fragData, Crowded as crowdedList, Tail as tailed, Padded as paddedList}
 use Rattle.wire_surplus.specs.Surplus.{startOf}
-use Rattle.wire_datagram.specs.Reading.{isOdd, isRead}
+use Rattle.wire_reading.specs.Reading.{isOdd, isRead}
 use Rattle.wire_original.specs.Rereading.{ReAnswer, refused, rereads, originalOptionless, rewalked, restarted, reTests, reAnswered, rereading}
 use Rattle.wire_surplus.specs.declared.Start.{Start}
 use Rattle.wire_surplus.specs.declared.Start.the-variants.{Empty, Short as shortArea, Pad as badPad, Unsummed as noSum, BadSum as badSum, List as ListAt}
-use Rattle.wire_datagram.specs.declared.reading.Verdict.{Verdict}
-use Rattle.wire_datagram.specs.declared.reading.Verdict.the-variants.{Bare, Short, Pad, Unsummed, BadSum, Malformed, FragData, Crowded, Tail, Padded, Read}
+use Rattle.wire_reading.specs.declared.Verdict.{Verdict}
+use Rattle.wire_reading.specs.declared.Verdict.the-variants.{Bare, Short, Pad, Unsummed, BadSum, Malformed, FragData, Crowded, Tail, Padded, Read}
 use Rattle.wire_original.specs.declared.Rereading.{Rereading}
 use Rattle.wire_surplus.proofs.Starts.{start-list}
 use Rattle.wire_options.proofs.Rests.{Fills}
-use Rattle.wire_datagram.proofs.Lists.{Lists, lists-fill, not-read}
+use Rattle.wire_reading.proofs.Lists.{Lists, lists-fill, not-read}
 
 abbrev pub RelistsIn : List ℕ → Rereading → Type 0
 RelistsIn original r = Lists original (r .options .from .0) (r .options .to .0) (r .count) (r .fill)

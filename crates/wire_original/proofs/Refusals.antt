@@ -9,7 +9,7 @@ use lib.ListN.{length, drop}
 use Rattle.number_tests.specs.Tests.{firstOf}
 use Rattle.number_offsets.specs.Offsets.{udpHeader}
 use Rattle.wire_nops.specs.declared.Strictness.{Strictness}
-use Rattle.wire_datagram.specs.Reading.{isOdd}
+use Rattle.wire_reading.specs.Reading.{isOdd}
 use Rattle.wire_original.specs.Rereading.{originalLimit, restarted, rereading, refused as refusedAgain}
 use Rattle.wire_surplus.specs.Surplus.{startOf}
 

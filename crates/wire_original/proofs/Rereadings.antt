@@ -7,8 +7,8 @@ use lib.ListN.{length, take}
 use Rattle.wire_options.specs.Walk.{Walked, listed, faulty, walkAnswer}
 use Rattle.wire_original.specs.Rereading.{places, rereads, rewalked}
 use Rattle.wire_original.specs.ByWalk.{rewalkedBy}
-use Rattle.wire_datagram.specs.declared.reading.Verdict.the-variants.{Read}
-use Rattle.wire_datagram.proofs.Apcs.{apc-by-answer}
+use Rattle.wire_reading.specs.declared.Verdict.the-variants.{Read}
+use Rattle.wire_reading.proofs.Apcs.{apc-by-answer}
 
 pub rereading-by-answer : (original : List ℕ) (r from : ℕ) (w : Walked) → rewalkedBy original r from (walkAnswer w) ≡ rewalked original r from w
 rereading-by-answer original r from (listed items fill) = λ i. rereads (record {

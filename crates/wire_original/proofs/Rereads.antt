@@ -22,7 +22,7 @@ use Rattle.wire_options.specs.declared.walk.Fault.the-variants.{
   Padded as paddedList,
 }
 use Rattle.wire_surplus.specs.Surplus.{startOf}
-use Rattle.wire_datagram.specs.Reading.{isOdd}
+use Rattle.wire_reading.specs.Reading.{isOdd}
 use Rattle.wire_original.specs.Rereading.{places, ReAnswer, refused, rereads, originalOptionless, rewalked, restarted, reTests, reAnswered, rereading}
 use Rattle.wire_surplus.specs.declared.Start.{Start}
 use Rattle.wire_surplus.specs.declared.Start.the-variants.{
@@ -33,9 +33,9 @@ use Rattle.wire_surplus.specs.declared.Start.the-variants.{
   BadSum as badSum,
   List as ListAt,
 }
-use Rattle.wire_datagram.specs.declared.reading.Apc.the-variants.{Absent}
-use Rattle.wire_datagram.specs.declared.reading.Verdict.{Verdict}
-use Rattle.wire_datagram.specs.declared.reading.Verdict.the-variants.{Bare, Short, Pad, Unsummed, BadSum, Malformed, FragData, Crowded, Tail, Padded, Read}
+use Rattle.wire_reading.specs.declared.Apc.the-variants.{Absent}
+use Rattle.wire_reading.specs.declared.Verdict.{Verdict}
+use Rattle.wire_reading.specs.declared.Verdict.the-variants.{Bare, Short, Pad, Unsummed, BadSum, Malformed, FragData, Crowded, Tail, Padded, Read}
 use Rattle.wire_original.specs.declared.Rereading.{Rereading}
 
 -- nothing is reported of the area

@@ -16,8 +16,8 @@ use Rattle.wire_options.proofs.Stricts.{padded-or-plain}
 use Rattle.wire_surplus.specs.Surplus.{startOf}
 use Rattle.wire_surplus.specs.declared.Start.{Start}
 use Rattle.wire_surplus.specs.declared.Start.the-variants.{Empty, Short, Pad, Unsummed, BadSum, List as ListAt}
-use Rattle.wire_datagram.specs.Reading.{isOdd}
-use Rattle.wire_datagram.specs.declared.reading.Verdict.the-variants.{Padded}
+use Rattle.wire_reading.specs.Reading.{isOdd}
+use Rattle.wire_reading.specs.declared.Verdict.the-variants.{Padded}
 use Rattle.wire_original.specs.Rereading.{ReAnswer, originalOptionless, rewalked, restarted, reTests, reAnswered, rereading}
 
 module _ (how : Strictness) (original : List ℕ) (r : ℕ) where

@@ -5,8 +5,8 @@ use lib.ListN.{length, take}
 use Rattle.wire_options.specs.declared.walk.Walk.{Walk}
 use Rattle.wire_options.specs.declared.walk.Walk.the-variants.{Listed as WalkListed, Faulty as WalkFaulty}
 use Rattle.wire_original.specs.Rereading.{places, originalFaulty, rereads, ReAnswer}
-use Rattle.wire_datagram.specs.declared.reading.Verdict.the-variants.{Read}
-use Rattle.wire_datagram.specs.ByWalk.{apcBy}
+use Rattle.wire_reading.specs.declared.Verdict.the-variants.{Read}
+use Rattle.wire_reading.specs.ByWalk.{apcBy}
 
 abbrev pub rewalkedBy : List ℕ → ℕ → ℕ → Walk → ReAnswer
 rewalkedBy original r from (WalkListed count fill apcs) = rereads (record {

@@ -13,7 +13,7 @@ use Rattle.wire_options.specs.Strict.{walkBy}
 use Rattle.wire_options.specs.declared.walk.Fault.{Fault}
 use Rattle.wire_options.specs.declared.walk.Fault.the-variants.{Malformed as malformedList, Unsafe as unsafeList, FragData as fragData, Crowded as crowdedList, Tail as tailed, Padded as paddedList}
 use Rattle.wire_surplus.specs.Surplus.{startOf}
-use Rattle.wire_datagram.specs.Reading.{apcValues, apcOf, isOdd}
+use Rattle.wire_reading.specs.Reading.{apcValues, apcOf, isOdd}
 use Rattle.wire_surplus.specs.declared.Start.{Start}
 use Rattle.wire_surplus.specs.declared.Start.the-variants.{
   Empty,
@@ -23,9 +23,9 @@ use Rattle.wire_surplus.specs.declared.Start.the-variants.{
   BadSum as badSum,
   List as ListAt,
 }
-use Rattle.wire_datagram.specs.declared.reading.Apc.the-variants.{Absent}
-use Rattle.wire_datagram.specs.declared.reading.Verdict.{Verdict}
-use Rattle.wire_datagram.specs.declared.reading.Verdict.the-variants.{Bare, Short, Pad, Unsummed, BadSum, Malformed, FragData, Crowded, Tail, Padded, Read}
+use Rattle.wire_reading.specs.declared.Apc.the-variants.{Absent}
+use Rattle.wire_reading.specs.declared.Verdict.{Verdict}
+use Rattle.wire_reading.specs.declared.Verdict.the-variants.{Bare, Short, Pad, Unsummed, BadSum, Malformed, FragData, Crowded, Tail, Padded, Read}
 use Rattle.wire_original.specs.declared.OriginalExtent.{OriginalExtent}
 use Rattle.wire_original.specs.declared.Rereading.{Rereading}
 use Rattle.wire_original.specs.declared.RereadRefusal.{RereadRefusal}

@@ -1,12 +1,11 @@
 // Rereading an original that was reassembled from fragments.
 use number_offsets::OriginalOffset;
-use wire_datagram::reading;
-use wire_datagram::reading::Apc;
-use wire_datagram::reading::Verdict;
 use wire_nops::Strictness;
 use wire_options::walk;
 use wire_options::walk::Fault;
 use wire_options::walk::Walk;
+use wire_reading::Apc;
+use wire_reading::Verdict;
 use wire_surplus::Start;
 ghost use mathlib.Core.Path.{_≡_};
 ghost use Prim.Native.Nat.{_≤_};
@@ -102,7 +101,7 @@ fn relisted(
             },
             count,
             fill,
-            apc: reading::apc_of(original, 0, user_end, apcs),
+            apc: wire_reading::apc_of(original, 0, user_end, apcs),
         }),
         Walk::Faulty(fault) => faulty(r, fault),
     }

@@ -10,7 +10,7 @@ use Rattle.number_octets.specs.Octets.{octets}
 use Rattle.number_octets.proofs.Laws.{length-octets}
 use Rattle.number_offsets.specs.Offsets.{udpHeader}
 use Rattle.number_crc32c.specs.Crc.{crcOf}
-use Rattle.wire_datagram.specs.Reading.{isOdd}
+use Rattle.wire_reading.specs.Reading.{isOdd}
 use Rattle.list_payload.specs.Payload.{Datagram, sizeOf, areaOf, udpChecksumOf}
 use Rattle.list_wire.specs.Parts.{plainly, summed, wiresListed, listedBytes, payloadFrom}
 use Rattle.list_wire.proofs.Laying.{laid-as, laid-length}

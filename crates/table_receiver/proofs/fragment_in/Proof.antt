@@ -2,7 +2,7 @@
 -- Assumes nothing.
 use mathlib.Core.Path.{sym, ap}
 use borrow.Author.Needs.{needs}
-use Rattle.wire_datagram.specs.declared.reading.Verdict.{Verdict}
+use Rattle.wire_reading.specs.declared.Verdict.{Verdict}
 use Rattle.table_receiver.specs.Receive.{pieceOf, foundBy}
 use Rattle.table_receiver.proofs.fragment_in.Statement.{statement}
 use Rattle.table_receiver.proofs.fragment_in.Tie as tie

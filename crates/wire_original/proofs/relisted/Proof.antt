@@ -12,8 +12,8 @@ use Rattle.wire_options.specs.Strict.{walkBy}
 use Rattle.wire_options.specs.declared.walk.Walk.the-variants.{Listed as WalkListed}
 use Rattle.wire_original.specs.Rereading.{places, rereads}
 use Rattle.wire_original.specs.ByWalk.{rewalkedBy}
-use Rattle.wire_datagram.specs.ByWalk.{apcBy}
-use Rattle.wire_datagram.specs.declared.reading.Verdict.the-variants.{Read}
+use Rattle.wire_reading.specs.ByWalk.{apcBy}
+use Rattle.wire_reading.specs.declared.Verdict.the-variants.{Read}
 use Rattle.wire_original.proofs.Rereadings.{rereading-by-answer}
 use borrow.Author.Needs.{needs}
 use Rattle.wire_original.proofs.relisted.Statement.{statement}

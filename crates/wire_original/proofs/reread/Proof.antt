@@ -9,7 +9,7 @@ use lib.ListN.{length, drop, length-take, length-drop}
 use Rattle.number_octets.proofs.Laws.{part-rest}
 use Rattle.number_offsets.specs.Offsets.{udpHeader}
 use Rattle.wire_surplus.specs.Surplus.{startOf}
-use Rattle.wire_datagram.specs.Reading.{isOdd}
+use Rattle.wire_reading.specs.Reading.{isOdd}
 use Rattle.wire_original.specs.Rereading.{originalLimit, restarted, rereading}
 use Rattle.wire_original.proofs.Refusals.{re-long, re-past, re-accepted}
 use Rattle.wire_surplus.proofs.Starts.{start-empty, start-list}

@@ -1,7 +1,7 @@
 -- `wire_datagram::parts::parts_of` meets its contract: the one field that is not handed on is where user data starts.
 -- Assumes nothing.
 use mathlib.Core.Path.{sym}
-use Rattle.wire_datagram.specs.declared.reading.Reading.{Reading}
+use Rattle.wire_reading.specs.declared.Reading.{Reading}
 use Rattle.wire_datagram.proofs.parts.parts_of.Statement.{statement}
 use Rattle.wire_datagram.proofs.parts.parts_of.Tie as tie
 

@@ -8,14 +8,15 @@ use lib.ListN.{drop, length, take, length-take}
 use lib.Seq.{length-take-le}
 use Rattle.number_checksum.specs.Checksum.{wordSum, folded}
 use Rattle.wire_surplus.specs.Surplus.{startOf}
-use Rattle.wire_datagram.specs.Reading.{pseudoHeader, isOdd, started, payloadLimit, udpLength, accepted, reads}
+use Rattle.wire_reading.specs.Reading.{isOdd, started, payloadLimit}
+use Rattle.wire_datagram.specs.Reading.{pseudoHeader, udpLength, accepted, reads}
 use mathlib.Core.Logic.{inl, inr, ⊎-elim}
 use Prim.Native.Nat.{ℕ, _≤_}
 use native.Mathlib.Omega.{arith}
 use Rattle.number_offsets.specs.Offsets.{udpHeader}
-use Rattle.wire_datagram.specs.declared.reading.Extent.{Extent}
-use Rattle.wire_datagram.specs.declared.reading.Reading.{Reading}
-use Rattle.wire_datagram.proofs.Claims.{started-user}
+use Rattle.wire_reading.specs.declared.Extent.{Extent}
+use Rattle.wire_reading.specs.declared.Reading.{Reading}
+use Rattle.wire_reading.proofs.Claims.{started-user}
 use Rattle.wire_datagram.proofs.Refusals.{Sized, sumOf, refused-short, refused-long, refused-small, refused-large, refused-sum, reading-accepted}
 use borrow.Author.Needs.{needs}
 use Rattle.wire_datagram.proofs.reading.examine.Statement.{statement}

@@ -1,0 +1,4 @@
+pub mod Verdict
+pub mod Extents
+pub mod Reading
+pub mod ByWalk
