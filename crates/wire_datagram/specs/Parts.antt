@@ -1,5 +1,4 @@
 -- The reading and the outcome that parts stand for.
-use Rattle.number_offsets.specs.Offsets.{udpHeader}
 use Rattle.wire_datagram.specs.declared.parts.Examined.{Examined}
 use Rattle.wire_datagram.specs.declared.parts.Examined.the-variants.{Refused as refusedParts, Accepted as acceptedParts}
 use Rattle.wire_datagram.specs.declared.parts.Parts.{Parts}
@@ -9,7 +8,7 @@ use Rattle.wire_reading.specs.declared.Reading.{Reading}
 
 abbrev pub gathered : Parts → Reading
 gathered p = record {
-  user = record { from = record { 0 = udpHeader }; to = p .«user_to» };
+  user = record { from = p .«user_from»; to = p .«user_to» };
   verdict = p .verdict;
   options = record { from = p .«options_from»; to = p .«options_to» };
   count = p .count;

@@ -1,19 +1,17 @@
 // The parts of a reading, for the way from one call to another: two words that stand side by side in a reading stand apart here. A processor hands
-// a word that was just stored on to a load of that word, but not two words to a load of both. User data starts behind the UDP header: that is not
-// handed on.
+// a word that was just stored on to a load of that word, but not two words to a load of both.
 use crate::reading::Outcome;
 use crate::reading::Refusal;
 use number_offsets::PacketOffset;
-use number_offsets::UDP_HEADER;
 use wire_reading::Apc;
 use wire_reading::Extent;
 use wire_reading::Reading;
 use wire_reading::Verdict;
 ghost use mathlib.Core.Path.{_≡_};
-ghost use Rattle.number_offsets.specs.Offsets.{udpHeader};
 ghost use Rattle.wire_datagram.specs.Parts.{gathered, outcomeOf};
 
 pub struct Parts {
+    pub user_from: PacketOffset,
     pub options_from: PacketOffset,
     pub count: usize,
     pub user_to: PacketOffset,
@@ -29,17 +27,18 @@ pub enum Examined {
 }
 
 pub fn parts_of(reading: Reading) -> Parts
-    requires { ⌜ reading .user .from .0 ≡ udpHeader ⌝ }
     ensures { λ r. ⌜ gathered r ≡ reading ⌝ }
 {
     let user = reading.user;
     let options = reading.options;
+    let user_from = user.from;
     let user_to = user.to;
     let options_from = options.from;
     let options_to = options.to;
     let apc = reading.apc;
     let verdict = reading.verdict;
     Parts {
+        user_from,
         options_from,
         count: reading.count,
         user_to,
@@ -62,6 +61,7 @@ pub fn outcome_of(examined: Examined) -> Outcome
 fn gathered(parts: Parts) -> Reading
     ensures { λ r. ⌜ r ≡ gathered parts ⌝ }
 {
+    let user_from = parts.user_from;
     let user_to = parts.user_to;
     let options_from = parts.options_from;
     let options_to = parts.options_to;
@@ -69,7 +69,7 @@ fn gathered(parts: Parts) -> Reading
     let verdict = parts.verdict;
     Reading {
         user: Extent {
-            from: PacketOffset(UDP_HEADER),
+            from: user_from,
             to: user_to,
         },
         verdict,

@@ -14,9 +14,6 @@ use mathlib.Core.Logic.{inl, inr, ⊎-elim}
 use Prim.Native.Nat.{ℕ, _≤_}
 use native.Mathlib.Omega.{arith}
 use Rattle.number_offsets.specs.Offsets.{udpHeader}
-use Rattle.wire_reading.specs.declared.Extent.{Extent}
-use Rattle.wire_reading.specs.declared.Reading.{Reading}
-use Rattle.wire_reading.proofs.Claims.{started-user}
 use Rattle.wire_datagram.proofs.Refusals.{Sized, sumOf, refused-short, refused-long, refused-small, refused-large, refused-sum, reading-accepted}
 use borrow.Author.Needs.{needs}
 use Rattle.wire_datagram.proofs.reading.examine.Statement.{statement}
@@ -98,12 +95,7 @@ accept-requires c κs =
     (omega (arith, z .header), omega (arith, z .within), z .most)
 
 parts-of-requires : tie.Need-parts-of-requires
-parts-of-requires c κs =
-    let a = c .before .before .before .before .before .before .before .before .before .args in
-    let n : ℕ = c .before .before .before .before .before .get-u16 .result in
-    let start = startOf (isOdd n) (eqb (c .before .before .get-u162 .result) 0) (drop n (a .payload .now)) in
-    ap (λ (r : Reading). r .user .from .0) (c .accept .ensures)
-    ∙ ap (λ (x : Extent). x .from .0) (started-user (a .strictness) (a .payload .now) n start)
+parts-of-requires c κs = search needs
 
 returns-6 : tie.Need-returns-6
 unfolding udpHeader payloadLimit accepted
