@@ -1,4 +1,4 @@
--- What the functions of `entry` answer, by the definitions of `Encoding`.
+-- What the functions answer, by the definitions of `Option`.
 use Prim.Native.Nat.{ℕ, _-_}
 use mathlib.Core.List.{List, [], _∷_}
 use lib.ListN.{length, take, drop, getD}
