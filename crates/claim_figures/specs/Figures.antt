@@ -198,8 +198,8 @@ stated =
     ∷ verdict Short
     -- 6: "pad"
     ∷ verdict Pad
-    -- 7: "malformed"
-    ∷ verdict Malformed
+    -- 7: "malformed", met at the option (document 02, R-7)
+    ∷ verdict (Malformed (record { 0 = 10 }))
     -- 8: "refusal 7"
     ∷ refusal 7
     -- 9: "12 bytes"

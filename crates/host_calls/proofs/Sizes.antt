@@ -13,6 +13,8 @@ use Rattle.host_values.proofs.Address.Laws as Address
 use Rattle.host_readings.proofs.Reading.Laws as Reading
 use Rattle.host_rereadings.proofs.Rereading.Laws as Rereading
 use Rattle.host_values.proofs.Listing.Laws as Listing
+use Rattle.host_options.proofs.PacketOption.Laws as PacketOption
+use Rattle.host_options.proofs.OriginalOption.Laws as OriginalOption
 use Rattle.host_values.proofs.Written.Laws as Written
 use Rattle.host_values.proofs.Figures.Laws as Figures
 use Rattle.host_values.proofs.Answer.Laws as Answer
@@ -24,16 +26,18 @@ pub record-size-is : recordSize ≡ 704
 unfolding recordSize
 record-size-is = refl
 
--- an address, bytes of a payload, bytes of an original; a reading, a rereading, a listing, what was written
+-- an address, bytes of a payload, bytes of an original; a reading, a rereading, a listing, an option of either, what was written
 pub read-and-written : size Address.mir
     ∷ size Extent.mir
     ∷ size OriginalExtent.mir
     ∷ size Reading.mir
     ∷ size Rereading.mir
     ∷ size Listing.mir
+    ∷ size PacketOption.mir
+    ∷ size OriginalOption.mir
     ∷ size Written.mir
     ∷ []
-    ≡ 4 ∷ 16 ∷ 16 ∷ 104 ∷ 64 ∷ 24 ∷ 16 ∷ []
+    ≡ 4 ∷ 16 ∷ 16 ∷ 112 ∷ 72 ∷ 24 ∷ 32 ∷ 32 ∷ 16 ∷ []
 read-and-written = refl
 
 -- a flow, a held fragment, an assembly; an account, an answer, a fragment that is offered, what was received
@@ -45,7 +49,7 @@ pub of-the-table : size Flow.mir
     ∷ size Fragment.mir
     ∷ size Received.mir
     ∷ []
-    ≡ 12 ∷ 8 ∷ 160 ∷ 56 ∷ 80 ∷ 48 ∷ 192 ∷ []
+    ≡ 12 ∷ 8 ∷ 160 ∷ 56 ∷ 80 ∷ 48 ∷ 200 ∷ []
 of-the-table = refl
 
 -- ---- no gap

@@ -1,6 +1,8 @@
 // The library for C and Rust: the calls of include/wuraketozo.h under their names there. A slice is a pointer and a length in C. No
-// call asks anything of the values of its arguments. `host_wire` does the work of those that have no table.
+// call asks anything of the values of its arguments. `host_wire` and `host_options` do the work of those that have no table.
 use client_record::Client;
+use host_options::OriginalOption;
+use host_options::PacketOption;
 use host_readings::Reading;
 use host_rereadings::Rereading;
 use host_values::Address;
@@ -26,6 +28,7 @@ ghost use Rattle.host_readings.specs.Reading.{hostReading};
 ghost use Rattle.host_readings.specs.Listable.{verdictFor};
 ghost use Rattle.host_readings.specs.Setting.{strictnessFor};
 ghost use Rattle.host_rereadings.specs.Rereading.{hostRereading};
+ghost use Rattle.host_options.specs.Options.{nextIn, renextIn};
 ghost use Rattle.host_values.specs.Answer.{arrivalFrom};
 ghost use Rattle.host_wire.specs.Left.{Lists, Writes};
 ghost use Rattle.host_calls.specs.Left.{recordSize, Leaves, Receives};
@@ -85,6 +88,26 @@ pub extern "C" fn wuraketozo_relist(
     host_wire::relist(original, verdict, options, buffer)
 }
 
+// The first option in `rest`, which is the option list of a reading of `payload`, or what remains of it behind an option.
+#[no_mangle]
+pub extern "C" fn wuraketozo_next(payload: &[u8], verdict: u32, rest: Extent) -> PacketOption
+    ensures { λ r. ⌜ r ≡ nextIn (now (payload .entry)) (verdictFor verdict) rest ⌝ }
+{
+    host_options::next(payload, verdict, rest)
+}
+
+// The same of a rereading of `original`.
+#[no_mangle]
+pub extern "C" fn wuraketozo_renext(
+    original: &[u8],
+    verdict: u32,
+    rest: OriginalExtent,
+) -> OriginalOption
+    ensures { λ r. ⌜ r ≡ renextIn (now (original .entry)) (verdictFor verdict) rest ⌝ }
+{
+    host_options::renext(original, verdict, rest)
+}
+
 // Writes a whole payload.
 #[no_mangle]
 pub extern "C" fn wuraketozo_write(
@@ -127,7 +150,7 @@ pub extern "C" fn wuraketozo_record_size() -> usize
 // The same under a name that has the number of the header's layout. The header and the wrapper for Rust refer to it, so that a host that was
 // compiled for another layout does not link. The number goes up with every change of a struct or of a call's arguments.
 #[no_mangle]
-pub extern "C" fn wuraketozo_layout_3() -> usize
+pub extern "C" fn wuraketozo_layout_4() -> usize
     ensures { λ r. ⌜ r ≡ recordSize ⌝ }
 {
     wuraketozo_record_size()

@@ -4,10 +4,11 @@ use Prim.Native.Nat.{ℕ}
 use mathlib.Core.Path.{_≡_, refl, ap, _∙_}
 use mathlib.Core.Bool.{Bool, true, false, cond}
 use lib.Dec.{eqb}
+use Rattle.number_offsets.specs.declared.PacketOffset.{PacketOffset}
 use Rattle.wire_area.specs.declared.Fragment.{Fragment}
 use Rattle.wire_datagram.specs.Reading as Read
 use Rattle.wire_datagram.specs.Reading.{answerOf}
-use Rattle.wire_reading.specs.Verdict.{verdictSays, apcSays}
+use Rattle.wire_reading.specs.Verdict.{verdictSays, faultAt, apcSays}
 use Rattle.wire_reading.specs.declared.Apc.{Apc}
 use Rattle.wire_reading.specs.declared.Apc.the-variants.{Absent, Right, Wrong}
 use Rattle.wire_reading.specs.declared.Verdict.{Verdict}
@@ -31,25 +32,25 @@ use Rattle.wire_reading.specs.declared.Reading.{Reading as Whole}
 use Rattle.wire_datagram.specs.declared.reading.Outcome.{Outcome}
 use Rattle.wire_datagram.specs.declared.reading.Outcome.the-variants.{Refused as Unread, Accepted}
 use Rattle.host_readings.specs.declared.Reading.{Reading}
-use Rattle.host_readings.specs.Reading.{flagOf, fragmentIn, hostReading}
+use Rattle.host_readings.specs.Reading.{flagOf, offsetOr, fragmentIn, hostReading}
 
 abbrev pub apcFrom : ℕ → Apc
 apcFrom n = cond (eqb n 0) Absent (cond (eqb n 1) Right Wrong)
 
-abbrev pub verdictFrom : ℕ → Fragment → Verdict
-verdictFrom n f =
+abbrev pub verdictFrom : ℕ → PacketOffset → Fragment → Verdict
+verdictFrom n at f =
     cond (eqb n 0) Bare
     (cond (eqb n 1) Short
     (cond (eqb n 2) Pad
     (cond (eqb n 3) Unsummed
     (cond (eqb n 4) BadSum
-    (cond (eqb n 5) Malformed
-    (cond (eqb n 6) Unsafe
-    (cond (eqb n 7) FragData
-    (cond (eqb n 8) Crowded
+    (cond (eqb n 5) (Malformed at)
+    (cond (eqb n 6) (Unsafe at)
+    (cond (eqb n 7) (FragData at)
+    (cond (eqb n 8) (Crowded at)
     (cond (eqb n 9) Listed
-    (cond (eqb n 11) Tail
-    (cond (eqb n 12) Padded (Piece f))))))))))))
+    (cond (eqb n 11) (Tail at)
+    (cond (eqb n 12) (Padded at) (Piece f))))))))))))
 
 abbrev pub fragmentFrom : Reading → Fragment
 fragmentFrom v = record {
@@ -66,7 +67,7 @@ answerFrom v =
     cond (eqb (v .refusal) 0)
     (Read.reads (record {
       user = v .user;
-      verdict = verdictFrom (v .verdict) (fragmentFrom v);
+      verdict = verdictFrom (v .verdict) (v .«fault_at») (fragmentFrom v);
       options = v .options;
       count = v .count;
       fill = v .fill;
@@ -83,18 +84,18 @@ apc-recovered Absent = refl
 apc-recovered Right = refl
 apc-recovered Wrong = refl
 
-verdict-recovered : (v : Verdict) → verdictFrom (verdictSays v .number) (fragmentIn v) ≡ v
+verdict-recovered : (v : Verdict) → verdictFrom (verdictSays v .number) (offsetOr (faultAt v)) (fragmentIn v) ≡ v
 verdict-recovered Bare = refl
 verdict-recovered Short = refl
 verdict-recovered Pad = refl
 verdict-recovered Unsummed = refl
 verdict-recovered BadSum = refl
-verdict-recovered Malformed = refl
-verdict-recovered Unsafe = refl
-verdict-recovered FragData = refl
-verdict-recovered Crowded = refl
-verdict-recovered Tail = refl
-verdict-recovered Padded = refl
+verdict-recovered (Malformed at) = refl
+verdict-recovered (Unsafe at) = refl
+verdict-recovered (FragData at) = refl
+verdict-recovered (Crowded at) = refl
+verdict-recovered (Tail at) = refl
+verdict-recovered (Padded at) = refl
 verdict-recovered Listed = refl
 verdict-recovered (Piece f) = refl
 
@@ -109,8 +110,10 @@ again f last = record {
   «option_start» = f .«option_start»;
 }
 
-piece-recovered : (v : Verdict) → verdictFrom (verdictSays v .number) (again (fragmentIn v) (eqb (flagOf (fragmentIn v .last)) 1)) ≡ v
-piece-recovered v = ap (λ (b : Bool). verdictFrom (verdictSays v .number) (again (fragmentIn v) b)) (flag-recovered (fragmentIn v .last)) ∙ verdict-recovered v
+piece-recovered : (v : Verdict) → verdictFrom (verdictSays v .number) (offsetOr (faultAt v)) (again (fragmentIn v) (eqb (flagOf (fragmentIn v .last)) 1)) ≡ v
+piece-recovered v =
+    ap (λ (b : Bool). verdictFrom (verdictSays v .number) (offsetOr (faultAt v)) (again (fragmentIn v) b)) (flag-recovered (fragmentIn v .last))
+    ∙ verdict-recovered v
 
 abbrev readWith : Whole → Verdict → Apc → Read.Answer
 readWith r verdict apc =

@@ -2,8 +2,9 @@
 use Prim.Native.Nat.{ℕ}
 use mathlib.Core.Bool.{Bool, true, false}
 use mathlib.Core.Option.{Option, none, some}
+use Rattle.number_offsets.specs.declared.PacketOffset.{PacketOffset}
 use Rattle.wire_area.specs.declared.Fragment.{Fragment}
-use Rattle.wire_reading.specs.Verdict.{verdictSays, apcSays}
+use Rattle.wire_reading.specs.Verdict.{verdictSays, faultAt, apcSays}
 use Rattle.wire_datagram.specs.Reading as Read
 use Rattle.wire_reading.specs.Reading.{extent}
 use Rattle.wire_reading.specs.declared.Verdict.{Verdict}
@@ -28,6 +29,11 @@ abbrev pub fragmentOr : Option Fragment → Fragment
 fragmentOr none = noFragment
 fragmentOr (some fragment) = fragment
 
+-- where a fault was met
+abbrev pub offsetOr : Option PacketOffset → PacketOffset
+offsetOr none = record { 0 = 0 }
+offsetOr (some at) = at
+
 -- the fragment of a verdict "piece"
 abbrev pub fragmentIn : Verdict → Fragment
 fragmentIn verdict = fragmentOr (verdictSays verdict .values)
@@ -37,6 +43,7 @@ abbrev pub unread : ℕ → Reading
 unread refusal = record {
   refusal = refusal;
   verdict = 0;
+  «fault_at» = record { 0 = 0 };
   user = extent 0 0;
   options = extent 0 0;
   count = 0;
@@ -53,6 +60,7 @@ abbrev pub withFragment : Fragment → Accepted → Reading
 withFragment f r = record {
   refusal = 0;
   verdict = verdictSays (r .verdict) .number;
+  «fault_at» = offsetOr (faultAt (r .verdict));
   user = r .user;
   options = r .options;
   count = r .count;
@@ -65,7 +73,7 @@ withFragment f r = record {
   last = flagOf (f .last);
 }
 
--- a verdict, the user data, the option list, how many options, the fill, what the APCs say, and the fragment of "piece"
+-- a verdict, the offset of a fault, the user data, the option list, how many options, the fill, what the APCs say, and the fragment of "piece"
 abbrev pub readingFrom : Accepted → Reading
 readingFrom r = withFragment (fragmentIn (r .verdict)) r
 

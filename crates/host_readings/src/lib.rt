@@ -1,5 +1,6 @@
 // Readings as values of include/wuraketozo.h, and as much of one as its listing looks at. A refusal is 0, or document 01's number. What a value
-// does not say is 0. Positions keep their types: an `Extent` is bytes of a payload, an `OriginalOffset` a place in an original.
+// does not say is 0. Positions keep their types: an `Extent` is bytes of a payload, a `PacketOffset` counts from a UDP header, an `OriginalOffset` is
+// a place in an original.
 use number_offsets::OriginalOffset;
 use number_offsets::PacketOffset;
 use wire_datagram::reading::Outcome;
@@ -7,12 +8,13 @@ use wire_datagram::reading::Refusal;
 use wire_nops::Strictness;
 use wire_reading::Apc;
 use wire_reading::Extent;
+use wire_reading::FaultOffset;
 use wire_reading::Verdict;
 ghost use mathlib.Core.Path.{_≡_};
-ghost use Rattle.wire_reading.specs.Verdict.{verdictSays, apcSays};
+ghost use Rattle.wire_reading.specs.Verdict.{verdictSays, faultAt, apcSays};
 ghost use Rattle.wire_datagram.specs.Reading.{answerOf, refusalNumber};
 ghost use Rattle.wire_reading.specs.Reading.{extent};
-ghost use Rattle.host_readings.specs.Reading.{flagOf, noFragment, fragmentIn, unread, readingFrom, hostReading};
+ghost use Rattle.host_readings.specs.Reading.{flagOf, offsetOr, noFragment, fragmentIn, unread, readingFrom, hostReading};
 ghost use Rattle.host_readings.specs.Listable.{verdictFor, readingFor};
 ghost use Rattle.host_readings.specs.Setting.{strictnessFor};
 
@@ -21,6 +23,7 @@ ghost use Rattle.host_readings.specs.Setting.{strictnessFor};
 pub struct Reading {
     pub refusal: u32,
     pub verdict: u32,
+    pub fault_at: PacketOffset,
     pub user: Extent,
     pub options: Extent,
     pub count: usize,
@@ -61,12 +64,12 @@ pub fn verdict_number(verdict: Verdict) -> u32
         Verdict::Pad => 2,
         Verdict::Unsummed => 3,
         Verdict::BadSum => 4,
-        Verdict::Malformed => 5,
-        Verdict::Unsafe => 6,
-        Verdict::FragData => 7,
-        Verdict::Crowded => 8,
-        Verdict::Tail => 11,
-        Verdict::Padded => 12,
+        Verdict::Malformed(_) => 5,
+        Verdict::Unsafe(_) => 6,
+        Verdict::FragData(_) => 7,
+        Verdict::Crowded(_) => 8,
+        Verdict::Tail(_) => 11,
+        Verdict::Padded(_) => 12,
         Verdict::Read => READ,
         Verdict::Piece(_) => 10,
     }
@@ -93,6 +96,17 @@ pub fn refusal_number(refusal: Refusal) -> u32
     }
 }
 
+// The offset where a fault was met, 0 where there is none.
+pub fn fault_offset(verdict: Verdict) -> PacketOffset
+    ensures { λ r. ⌜ r ≡ offsetOr (faultAt verdict) ⌝ }
+{
+    let fault = wire_reading::fault_at(verdict);
+    match fault {
+        FaultOffset::At(at) => at,
+        FaultOffset::Absent => PacketOffset(0),
+    }
+}
+
 fn no_fragment() -> wire_area::Fragment
     ensures { λ r. ⌜ r ≡ noFragment ⌝ }
 {
@@ -116,12 +130,12 @@ fn fragment_in(verdict: Verdict) -> wire_area::Fragment
         Verdict::Pad => no_fragment(),
         Verdict::Unsummed => no_fragment(),
         Verdict::BadSum => no_fragment(),
-        Verdict::Malformed => no_fragment(),
-        Verdict::Unsafe => no_fragment(),
-        Verdict::FragData => no_fragment(),
-        Verdict::Crowded => no_fragment(),
-        Verdict::Tail => no_fragment(),
-        Verdict::Padded => no_fragment(),
+        Verdict::Malformed(_) => no_fragment(),
+        Verdict::Unsafe(_) => no_fragment(),
+        Verdict::FragData(_) => no_fragment(),
+        Verdict::Crowded(_) => no_fragment(),
+        Verdict::Tail(_) => no_fragment(),
+        Verdict::Padded(_) => no_fragment(),
         Verdict::Read => no_fragment(),
         Verdict::Piece(fragment) => fragment,
     }
@@ -144,6 +158,7 @@ pub fn unread(refusal: u32) -> Reading
     Reading {
         refusal: refusal,
         verdict: 0,
+        fault_at: PacketOffset(0),
         user: none,
         options: none,
         count: 0,
@@ -172,6 +187,7 @@ pub fn reading_from(reading: wire_reading::Reading) -> Reading
     Reading {
         refusal: 0,
         verdict: verdict_number(verdict),
+        fault_at: fault_offset(verdict),
         user: user,
         options: options,
         count: reading.count,

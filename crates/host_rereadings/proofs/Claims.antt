@@ -8,9 +8,10 @@ use lib.Dec.{eqb, ltb}
 use lib.ListN.{length, take, drop}
 use Rattle.number_tests.specs.Tests.{firstOf}
 use Rattle.number_offsets.specs.Offsets.{udpHeader}
+use Rattle.number_offsets.specs.declared.PacketOffset.{PacketOffset}
 use Rattle.wire_nops.specs.declared.Strictness.{Strictness}
 use Rattle.wire_options.specs.Strict.{walkBy}
-use Rattle.wire_options.specs.Walk.{Walked, listed, faulty, optionLimit}
+use Rattle.wire_options.specs.Walk.{Walked, listed, faulty, itemsIn, optionLimit}
 use Rattle.wire_options.specs.declared.walk.Fault.{Fault}
 use Rattle.wire_options.specs.declared.walk.Fault.the-variants as Met
 use Rattle.wire_reading.specs.Reading as Says
@@ -30,7 +31,7 @@ reAnswerFrom v =
     cond (eqb (v .refusal) 0)
     (Reread.rereads (record {
       user = v .user;
-      verdict = verdictFrom (v .verdict) noFragment;
+      verdict = verdictFrom (v .verdict) (v .«fault_at») noFragment;
       options = v .options;
       count = v .count;
       fill = v .fill;
@@ -41,25 +42,25 @@ reAnswerFrom v =
 abbrev Recovered : Reread.ReAnswer → Type 0
 Recovered a = reAnswerFrom (hostRereading a) ≡ a
 
-faulty-recovered : (r : ℕ) (f : Fault) → Recovered (Reread.originalFaulty r f)
-faulty-recovered r Met.Malformed = refl
-faulty-recovered r Met.Unsafe = refl
-faulty-recovered r Met.FragData = refl
-faulty-recovered r Met.Crowded = refl
-faulty-recovered r Met.Tail = refl
-faulty-recovered r Met.Padded = refl
+faulty-recovered : (r : ℕ) (f : Fault) (at : PacketOffset) → Recovered (Reread.originalFaulty r f at)
+faulty-recovered r Met.Malformed at = refl
+faulty-recovered r Met.Unsafe at = refl
+faulty-recovered r Met.FragData at = refl
+faulty-recovered r Met.Crowded at = refl
+faulty-recovered r Met.Tail at = refl
+faulty-recovered r Met.Padded at = refl
 
 walked-recovered : (original : List ℕ) (r from : ℕ) (w : Walked) → Recovered (Reread.rewalked original r from w)
-walked-recovered original r from (listed items fill) =
+walked-recovered original r from (listed options fill) =
     ap (λ (a : Apc). Reread.rereads (record {
       user = Reread.places 0 r;
       verdict = Listed;
       options = Reread.places from (length original);
-      count = length items;
+      count = length options;
       fill = fill;
       apc = a;
-    })) (apc-recovered (Says.apcOf (take r original) (Says.apcValues items)))
-walked-recovered original r from (faulty f) = faulty-recovered r f
+    })) (apc-recovered (Says.apcOf (take r original) (Says.apcValues (itemsIn options))))
+walked-recovered original r from (faulty f remains) = faulty-recovered r f (Reread.offsetFor original remains)
 
 started-recovered : (how : Strictness) (original : List ℕ) (r : ℕ) (s : Start) → Recovered (Reread.restarted how original r s)
 started-recovered how original r Begun.Empty = refl

@@ -1,20 +1,22 @@
 -- A rereading as a value of include/wuraketozo.h. What a value does not say is 0.
 use Prim.Native.Nat.{ℕ}
-use Rattle.wire_reading.specs.Verdict.{verdictSays, apcSays}
+use Rattle.wire_reading.specs.Verdict.{verdictSays, faultAt, apcSays}
 use Rattle.wire_original.specs.Rereading as Reread
 use Rattle.wire_original.specs.Rereading.{places}
 use Rattle.wire_original.specs.declared.Rereading.{Rereading as Reaccepted}
+use Rattle.host_readings.specs.Reading.{offsetOr}
 use Rattle.host_rereadings.specs.declared.Rereading.{Rereading}
 
 -- "A refusal returns its number only"
 abbrev pub unreread : ℕ → Rereading
-unreread refusal = record { refusal = refusal; verdict = 0; user = places 0 0; options = places 0 0; count = 0; fill = 0; apc = 0 }
+unreread refusal = record { refusal = refusal; verdict = 0; «fault_at» = record { 0 = 0 }; user = places 0 0; options = places 0 0; count = 0; fill = 0; apc = 0 }
 
 -- what a reading has, but no fragment: an original is never one
 abbrev pub rereadingFrom : Reaccepted → Rereading
 rereadingFrom r = record {
   refusal = 0;
   verdict = verdictSays (r .verdict) .number;
+  «fault_at» = offsetOr (faultAt (r .verdict));
   user = r .user;
   options = r .options;
   count = r .count;

@@ -1,6 +1,7 @@
 // Rereadings as values of include/wuraketozo.h, and as much of one as its listing looks at. A refusal is 0, or document 01's number. What a value
-// does not say is 0. Positions keep their types: an `OriginalExtent` is places in an original.
+// does not say is 0. Positions keep their types: an `OriginalExtent` is places in an original, a `PacketOffset` counts from its UDP header.
 use number_offsets::OriginalOffset;
+use number_offsets::PacketOffset;
 use wire_original::OriginalExtent;
 use wire_original::RereadOutcome;
 use wire_original::RereadRefusal;
@@ -15,6 +16,7 @@ ghost use Rattle.host_rereadings.specs.Listable.{rereadingFor};
 pub struct Rereading {
     pub refusal: u32,
     pub verdict: u32,
+    pub fault_at: PacketOffset,
     pub user: OriginalExtent,
     pub options: OriginalExtent,
     pub count: usize,
@@ -48,6 +50,7 @@ fn unreread(refusal: u32) -> Rereading
     Rereading {
         refusal: refusal,
         verdict: 0,
+        fault_at: PacketOffset(0),
         user: none,
         options: none,
         count: 0,
@@ -66,6 +69,7 @@ fn rereading_from(rereading: wire_original::Rereading) -> Rereading
     Rereading {
         refusal: 0,
         verdict: host_readings::verdict_number(verdict),
+        fault_at: host_readings::fault_offset(verdict),
         user: user,
         options: options,
         count: rereading.count,

@@ -9,6 +9,7 @@ use borrow.Author.Tests.{le-leb, lt-leb}
 use lib.ListN.{length, drop}
 use Rattle.number_octets.specs.Octets.{Octets, overlay}
 use Rattle.number_varint.specs.SevenBit.{encoded}
+use Rattle.number_offsets.specs.declared.PacketOffset.{PacketOffset}
 use Rattle.wire_options.specs.Walk.{Walked, listed, faulty, walkAnswer, walkFrom, optionLimit, itemsOf}
 use Rattle.wire_options.specs.declared.walk.Apcs.{Apcs}
 use Rattle.wire_options.specs.declared.walk.Fault.{Fault}
@@ -18,7 +19,7 @@ use Rattle.list_options.specs.Listing.{unworkedAll, fillOf, Sound, listi
 use Rattle.list_options.specs.declared.Listed.{Listed as Answered}
 use Rattle.list_options.specs.declared.Listed.the-variants.{Written, Full}
 use Rattle.list_encoding.proofs.Laws.{decode-encode}
-use Rattle.list_options.proofs.Listings.{length-unworked, walk-valid}
+use Rattle.list_options.proofs.Listings.{length-unworked, length-items, walk-valid}
 
 pub listing-code : (walk : Walked) → listing walk ≡ encoded (length (itemsOf walk)) ++ encodedOptions (unworkedAll (itemsOf walk))
 unfolding listing encodedList
@@ -41,20 +42,21 @@ listed-written walk buffer size fill left h s f l =
 
 -- ---- what `walk_list` tells
 
-pub answer-sound : (walk : Walked) (count fill : ℕ) (apcs : Apcs) → walkAnswer walk ≡ Listed count fill apcs
+pub answer-sound : (end : ℕ) (walk : Walked) (count fill : ℕ) (apcs : Apcs) → walkAnswer end walk ≡ Listed count fill apcs
     → Sound walk × (count ≡ length (itemsOf walk)) × (fill ≡ fillOf walk)
-answer-sound (faulty f) count fill apcs e = absurd (let z : _≡_ {A = ℕ} 0 1 = cc in omega arith)
-answer-sound (listed items n) count fill apcs e =
-    let many : length items ≡ count = cc in
+answer-sound end (faulty f n) count fill apcs e = absurd (let z : _≡_ {A = ℕ} 0 1 = cc in omega arith)
+answer-sound end (listed options n) count fill apcs e =
+    let many : length options ≡ count = cc in
     let same : n ≡ fill = cc in
-    (tt, sym many, sym same)
+    (tt, sym many ∙ sym (length-items options), sym same)
 
 -- the listing of a faulty walk is that of no option
-pub answer-faulty : (walk : Walked) (fault : Fault) (buffer : List ℕ) (answer : Answered) (left : List ℕ) → walkAnswer walk ≡ Faulty fault
+pub answer-faulty : (end : ℕ) (walk : Walked) (fault : Fault) (at : PacketOffset) (buffer : List ℕ) (answer : Answered) (left : List ℕ)
+    → walkAnswer end walk ≡ Faulty fault at
     → ListedInto (listed [] 0) buffer answer left → ListedInto walk buffer answer left
 unfolding listing roomFor
-answer-faulty (listed items n) fault buffer answer left e r = absurd (let z : _≡_ {A = ℕ} 0 1 = cc in omega arith)
-answer-faulty (faulty f) fault buffer answer left e r = record { answered = r .answered; written = r .written }
+answer-faulty end (listed options n) fault at buffer answer left e r = absurd (let z : _≡_ {A = ℕ} 0 1 = cc in omega arith)
+answer-faulty end (faulty f n) fault at buffer answer left e r = record { answered = r .answered; written = r .written }
 
 -- ---- what was listed can be read
 

@@ -16,7 +16,7 @@ use Rattle.wire_step.specs.Kinds.{apc, frag}
 use Rattle.wire_step.specs.Step.{stepOf}
 use Rattle.wire_step.specs.declared.Step.the-variants.{Found}
 use Rattle.wire_step.proofs.Steps.{step-found}
-use Rattle.wire_options.specs.Walk.{Item, Walked, listed, faulty, itemOf, walkFrom, optionLimit, itemsOf}
+use Rattle.wire_options.specs.Walk.{Item, Located, Walked, listed, faulty, itemOf, itemsIn, walkFrom, optionLimit, itemsOf}
 use Rattle.wire_options.proofs.Rests.{walk-all}
 use Rattle.list_entry.specs.Shape.{Shape, fields, raw, barred, shapeOf}
 use Rattle.list_entry.specs.Option.{encodedFields, encodedBody, encodedOption, total, Shaped, ValidOption, itemOf as optionOf}
@@ -70,23 +70,28 @@ record Fine (room : ℕ) (items : List Item) : Type 0 where
   few : length items ≤ room
   each : Each (unworkedAll items)
 
-walk-fine : (l : List ℕ) (room skip : ℕ) (items : List Item) (fill : ℕ) → Octets l → walkFrom room skip l ≡ listed items fill → Fine room items
+walk-fine : (l : List ℕ) (room skip : ℕ) (options : List Located) (fill : ℕ) → Octets l → walkFrom room skip l ≡ listed options fill
+    → Fine room (itemsIn options)
 unfolding unworkedAll
-walk-fine l room skip items fill b q =
-    walk-all (λ room skip l items fill. Octets l → Fine room items)
+walk-fine l room skip options fill b q =
+    walk-all (λ room skip l options fill. Octets l → Fine room (itemsIn options))
     (λ room skip b. record { few = omega arith; each = tt })
     (λ room fill l f b. record { few = omega arith; each = tt })
-    (λ room skip x xs items fill ih b. ih (λ i. b (suc i)))
-    (λ room l items fill some ih b. ih b)
-    (λ room l items fill kind h s e d ih b.
+    (λ room skip x xs options fill ih b. ih (λ i. b (suc i)))
+    (λ room l options fill some ih b. ih b)
+    (λ room l options fill kind h s e d ih b.
     let m = ih b in
     record { few = omega (arith, m .few); each = (found-valid l kind h s e d b, m .each) })
-    l room skip items fill q b
+    l room skip options fill q b
 
 pub length-unworked : (items : List Item) → length (unworkedAll items) ≡ length items
 unfolding unworkedAll
 length-unworked [] = refl
 length-unworked (item ∷ items) = ap suc (length-unworked items)
+
+pub length-items : (options : List Located) → length (itemsIn options) ≡ length options
+length-items [] = refl
+length-items (option ∷ options) = ap suc (length-items options)
 
 -- What a walk lists has an encoding.
 pub walk-valid : (l : List ℕ) → Octets l → Valid (unworkedAll (itemsOf (walkFrom optionLimit 0 l)))
@@ -94,10 +99,10 @@ unfolding unworkedAll
 walk-valid l b = go (walkFrom optionLimit 0 l) refl
   where
     go : (w : Walked) → walkFrom optionLimit 0 l ≡ w → Valid (unworkedAll (itemsOf w))
-    go (faulty f) e = record { few = omega arith; each = tt }
-    go (listed items fill) e =
-        let f = walk-fine l optionLimit 0 items fill b e in
-        record { few = omega (arith, f .few, length-unworked items); each = f .each }
+    go (faulty f n) e = record { few = omega arith; each = tt }
+    go (listed options fill) e =
+        let f = walk-fine l optionLimit 0 options fill b e in
+        record { few = omega (arith, f .few, length-unworked (itemsIn options)); each = f .each }
 
 -- ---- how long an encoding can be
 

@@ -3,26 +3,26 @@
 use mathlib.Core.Path.{_≡_, sym, ap, subst}
 use mathlib.Core.List.{List, [], _∷_, _++_}
 use Prim.Native.Nat.{ℕ}
-use Rattle.wire_options.specs.Walk.{Item, walkFrom, optionLimit, itemsOf}
+use Rattle.wire_options.specs.Walk.{Located, itemsIn, walkFrom, optionLimit, optionsOf}
 use Rattle.wire_options.proofs.Rests.{Rest, rest-all}
 use Rattle.list_entry.specs.Option.{encodedOption}
 use Rattle.list_encoding.specs.Encoding.{encodedOptions}
 use Rattle.list_options.specs.Listing.{unworked, unworkedAll, Sound}
 
-abbrev pub code : List Item → List ℕ
-code items = encodedOptions (unworkedAll items)
+abbrev pub code : List Located → List ℕ
+code options = encodedOptions (unworkedAll (itemsIn options))
 
 -- all that is to be listed
 abbrev pub whole : List ℕ → List ℕ
-whole l = code (itemsOf (walkFrom optionLimit 0 l))
+whole l = code (optionsOf (walkFrom optionLimit 0 l))
 
-pub code-none : {items : List Item} → [] ≡ items → code items ≡ []
+pub code-none : {options : List Located} → [] ≡ options → code options ≡ []
 unfolding encodedOptions unworkedAll
 code-none e = ap code (sym e)
 
-pub code-first : {items later : List Item} {item : Item} → items ≡ item ∷ later → code items ≡ encodedOption (unworked item) ++ code later
+pub code-first : {options later : List Located} {option : Located} → options ≡ option ∷ later → code options ≡ encodedOption (unworked (option .item)) ++ code later
 unfolding encodedOptions unworkedAll
 code-first e = ap code e
 
-pub rest-sound : (l : List ℕ) → Sound (walkFrom optionLimit 0 l) → Rest l 0 (itemsOf (walkFrom optionLimit 0 l))
-rest-sound l s = rest-all l optionLimit (λ fault e. subst Sound e s)
+pub rest-sound : (l : List ℕ) → Sound (walkFrom optionLimit 0 l) → Rest l 0 (optionsOf (walkFrom optionLimit 0 l))
+rest-sound l s = rest-all l optionLimit (λ fault remains e. subst Sound e s)

@@ -29,13 +29,13 @@ unworkedAll (item ∷ items) = unworked item ∷ unworkedAll items
 
 -- "with no option and fill 0 unless the verdict is "read""
 abbrev pub fillOf : Walked → ℕ
-fillOf (listed items fill) = fill
-fillOf (faulty fault) = 0
+fillOf (listed options fill) = fill
+fillOf (faulty fault remains) = 0
 
 -- a walk without a fault
 abbrev pub Sound : Walked → Type 0
-Sound (listed items fill) = Unit {0}
-Sound (faulty fault) = ⊥
+Sound (listed options fill) = Unit {0}
+Sound (faulty fault remains) = ⊥
 
 -- The encoded option list of a walk.
 unfoldable pub listing : Walked → List ℕ

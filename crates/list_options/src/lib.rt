@@ -1,4 +1,5 @@
 // Listing the options of a datagram as an encoded option list.
+use number_offsets::PacketOffset;
 use number_varint::Encoded;
 use wire_nops::Strictness;
 use wire_options::walk;
@@ -36,14 +37,19 @@ enum Content {
 pub fn list_options(options: &[u8], buffer: &mut [u8]) -> Listed
     ensures { λ r. ⌜ ListedInto (walkFrom optionLimit 0 (now (options .entry))) (now (buffer .entry)) r (now (buffer .exit)) ⌝ }
 {
-    let walked = walk::walk_list(options, walk::OPTION_LIMIT, Strictness::Plain);
+    let walked = walk::walk_list(
+        options,
+        PacketOffset(0),
+        walk::OPTION_LIMIT,
+        Strictness::Plain,
+    );
     match walked {
         Walk::Listed {
             count,
             fill,
             apcs: _,
         } => list_sound(options, count, fill, buffer),
-        Walk::Faulty(_) => list_sound(&options[..0], 0, 0, buffer),
+        Walk::Faulty(_, _) => list_sound(&options[..0], 0, 0, buffer),
     }
 }
 

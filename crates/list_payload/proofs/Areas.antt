@@ -20,14 +20,14 @@ use Rattle.wire_nops.specs.declared.Strictness.{Strictness}
 use Rattle.wire_nops.specs.declared.Strictness.the-variants.{Plain, Strict}
 use Rattle.wire_step.specs.Kinds.{classOf, nop, frag}
 use Rattle.wire_step.specs.declared.Class.the-variants.{NoOperation, Fixed, Varying}
-use Rattle.wire_options.specs.Walk.{Item, listed, walkFrom, optionLimit}
+use Rattle.wire_options.specs.Walk.{Item, Located, listed, walkFrom, optionLimit}
 use Rattle.wire_options.specs.Strict.{strictFrom, walkBy}
 use Rattle.wire_area.specs.Area.{plain, plainly, areaOf as areaWalk}
 use Rattle.wire_surplus.specs.Surplus.{padOf, ocsOf, startOf}
 use Rattle.wire_surplus.specs.declared.Start.the-variants.{List as ListAt}
 use Rattle.wire_surplus.proofs.Starts.{start-odd, start-even, summed-right}
 use Rattle.list_encoding.specs.Wire.{longestShort}
-use Rattle.list_payload.specs.Payload.{wireOf, wires, padding, areaWith, areaOf}
+use Rattle.list_payload.specs.Payload.{wireOf, wires, standing, padding, areaWith, areaOf}
 use Rattle.list_payload.proofs.Wires.{Wired, Each, walk-wires}
 
 -- ---- no NOP and no FRAG leads
@@ -53,16 +53,16 @@ no-nop item w e =
 
 -- a list whose first byte is neither NOP nor FRAG is walked without FRAG
 plain-front : (how : Strictness) (empty : Bool) (base b : ℕ) (l : List ℕ) → (b ≡ nop → ⊥) → (b ≡ frag → ⊥)
-    → areaWalk how empty base (b ∷ l) ≡ plainly (walkBy how optionLimit 0 (b ∷ l))
+    → areaWalk how empty base (b ∷ l) ≡ plainly (base + suc (length l)) (walkBy how optionLimit 0 (b ∷ l))
 unfolding areaWalk nopLimit nopsOf
 plain-front Plain empty base b l p q = simp (ne-eqb b nop p, ne-eqb b frag q)
 plain-front Strict empty base b l p q = simp (ne-eqb b nop p, ne-eqb b frag q)
 
 -- a list that starts so, once the walk of it is known
-plainly-walked : (how : Strictness) (empty : Bool) (base : ℕ) (l : List ℕ) (b : ℕ) (t : List ℕ) (items : List Item) (fill : ℕ) → l ≡ b ∷ t → (b ≡ nop → ⊥) → (b ≡ frag → ⊥)
-    → walkBy how optionLimit 0 l ≡ listed items fill → areaWalk how empty base l ≡ plain items fill
-plainly-walked how empty base l b t items fill e p q w =
-    ap (areaWalk how empty base) e ∙ plain-front how empty base b t p q ∙ ap (λ (x : List ℕ). plainly (walkBy how optionLimit 0 x)) (sym e) ∙ ap plainly w
+plainly-walked : (how : Strictness) (empty : Bool) (base : ℕ) (l : List ℕ) (b : ℕ) (t : List ℕ) (options : List Located) (fill : ℕ) → l ≡ b ∷ t → (b ≡ nop → ⊥) → (b ≡ frag → ⊥)
+    → walkBy how optionLimit 0 l ≡ listed options fill → areaWalk how empty base l ≡ plain options fill
+plainly-walked how empty base l b t options fill e p q w =
+    ap (areaWalk how empty base) e ∙ plain-front how empty base b t p q ∙ ap (λ (x : List ℕ). plainly (base + length x) (walkBy how optionLimit 0 x)) (sym e) ∙ ap (plainly (base + length l)) w
 
 nothing-listed : (how : Strictness) (empty : Bool) (base : ℕ) → areaWalk how empty base [] ≡ plain [] 0
 unfolding areaWalk nopLimit nopsOf walkFrom strictFrom
@@ -78,14 +78,14 @@ unfolding wires
 wires-some item items fill = append-assoc (wireOf item) (wires items) (replicate fill 0)
 
 pub plain-area : (how : Strictness) (empty : Bool) (base : ℕ) (items : List Item) (fill : ℕ) → Each items → length items ≤ optionLimit
-    → areaWalk how empty base (wires items ++ replicate fill 0) ≡ plain items fill
+    → areaWalk how empty base (wires items ++ replicate fill 0) ≡ plain (standing items fill) fill
 plain-area how empty base [] zero each few = ap (areaWalk how empty base) (wires-none 0) ∙ nothing-listed how empty base
 plain-area how empty base [] (suc fill) each few =
     plainly-walked how empty base (wires [] ++ replicate (suc fill) 0) 0 (replicate fill 0) [] (suc fill) (wires-none (suc fill))
     (λ e. omega arith) (λ e. omega arith) (walk-wires how optionLimit [] (suc fill) each few)
 plain-area how empty base (item ∷ items) fill each few =
     let f = wire-front item (wires items ++ replicate fill 0) in
-    plainly-walked how empty base (wires (item ∷ items) ++ replicate fill 0) (item .kind) (f .0) (item ∷ items) fill (wires-some item items fill ∙ f .1)
+    plainly-walked how empty base (wires (item ∷ items) ++ replicate fill 0) (item .kind) (f .0) (standing (item ∷ items) fill) fill (wires-some item items fill ∙ f .1)
     (no-nop item (each .0)) (each .0 .no-frag) (walk-wires how optionLimit (item ∷ items) fill each few)
 
 -- ---- the option checksum

@@ -5,7 +5,7 @@ use mathlib.Core.Path.{_≡_, refl, sym, ap, ap₂, subst, _∙_}
 use mathlib.Core.Bool.{Bool, true, false, cond, _||_}
 use mathlib.Core.List.{List, [], _∷_}
 use mathlib.Core.Logic.{inl, inr}
-use Prim.Native.Nat.{ℕ, _+_, _-_, _≤_}
+use Prim.Native.Nat.{ℕ, suc, _+_, _-_, _≤_}
 use native.Mathlib.Omega.{arith}
 use borrow.Author.Tests.{eq-eqb, eqb-true, leb-true}
 use lib.Dec.{eqb, leb}
@@ -19,7 +19,7 @@ use Rattle.wire_nops.specs.declared.Strictness.{Strictness}
 use Rattle.wire_step.specs.Kinds.{classOf, apc, frag}
 use Rattle.wire_step.specs.declared.Class.the-variants.{Fixed}
 use Rattle.wire_step.proofs.Classes.{class-varying}
-use Rattle.wire_options.specs.Walk.{Item, listed, walkFrom, optionLimit}
+use Rattle.wire_options.specs.Walk.{Item, listed, itemsIn, walkFrom, optionLimit}
 use Rattle.wire_datagram.specs.Reading.{reads, reading}
 use Rattle.wire_reading.specs.Reading.{payloadLimit, extent, apcValues, allAre, apcOf}
 use Rattle.wire_reading.specs.declared.Apc.the-variants.{Absent, Right, Wrong}
@@ -32,7 +32,7 @@ use Rattle.list_encoding.specs.Wire.{longestShort}
 use Rattle.list_options.specs.Listing.{unworked, unworkedAll, listing}
 use Rattle.list_encoding.proofs.Laws.{encode-decode}
 use Rattle.list_payload.specs.Back.{hasApc, apcBack}
-use Rattle.list_payload.specs.Payload.{worked, workedAll, listOf, Datagram, sizeOf, payloadOf}
+use Rattle.list_payload.specs.Payload.{worked, workedAll, standing, listOf, Datagram, sizeOf, payloadOf}
 use Rattle.list_payload.proofs.Wires.{Wired, Each}
 use Rattle.list_payload.proofs.ReadBack.{Takes, backOf, same-count, list-there, walk-list, user-there, user-size, reading-back}
 
@@ -167,13 +167,22 @@ all-unworked user (item ∷ items) v = ap₂ _∷_ (unworked-worked user item (v
 abbrev pub listIn : List ℕ → Reading → List ℕ
 listIn payload r = drop (r .options .from .0) payload
 
+-- options where they stand are the options
+standing-items : (items : List Item) (fill : ℕ) → itemsIn (standing items fill) ≡ items
+standing-items [] fill = refl
+standing-items (item ∷ items) fill = ap (λ (x : List Item). item ∷ x) (standing-items items fill)
+
+standing-count : (items : List Item) (fill : ℕ) → length (standing items fill) ≡ length items
+standing-count [] fill = refl
+standing-count (item ∷ items) fill = ap suc (standing-count items fill)
+
 -- what was written is read and listed back, the same in plain and in strict reading
 pub record ReadBack (d : Datagram) (list : List ℕ) (r : Reading) : Type 0 where
   pub is-read : (how : Strictness) → reading how (payloadOf d) (d .source) (d .destination) ≡ reads r
   pub verdict : r .verdict ≡ Read
   pub user : r .user ≡ extent udpHeader (sizeOf d)
   pub bytes : part udpHeader (length (d .user)) (payloadOf d) ≡ d .user
-  pub options : walkFrom optionLimit 0 (listIn (payloadOf d) r) ≡ listed (workedAll (d .user) (d .items)) (d .fill)
+  pub options : walkFrom optionLimit 0 (listIn (payloadOf d) r) ≡ listed (standing (workedAll (d .user) (d .items)) (d .fill)) (d .fill)
   pub count : r .count ≡ length (d .items)
   pub fill : r .fill ≡ d .fill
   pub same-apc : r .apc ≡ apcBack (d .items)
@@ -189,7 +198,7 @@ read-back d list oct decoded s t fits =
     let wired : Each items = all-wired (d .user) (d .items) (valid .each) in
     let takes : Takes d = record { source = s; destination = t; few = valid .few; each = wired; fits = fits } in
     let there : listIn (payloadOf d) (backOf d) ≡ listOf (d .user) (d .items) (d .fill) = list-there d in
-    let walk : walkFrom optionLimit 0 (listIn (payloadOf d) (backOf d)) ≡ listed items (d .fill) =
+    let walk : walkFrom optionLimit 0 (listIn (payloadOf d) (backOf d)) ≡ listed (standing items (d .fill)) (d .fill) =
     ap (walkFrom optionLimit 0) there ∙ walk-list d wired (omega (arith, same-count (d .user) (d .items), valid .few)) in
     let users : part udpHeader (sizeOf d - udpHeader) (payloadOf d) ≡ d .user = user-there d in
     record {
@@ -198,8 +207,8 @@ read-back d list oct decoded s t fits =
       user = refl;
       bytes = ap (λ (n : ℕ). part udpHeader n (payloadOf d)) (user-size d) ∙ users;
       options = walk;
-      count = same-count (d .user) (d .items);
+      count = standing-count items (d .fill) ∙ same-count (d .user) (d .items);
       fill = refl;
-      same-apc = ap (λ (u : List ℕ). apcOf u (apcValues items)) users ∙ apc-there (d .user) (d .items);
-      same-list = ap listing walk ∙ ap encodedList (all-unworked (d .user) (d .items) (valid .each)) ∙ both .0;
+      same-apc = ap₂ (λ (u : List ℕ) (x : List Item). apcOf u (apcValues x)) users (standing-items items (d .fill)) ∙ apc-there (d .user) (d .items);
+      same-list = ap listing walk ∙ ap (λ (x : List Item). encodedList (unworkedAll x)) (standing-items items (d .fill)) ∙ ap encodedList (all-unworked (d .user) (d .items) (valid .each)) ∙ both .0;
     }

@@ -25,7 +25,7 @@ use Rattle.wire_datagram.specs.Reading.{udpLength, udpChecksum, pseudoHeader, a
 use Rattle.wire_reading.specs.Reading.{payloadLimit, isOdd, walked, started}
 use Rattle.wire_reading.specs.declared.Reading.{Reading}
 use Rattle.wire_datagram.proofs.Refusals.{Sized, sumOf, reading-accepted}
-use Rattle.list_payload.specs.Payload.{workedAll, listOf, areaOf, Datagram, sizeOf, frontOf, datagramWith, udpChecksumOf, payloadOf}
+use Rattle.list_payload.specs.Payload.{workedAll, standing, listOf, areaOf, Datagram, sizeOf, frontOf, datagramWith, udpChecksumOf, payloadOf}
 use Rattle.list_payload.proofs.Wires.{Each, walk-wires}
 use Rattle.list_payload.proofs.Areas.{plain-area, area-starts, area-list}
 
@@ -144,7 +144,7 @@ listStart d = sizeOf d + (padOf (isOdd (sizeOf d)) + 2)
 
 -- the reading of what was written
 abbrev pub backOf : Datagram → Reading
-backOf d = walked (payloadOf d) (sizeOf d) (listStart d) (plain (workedAll (d .user) (d .items)) (d .fill))
+backOf d = walked (payloadOf d) (sizeOf d) (listStart d) (plain (standing (workedAll (d .user) (d .items)) (d .fill)) (d .fill))
 
 pub same-count : (user : List ℕ) (items : List Item) → length (workedAll user items) ≡ length items
 unfolding workedAll
@@ -203,6 +203,6 @@ user-there d =
     ∙ take-at (d .user) (area d) n (omega arith)
 
 pub walk-list : (d : Datagram) → Each (workedAll (d .user) (d .items)) → length (workedAll (d .user) (d .items)) ≤ optionLimit
-    → walkFrom optionLimit 0 (listOf (d .user) (d .items) (d .fill)) ≡ listed (workedAll (d .user) (d .items)) (d .fill)
+    → walkFrom optionLimit 0 (listOf (d .user) (d .items) (d .fill)) ≡ listed (standing (workedAll (d .user) (d .items)) (d .fill)) (d .fill)
 unfolding listOf
 walk-list d wired few = walk-wires Plain optionLimit (workedAll (d .user) (d .items)) (d .fill) wired few

@@ -11,7 +11,7 @@ use lib.Dec.{leb}
 use lib.ListN.{length, take, drop, replicate, length-append, length-replicate}
 use lib.Seq.{drop-append-seam, take-at, drop-at, drop-drop}
 use Rattle.number_octets.specs.Octets.{number, octets, part}
-use Rattle.number_octets.specs.Zeros.{allZero}
+use Rattle.number_octets.specs.Zeros.{allZero, zerosOf}
 use Rattle.number_octets.proofs.ZeroBytes.{zero-alike}
 use Rattle.number_octets.proofs.Laws.{length-octets, number-octets}
 use Rattle.wire_nops.specs.declared.Strictness.{Strictness}
@@ -22,12 +22,12 @@ use Rattle.wire_step.specs.declared.Class.{Class}
 use Rattle.wire_step.specs.declared.Class.the-variants.{Fixed, Varying}
 use Rattle.wire_step.specs.declared.Header.the-variants.{Sound}
 use Rattle.wire_step.specs.declared.Step.the-variants.{Eol, Found}
-use Rattle.wire_options.specs.Walk.{Item, listed, faulty, before, itemOf, walkFrom}
+use Rattle.wire_options.specs.Walk.{Item, Located, Walked, listed, faulty, before, itemOf, walkFrom}
 use Rattle.wire_options.specs.Strict.{strictFrom, walkBy}
 use Rattle.wire_options.specs.declared.walk.Fault.the-variants.{Tail}
 use Rattle.wire_options.proofs.Stricts.{walk-other, walk-found}
 use Rattle.list_encoding.specs.Wire.{longestShort}
-use Rattle.list_payload.specs.Payload.{wireOf, wires}
+use Rattle.list_payload.specs.Payload.{wireOf, wires, standing}
 
 -- what the writer writes: an option of a fixed kind with its length, or of a kind from 9 to 191 with a body that fits; never FRAG
 pub record Wired (item : Item) : Type 0 where
@@ -169,11 +169,13 @@ Each [] = Unit {0}
 Each (item ∷ items) = Wired item × Each items
 
 one-more : (how : Strictness) (room : ℕ) (item : Item) (rest : List ℕ) → Wired item
-    → walkBy how (suc room) 0 (wireOf item ++ rest) ≡ before item (walkBy how room 0 rest)
+    → walkBy how (suc room) 0 (wireOf item ++ rest)
+    ≡ before (record { remains = length (wireOf item ++ rest); size = length (wireOf item); item = item }) (walkBy how room 0 rest)
 one-more how room item rest w =
     let m = wire-met item rest w in
+    let located : (n : ℕ) → Item → Located = λ n i. record { remains = length (wireOf item ++ rest); size = n; item = i } in
     walk-found how room (wireOf item ++ rest) (item .kind) (m .header) (m .size) (m .step) (w .no-frag)
-    ∙ ap₂ (λ (i : Item) (t : List ℕ). before i (walkBy how room 0 t)) (m .same) (m .behind)
+    ∙ ap₂ (λ (o : Located) (t : List ℕ). before o (walkBy how room 0 t)) (ap₂ located (m .more) (m .same)) (m .behind)
 
 -- the fill: nothing, or EOL and what is behind it
 walk-fill : (how : Strictness) (room fill : ℕ) → walkBy how room 0 (replicate fill 0) ≡ listed [] fill
@@ -182,16 +184,20 @@ walk-fill Plain room zero = refl
 walk-fill Strict room zero = refl
 walk-fill how room (suc fill) =
     walk-other how room eol (replicate fill 0) Eol refl tt
-    ∙ ap (λ (t : Bool). cond t (listed [] (suc (length {A = ℕ} (replicate fill 0)))) (faulty Tail)) (zero-alike fill)
+    ∙ ap (λ (t : Bool). cond t (listed [] (suc (length {A = ℕ} (replicate fill 0)))) (faulty Tail (suc (length {A = ℕ} (replicate fill 0)) - zerosOf (eol ∷ replicate fill 0)))) (zero-alike fill)
     ∙ ap (λ (n : ℕ). listed [] (suc n)) (length-replicate fill 0)
 
 -- in plain and in strict reading: no NOP was written
 pub walk-wires : (how : Strictness) (room : ℕ) (items : List Item) (fill : ℕ) → Each items → length items ≤ room
-    → walkBy how room 0 (wires items ++ replicate fill 0) ≡ listed items fill
+    → walkBy how room 0 (wires items ++ replicate fill 0) ≡ listed (standing items fill) fill
 unfolding wires
 walk-wires how room [] fill each few = walk-fill how room fill
 walk-wires how zero (item ∷ items) fill each few = absurd (omega arith)
 walk-wires how (suc room) (item ∷ items) fill each few =
     ap (walkBy how (suc room) 0) (append-assoc (wireOf item) (wires items) (replicate fill 0))
     ∙ one-more how room item (wires items ++ replicate fill 0) (each .0)
-    ∙ ap (before item) (walk-wires how room items fill (each .1) (omega arith))
+    ∙ ap₂ (λ (n : ℕ) (v : Walked). before (record { remains = n; size = length (wireOf item); item = item }) v) remains
+    (walk-wires how room items fill (each .1) (omega arith))
+  where
+    remains : length (wireOf item ++ (wires items ++ replicate fill 0)) ≡ length (wireOf item ++ wires items) + fill
+    remains = simp length-append (omega (arith, length-replicate {A = ℕ} fill 0))

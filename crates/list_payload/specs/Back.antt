@@ -16,7 +16,7 @@ use Rattle.wire_reading.specs.declared.Verdict.the-variants.{Read}
 use Rattle.wire_reading.specs.declared.Reading.{Reading}
 use Rattle.list_encoding.specs.Encoding.{given, decodedList}
 use Rattle.list_options.specs.Listing.{listing}
-use Rattle.list_payload.specs.Payload.{workedAll}
+use Rattle.list_payload.specs.Payload.{standing, workedAll}
 
 -- whether one of the options is an APC
 unfoldable pub hasApc : List Item → Bool
@@ -31,7 +31,8 @@ apcBack items = cond (hasApc items) Right Absent
 abbrev pub walkBack : List ℕ → Reading → Walked
 walkBack payload back = walkFrom optionLimit 0 (bytesIn (back .options) payload)
 
--- A payload is read, plainly and strictly, as what it was made from: the user data, the options of the encoded list in their order with their bodies, APC, and fill.
+-- A payload is read, plainly and strictly, as what it was made from: the user data, the options of the encoded list in their order with their bodies, each
+-- where it was written, APC, and fill.
 -- Listing them gives the encoded list byte for byte.
 pub record ReadsBack (source destination user list : List ℕ) (fill : ℕ) (payload : List ℕ) : Type 0 where
   pub items : List Item
@@ -40,7 +41,7 @@ pub record ReadsBack (source destination user list : List ℕ) (fill : ℕ) (pay
   pub is-read : (how : Strictness) → reading how payload source destination ≡ reads back
   pub verdict : back .verdict ≡ Read
   pub same-user : bytesIn (back .user) payload ≡ user
-  pub same-options : walkBack payload back ≡ listed (workedAll user items) fill
+  pub same-options : walkBack payload back ≡ listed (standing (workedAll user items) fill) fill
   pub same-count : back .count ≡ length items
   pub same-fill : back .fill ≡ fill
   pub same-apc : back .apc ≡ apcBack items

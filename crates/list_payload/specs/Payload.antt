@@ -9,7 +9,7 @@ use Rattle.number_offsets.specs.Offsets.{udpHeader}
 use Rattle.number_checksum.specs.Checksum.{wordSum, folded, sent}
 use Rattle.number_crc32c.specs.Crc.{crcOf}
 use Rattle.wire_step.specs.Kinds.{apc}
-use Rattle.wire_options.specs.Walk.{Item}
+use Rattle.wire_options.specs.Walk.{Item, Located}
 use Rattle.wire_datagram.specs.Reading.{pseudoHeader, udpSum}
 use Rattle.wire_reading.specs.Reading.{isOdd}
 use Rattle.list_encoding.specs.Wire.{longestShort, crcWidth}
@@ -33,6 +33,12 @@ workedAll user (item ∷ items) = worked user item ∷ workedAll user items
 unfoldable pub wires : List Item → List ℕ
 wires [] = []
 wires (item ∷ items) = wireOf item ++ wires items
+
+-- where each of them stands, with the fill behind them: what is written from it on remains there
+abbrev pub standing : List Item → ℕ → List Located
+standing [] fill = []
+standing (item ∷ items) fill =
+    record { remains = length (wires (item ∷ items)) + fill; size = length (wireOf item); item = item } ∷ standing items fill
 
 -- behind the option checksum: options, then the fill as zero bytes, the first being EOL
 unfoldable pub listOf : List ℕ → List Item → ℕ → List ℕ

@@ -30,6 +30,7 @@ use Rattle.list_payload.specs.Payload.{Datagram, payloadOf}
 use Rattle.list_payload.proofs.ReadBack.{backOf}
 use Rattle.list_payload.proofs.Claims.{ReadBack}
 use Rattle.list_writer.proofs.Claims.{WroteBack, write-reads-back}
+use Rattle.list_options.proofs.Listings.{length-items}
 use Rattle.list_readings.specs.Back.{GivesList, walkOf}
 use Rattle.list_readings.specs.Catalogue.{isListed, walkOfValue}
 use Rattle.list_readings.proofs.Values.{by-verdict, value-listed, value-none, none-listed}
@@ -61,8 +62,8 @@ lists-listed bytes verdict from to count fill v l =
     let inside : isListed verdict from to (length bytes) ≡ true = by-verdict verdict from to (length bytes) (l .ordered) (omega arith) ∙ ap isRead v in
     let same : walkOfValue bytes verdict from to ≡ walkFrom optionLimit 0 (drop from bytes) =
     value-listed bytes verdict from to inside ∙ ap (walkFrom optionLimit 0) (lists-part bytes from to count fill l) in
-    let walk : walkOfValue bytes verdict from to ≡ listed (l .items) fill = same ∙ l .walks in
-    record { walks = same; fills = ap fillOf walk; counts = ap (λ (w : Walked). length (itemsOf w)) walk ∙ l .counts }
+    let walk : walkOfValue bytes verdict from to ≡ listed (l .found) fill = same ∙ l .walks in
+    record { walks = same; fills = ap fillOf walk; counts = ap (λ (w : Walked). length (itemsOf w)) walk ∙ length-items (l .found) ∙ l .counts }
 
 value-claim : (bytes : List ℕ) (verdict : Verdict) (from to count fill : ℕ) → (verdict ≡ Read → Lists bytes from to count fill)
     → ValueListed bytes verdict from to count fill

@@ -42,7 +42,7 @@ pub fn list_rereading(original: &[u8], rereading: Rereading, buffer: &mut [u8]) 
 }
 
 // Whether the verdict is "read" and the list lies within a payload of `size` bytes: a caller may have made the value up.
-fn is_listed(verdict: Verdict, options: Extent, size: usize) -> bool
+pub fn is_listed(verdict: Verdict, options: Extent, size: usize) -> bool
     ensures { λ r. ⌜ r ≡ isListed verdict (options .from .0) (options .to .0) size ⌝ }
 {
     if options.to.0 < options.from.0 {
@@ -55,7 +55,7 @@ fn is_listed(verdict: Verdict, options: Extent, size: usize) -> bool
 }
 
 // The same of a list within an original of `size` bytes.
-fn is_relisted(verdict: Verdict, places: OriginalExtent, size: usize) -> bool
+pub fn is_relisted(verdict: Verdict, places: OriginalExtent, size: usize) -> bool
     ensures { λ r. ⌜ r ≡ isListed verdict (places .from .0) (places .to .0) size ⌝ }
 {
     if places.to.0 < places.from.0 {

@@ -1,7 +1,7 @@
--- Laws of bytes that are all zero: parts of a list are tested one by one, and bits that are set stay set.
+-- Laws of bytes that are all zero, and of the zeros in front of another byte: parts of a list are tested one by one, and bits that are set stay set.
 -- Assumes nothing.
 use mathlib.Core.Path.{_≡_, refl, sym, ap, ap₂, _∙_}
-use mathlib.Core.Bool.{Bool, true, false, _&&_}
+use mathlib.Core.Bool.{Bool, true, false, cond, _&&_}
 use mathlib.Core.List.{List, [], _∷_, _++_, reverse}
 use Prim.Native.Nat.{ℕ, zero, suc, _+_, _*_, _≤_, _<_}
 use native.Mathlib.Numerals.{add-one}
@@ -9,10 +9,10 @@ use native.Mathlib.Omega.{arith}
 use borrow.Author.Tests.{eq-eqb, ne-eqb, eqb-true, eqb-false}
 use lib.Bits.{bitOr, or-add-and, and-le-l, and-le-r}
 use lib.Dec.{eqb}
-use lib.ListN.{length, take, drop, getD, replicate, take-append-drop}
+use lib.ListN.{length, take, drop, getD, replicate, take-append-drop, drop-of-length-le}
 use lib.Seq.{take-add, drop-cons}
 use Rattle.number_octets.specs.Octets.{number, part}
-use Rattle.number_octets.specs.Zeros.{allZero}
+use Rattle.number_octets.specs.Zeros.{allZero, zerosOf}
 use Rattle.number_octets.proofs.Laws.{part-four, little-four}
 
 -- ---- lists
@@ -52,6 +52,73 @@ zero-only (b ∷ l) e = go (eqb b 0) refl e (zero-only l)
     go : (s : Bool) → eqb b 0 ≡ s → (s && allZero l) ≡ true → (allZero l ≡ true → l ≡ replicate (length l) 0) → b ∷ l ≡ 0 ∷ replicate (length l) 0
     go true p e rest = ap₂ (λ (x : ℕ) (xs : List ℕ). x ∷ xs) (eqb-true b 0 p) (rest e)
     go false p e rest = absurd (let z : _≡_ {A = ℕ} 0 1 = cc in omega arith)
+
+-- ---- the zeros in front of another byte
+
+zeros-front : (l : List ℕ) (i : ℕ) → i < length l → zerosOf (drop i l) ≡ cond (eqb (getD l i 0) 0) (1 + zerosOf (drop (i + 1) l)) 0
+unfolding zerosOf
+zeros-front l i h = ap zerosOf (drop-cons l i 0 h) ∙ ap (λ (k : ℕ). cond (eqb (getD l i 0) 0) (1 + zerosOf (drop k l)) 0) (sym (add-one i))
+
+pub zeros-one : (l : List ℕ) (i : ℕ) → i < length l → getD l i 0 ≡ 0 → zerosOf (drop i l) ≡ 1 + zerosOf (drop (i + 1) l)
+zeros-one l i h e = zeros-front l i h ∙ simp (eq-eqb (getD l i 0) 0 e)
+
+pub zeros-other : (l : List ℕ) (i : ℕ) → i < length l → (getD l i 0 ≡ 0 → ⊥) → zerosOf (drop i l) ≡ 0
+zeros-other l i h d = zeros-front l i h ∙ simp (ne-eqb (getD l i 0) 0 d)
+
+pub zeros-none : (l : List ℕ) (i : ℕ) → length l ≤ i → zerosOf (drop i l) ≡ 0
+unfolding zerosOf
+zeros-none l i h = ap zerosOf (drop-of-length-le l h)
+
+pub zeros-four : (l : List ℕ) (i : ℕ) → i + 4 ≤ length l → number (reverse (part i 4 l)) ≡ 0 → zerosOf (drop i l) ≡ 4 + zerosOf (drop (i + 4) l)
+zeros-four l i h e =
+    let word : getD l i 0 + getD l (i + 1) 0 * 256 + getD l (i + 2) 0 * 65536 + getD l (i + 3) 0 * 16777216 ≡ 0 = sym (little-four i l h) ∙ e in
+    let at1 : i + 1 + 1 ≡ i + 2 = omega arith in
+    let at2 : i + 2 + 1 ≡ i + 3 = omega arith in
+    let at3 : i + 3 + 1 ≡ i + 4 = omega arith in
+    let n0 : zerosOf (drop i l) ≡ 1 + zerosOf (drop (i + 1) l) = zeros-one l i (omega arith) (omega arith) in
+    let n1 : zerosOf (drop (i + 1) l) ≡ 1 + zerosOf (drop (i + 2) l) =
+    zeros-one l (i + 1) (omega arith) (omega arith) ∙ ap (λ (k : ℕ). 1 + zerosOf (drop k l)) at1 in
+    let n2 : zerosOf (drop (i + 2) l) ≡ 1 + zerosOf (drop (i + 3) l) =
+    zeros-one l (i + 2) (omega arith) (omega arith) ∙ ap (λ (k : ℕ). 1 + zerosOf (drop k l)) at2 in
+    let n3 : zerosOf (drop (i + 3) l) ≡ 1 + zerosOf (drop (i + 4) l) =
+    zeros-one l (i + 3) (omega arith) (omega arith) ∙ ap (λ (k : ℕ). 1 + zerosOf (drop k l)) at3 in
+    omega arith
+
+pub zeros-within : (l : List ℕ) → zerosOf l ≤ length l
+unfolding zerosOf
+zeros-within [] = omega arith
+zeros-within (b ∷ bs) = go (eqb b 0) (zeros-within bs)
+  where
+    go : (t : Bool) → zerosOf bs ≤ length bs → cond t (1 + zerosOf bs) 0 ≤ suc (length bs)
+    go true h = omega arith
+    go false h = omega arith
+
+-- where not all are zero, the zeros end before the list does, at a byte that is not zero; each of them is zero
+pub record FirstSet (l : List ℕ) : Type 0 where
+  pub within : zerosOf l < length l
+  pub set : getD l (zerosOf l) 0 ≡ 0 → ⊥
+  pub zeros : (i : ℕ) → i < zerosOf l → getD l i 0 ≡ 0
+
+pub first-set : (l : List ℕ) → allZero l ≡ false → FirstSet l
+unfolding allZero zerosOf
+first-set [] e = absurd (let z : _≡_ {A = ℕ} 0 1 = cc in omega arith)
+first-set (b ∷ bs) e = let g = go (eqb b 0) refl e (first-set bs) in record { within = g .0; set = g .1; zeros = g .2 }
+  where
+    zeros : b ≡ 0 → FirstSet bs → (i : ℕ) → i < 1 + zerosOf bs → getD (b ∷ bs) i 0 ≡ 0
+    zeros p f zero h = p
+    zeros p f (suc i) h = f .zeros i (omega arith)
+
+    go : (t : Bool) → eqb b 0 ≡ t → (t && allZero bs) ≡ false → (allZero bs ≡ false → FirstSet bs)
+        → (cond t (1 + zerosOf bs) 0 < suc (length bs)) × (getD (b ∷ bs) (cond t (1 + zerosOf bs) 0) 0 ≡ 0 → ⊥)
+        × ((i : ℕ) → i < cond t (1 + zerosOf bs) 0 → getD (b ∷ bs) i 0 ≡ 0)
+    go true p e ih =
+        let f = ih e in
+        let more : 1 + zerosOf bs ≡ suc (zerosOf bs) = omega arith in (
+          omega (arith, f .within),
+          λ q. f .set (sym (ap (λ (n : ℕ). getD (b ∷ bs) n 0) more) ∙ q),
+          zeros (eqb-true b 0 p) f,
+        )
+    go false p e ih = (omega arith, eqb-false b 0 p, λ i h. absurd (omega arith))
 
 -- ---- words
 

@@ -1,10 +1,10 @@
-// Whether bytes are all zero. Four are taken at a step, and what is set in any word is tested once, at the end: so a compiler takes as many
-// words at a time as a register has room for.
+// Whether bytes are all zero, and how many are in front of the first other one. The test takes four at a step and looks once, at the end, at what is
+// set in any word: so a compiler takes as many words at a time as a register has room for.
 ghost use mathlib.Core.Path.{_≡_};
-ghost use Prim.Native.Nat.{_*_, _≤_};
+ghost use Prim.Native.Nat.{_+_, _*_, _≤_};
 ghost use lib.Dec.{eqb};
 ghost use lib.ListN.{length, take, drop};
-ghost use Rattle.number_octets.specs.Zeros.{allZero};
+ghost use Rattle.number_octets.specs.Zeros.{allZero, zerosOf};
 
 pub fn all_zero(bytes: &[u8]) -> bool
     ensures { λ r. ⌜ r ≡ allZero (now (bytes .entry)) ⌝ }
@@ -43,4 +43,32 @@ fn rest_zero(bytes: &[u8], at: usize) -> bool
         i += 1;
     }
     true
+}
+
+// How many zero bytes stand in front of the first other one: whole fours, then the bytes that are left, one by one.
+pub fn leading_zeros(bytes: &[u8]) -> usize
+    ensures { λ r. ⌜ (r ≡ zerosOf (now (bytes .entry))) × (r ≤ length (now (bytes .entry))) ⌝ }
+{
+    let mut n = zero_words(bytes);
+    while n < bytes.len() {
+        if bytes[n] != 0 {
+            return n;
+        }
+        n += 1;
+    }
+    n
+}
+
+// So many zero bytes at least, in whole fours.
+fn zero_words(bytes: &[u8]) -> usize
+    ensures { λ r. ⌜ (r ≤ length (now (bytes .entry))) × (zerosOf (now (bytes .entry)) ≡ r + zerosOf (drop r (now (bytes .entry)))) ⌝ }
+{
+    let mut n = 0;
+    while 4 <= bytes.len() - n {
+        if crate::get_u32_little(bytes, n) != 0 {
+            return n;
+        }
+        n += 4;
+    }
+    n
 }

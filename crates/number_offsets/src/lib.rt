@@ -1,6 +1,7 @@
 // Two kinds of position that must not mix: an offset in a packet, and a place in a reassembled original.
 ghost use mathlib.Core.Path.{_≡_};
-ghost use Rattle.number_offsets.specs.Offsets.{placeOf};
+ghost use Prim.Native.Nat.{_<_};
+ghost use Rattle.number_offsets.specs.Offsets.{placeOf, offsetOf};
 
 // The length of a UDP header (RFC 768).
 pub const UDP_HEADER: usize = 8;
@@ -28,4 +29,12 @@ pub fn place_of(field: u16) -> Origin
         return Origin::BeforeData;
     }
     Origin::At(OriginalOffset(at - UDP_HEADER))
+}
+
+// The way back: where a place stands, counted from the original's UDP header.
+pub fn offset_of(place: OriginalOffset) -> PacketOffset
+    requires { ⌜ place .0 < 18446744073709551608 ⌝ }
+    ensures { λ r. ⌜ r ≡ offsetOf place ⌝ }
+{
+    PacketOffset(UDP_HEADER + place.0)
 }

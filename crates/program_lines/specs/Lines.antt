@@ -5,10 +5,11 @@ use Prim.Native.Nat.{ℕ}
 use lib.ListN.{take, drop}
 use Rattle.number_octets.specs.Octets.{number}
 use Rattle.wire_step.specs.Kinds.{widthsOf}
-use Rattle.wire_options.specs.Walk.{Item, Walked, listed, faulty}
-pub use Rattle.wire_options.specs.Walk.{itemsOf}
+use Rattle.number_offsets.specs.declared.PacketOffset.{PacketOffset}
+use Rattle.wire_options.specs.Walk.{Item, Located, Walked, listed, faulty, offsetBefore}
 use Rattle.program_text.specs.Digits.{decimalOf, hexOf}
-use Rattle.program_text.specs.Characters.{blank, newline}
+use Rattle.program_text.specs.Characters.{blank}
+use Rattle.program_text.specs.Offsets.{atOffset}
 
 -- ---- an option
 
@@ -34,17 +35,18 @@ fieldsOf kind body = fieldsBy (widthsOf kind) body
 abbrev pub kindWord : List ℕ
 kindWord = 107 ∷ 105 ∷ 110 ∷ 100 ∷ []
 
-unfoldable pub itemLine : Item → List ℕ
-itemLine item = kindWord ++ (blank ∷ []) ++ decimalOf (item .kind) ++ fieldsOf (item .kind) (item .body) ++ (newline ∷ [])
+-- an option that stands at a packet offset
+unfoldable pub optionLine : PacketOffset → Item → List ℕ
+optionLine offset item = kindWord ++ (blank ∷ []) ++ decimalOf (item .kind) ++ fieldsOf (item .kind) (item .body) ++ atOffset offset
 
 -- ---- a list
 
--- a line for each option, in order
-unfoldable pub itemLines : List Item → List ℕ
-itemLines [] = []
-itemLines (item ∷ items) = itemLine item ++ itemLines items
+-- a line for each option of a list that ends at the packet offset `end`, in order
+unfoldable pub optionLines : ℕ → List Located → List ℕ
+optionLines end [] = []
+optionLines end (option ∷ options) = optionLine (offsetBefore end (option .remains)) (option .item) ++ optionLines end options
 
 -- the walk meets no fault
 abbrev pub isListed : Walked → Bool
-isListed (listed items fill) = true
-isListed (faulty fault) = false
+isListed (listed options fill) = true
+isListed (faulty fault remains) = false

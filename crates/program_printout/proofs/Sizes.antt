@@ -1,23 +1,26 @@
--- Every report fits the program's text: a payload has at most 32 options, whose bodies together are no longer than it, each line has at most three
+-- Every report fits the program's text: a payload has at most 32 options, whose bodies together are no longer than it, each line has at most four
 -- numbers of 20 digits, and each byte of a body takes two digits.
 -- Assumes nothing.
 use mathlib.Core.Path.{_≡_, refl}
 use mathlib.Core.Bool.{Bool, true, false, cond}
 use mathlib.Core.List.{List, [], _∷_, _++_}
+use mathlib.Core.Option.{Option, none, some}
 use Prim.Native.Nat.{ℕ, zero, suc, _+_, _*_, _/_, _%_, _≤_}
 use native.Mathlib.Omega.{arith}
 use borrow.Author.Tests.{ltb-false}
 use lib.Dec.{eqb, ltb}
 use lib.ListN.{length, take, drop, length-append, length-take, length-drop}
 use Rattle.number_tests.proofs.Tests.{first-none}
+use Rattle.number_offsets.specs.declared.PacketOffset.{PacketOffset}
 use Rattle.number_octets.specs.Octets.{number, part}
 use Rattle.wire_nops.specs.declared.Strictness.the-variants.{Plain}
 use Rattle.wire_step.specs.Kinds.{widthsOf}
-use Rattle.wire_options.specs.Walk.{Item, Walked, listed, faulty, walkFrom, optionLimit}
+use Rattle.wire_options.specs.Walk.{Item, Located, Walked, listed, faulty, walkFrom, optionLimit, optionsOf, offsetBefore}
 use Rattle.wire_options.proofs.Sizes.{bodySizes, walk-bounded}
 use Rattle.wire_reading.specs.Extents.{bytesIn, sizeOf}
 use Rattle.wire_datagram.specs.Reading.{Answer, refused, reads, reading}
 use Rattle.wire_reading.specs.Reading.{payloadLimit, isRead}
+use Rattle.wire_reading.specs.Verdict.{faultAt}
 use Rattle.wire_reading.specs.declared.Extent.{Extent}
 use Rattle.wire_reading.specs.declared.Reading.{Reading}
 use Rattle.wire_reading.specs.declared.Verdict.{Verdict}
@@ -25,8 +28,9 @@ use Rattle.wire_reading.specs.declared.Verdict.the-variants.{Bare, Short, Pad, 
 use Rattle.wire_datagram.proofs.Claims.{met-none}
 use Rattle.program_text.specs.Digits.{digit, digitsIn, longest, decimalOf, hexOf}
 use Rattle.program_text.specs.Characters.{blank, newline}
-use Rattle.program_lines.specs.Lines.{numbersOf, bodyOf, fieldsBy, fieldsOf, itemLine, itemLines, itemsOf}
-use Rattle.program_verdict.specs.Words.{wordOf, verdictLine}
+use Rattle.program_text.specs.Offsets.{atOffset}
+use Rattle.program_lines.specs.Lines.{numbersOf, bodyOf, fieldsBy, fieldsOf, optionLine, optionLines}
+use Rattle.program_verdict.specs.Words.{wordOf, endBy, verdictLine}
 use Rattle.program_report.specs.Words.{userWord, fillWord, refusedWord}
 use Rattle.program_report.specs.Report.{numberLine, listingOf, readingText, answerText, reportOf}
 use Rattle.program_printout.specs.Input.{addressSize, addresses, textOf, textLimit}
@@ -89,25 +93,32 @@ fields-size kind body = go (widthsOf kind) (widths-few kind)
 
 -- how long a line is besides its body
 abbrev lineSize : ℕ
-lineSize = 68
+lineSize = 92
 
-item-size : (item : Item) → length (itemLine item) ≤ lineSize + 2 * length (item .body)
-unfolding itemLine
-item-size item =
+offset-size : (offset : PacketOffset) → length (atOffset offset) ≤ 25
+unfolding atOffset
+offset-size offset = omega (arith, length-append (decimalOf (offset .0)) (newline ∷ []), decimal-size (offset .0))
+
+option-size : (offset : PacketOffset) (item : Item) → length (optionLine offset item) ≤ lineSize + 2 * length (item .body)
+unfolding optionLine
+option-size offset item =
     let kind : List ℕ = decimalOf (item .kind) in
     let fields : List ℕ = fieldsOf (item .kind) (item .body) in
     omega (
       arith,
-      length-append (kind ++ fields) (newline ∷ []),
+      length-append (kind ++ fields) (atOffset offset),
       length-append kind fields,
       decimal-size (item .kind),
       fields-size (item .kind) (item .body),
+      offset-size offset,
     )
 
-items-size : (items : List Item) → length (itemLines items) ≤ lineSize * length items + 2 * bodySizes items
-unfolding itemLines
-items-size [] = omega arith
-items-size (item ∷ items) = omega (arith, length-append (itemLine item) (itemLines items), item-size item, items-size items)
+options-size : (end : ℕ) (options : List Located) → length (optionLines end options) ≤ lineSize * length options + 2 * bodySizes options
+unfolding optionLines
+options-size end [] = omega arith
+options-size end (option ∷ options) =
+    let offset : PacketOffset = offsetBefore end (option .remains) in
+    omega (arith, length-append (optionLine offset (option .item)) (optionLines end options), option-size offset (option .item), options-size end options)
 
 -- ---- the other lines
 
@@ -124,39 +135,43 @@ word-size Short = omega arith
 word-size Pad = omega arith
 word-size Unsummed = omega arith
 word-size BadSum = omega arith
-word-size Malformed = omega arith
-word-size Unsafe = omega arith
-word-size FragData = omega arith
-word-size Crowded = omega arith
-word-size Tail = omega arith
-word-size Padded = omega arith
+word-size (Malformed at) = omega arith
+word-size (Unsafe at) = omega arith
+word-size (FragData at) = omega arith
+word-size (Crowded at) = omega arith
+word-size (Tail at) = omega arith
+word-size (Padded at) = omega arith
 word-size Read = omega arith
 word-size (Piece f) = omega arith
 
-verdict-size : (verdict : Verdict) → length (verdictLine verdict) ≤ 18
+end-size : (fault : Option PacketOffset) → length (endBy fault) ≤ 25
+end-size none = omega arith
+end-size (some at) = offset-size at
+
+verdict-size : (verdict : Verdict) → length (verdictLine verdict) ≤ 42
 unfolding verdictLine
-verdict-size verdict = omega (arith, length-append (wordOf verdict) (newline ∷ []), word-size verdict)
+verdict-size verdict = omega (arith, length-append (wordOf verdict) (endBy (faultAt verdict)), word-size verdict, end-size (faultAt verdict))
 
 -- ---- the whole
 
-walk-size : (list : List ℕ) → length (itemLines (itemsOf (walkFrom optionLimit 0 list))) ≤ lineSize * optionLimit + 2 * length list
-unfolding itemLines optionLimit
-walk-size list = go (walkFrom optionLimit 0 list) refl
+walk-size : (end : ℕ) (list : List ℕ) → length (optionLines end (optionsOf (walkFrom optionLimit 0 list))) ≤ lineSize * optionLimit + 2 * length list
+unfolding optionLines optionLimit
+walk-size end list = go (walkFrom optionLimit 0 list) refl
   where
-    go : (w : Walked) → walkFrom optionLimit 0 list ≡ w → length (itemLines (itemsOf w)) ≤ lineSize * optionLimit + 2 * length list
-    go (faulty f) e = omega arith
-    go (listed items fill) e =
-        let b = walk-bounded optionLimit 0 list items fill (omega arith) e in omega (arith, items-size items, b .few, b .bodies)
+    go : (w : Walked) → walkFrom optionLimit 0 list ≡ w → length (optionLines end (optionsOf w)) ≤ lineSize * optionLimit + 2 * length list
+    go (faulty f remains) e = omega arith
+    go (listed options fill) e =
+        let b = walk-bounded optionLimit 0 list options fill (omega arith) e in omega (arith, options-size end options, b .few, b .bodies)
 
-listing-size : (payload : List ℕ) (options : Extent) (fill : ℕ) → length (listingOf payload options fill) ≤ 2202 + 2 * length payload
+listing-size : (payload : List ℕ) (options : Extent) (fill : ℕ) → length (listingOf payload options fill) ≤ 2970 + 2 * length payload
 unfolding listingOf optionLimit
 listing-size payload options fill =
     let list : List ℕ = bytesIn options payload in
     let part-of : length list ≤ length payload = simp (length-take, length-drop) (omega arith) in
-    let items : List ℕ = itemLines (itemsOf (walkFrom optionLimit 0 list)) in
-    omega (arith, length-append items (numberLine fillWord fill), walk-size list, number-size fillWord fill)
+    let lines : List ℕ = optionLines (options .to .0) (optionsOf (walkFrom optionLimit 0 list)) in
+    omega (arith, length-append lines (numberLine fillWord fill), walk-size (options .to .0) list, number-size fillWord fill)
 
-reading-size : (payload : List ℕ) (r : Reading) → length (readingText payload r) ≤ 2246 + 2 * length payload
+reading-size : (payload : List ℕ) (r : Reading) → length (readingText payload r) ≤ 3038 + 2 * length payload
 unfolding readingText
 reading-size payload r = go (isRead (r .verdict))
   where
@@ -172,11 +187,11 @@ reading-size payload r = go (isRead (r .verdict))
     rest : Bool → List ℕ
     rest t = cond t listing []
 
-    rest-size : (t : Bool) → length (rest t) ≤ 2202 + 2 * length payload
+    rest-size : (t : Bool) → length (rest t) ≤ 2970 + 2 * length payload
     rest-size true = listing-size payload (r .options) (r .fill)
     rest-size false = omega arith
 
-    go : (t : Bool) → length (user ++ verdict ++ rest t) ≤ 2246 + 2 * length payload
+    go : (t : Bool) → length (user ++ verdict ++ rest t) ≤ 3038 + 2 * length payload
     go t =
         omega (
           arith,

@@ -3,7 +3,7 @@ use mathlib.Core.Bool.{cond}
 use mathlib.Core.List.{List, [], _∷_, _++_}
 use Prim.Native.Nat.{ℕ}
 use Rattle.wire_nops.specs.declared.Strictness.the-variants.{Plain}
-use Rattle.wire_options.specs.Walk.{walkFrom, optionLimit}
+use Rattle.wire_options.specs.Walk.{walkFrom, optionLimit, optionsOf}
 use Rattle.wire_reading.specs.Extents.{sizeOf, bytesIn}
 use Rattle.wire_datagram.specs.Reading.{Answer, refused, reads, reading}
 use Rattle.wire_reading.specs.Reading.{isRead}
@@ -11,7 +11,7 @@ use Rattle.wire_reading.specs.declared.Extent.{Extent}
 use Rattle.wire_reading.specs.declared.Reading.{Reading}
 use Rattle.program_text.specs.Digits.{decimalOf}
 use Rattle.program_text.specs.Characters.{blank, newline}
-use Rattle.program_lines.specs.Lines.{itemLines, itemsOf}
+use Rattle.program_lines.specs.Lines.{optionLines}
 use Rattle.program_verdict.specs.Words.{verdictLine}
 use Rattle.program_report.specs.Words.{userWord, fillWord, refusedWord}
 
@@ -21,7 +21,8 @@ numberLine word n = word ++ (blank ∷ []) ++ decimalOf n ++ (newline ∷ [])
 
 -- the options that an extent of the payload lists, and the fill
 unfoldable pub listingOf : List ℕ → Extent → ℕ → List ℕ
-listingOf payload options fill = itemLines (itemsOf (walkFrom optionLimit 0 (bytesIn options payload))) ++ numberLine fillWord fill
+listingOf payload options fill =
+    optionLines (options .to .0) (optionsOf (walkFrom optionLimit 0 (bytesIn options payload))) ++ numberLine fillWord fill
 
 -- the count of user bytes, the verdict and, only with "read", the options
 unfoldable pub readingText : List ℕ → Reading → List ℕ

@@ -65,6 +65,6 @@ fn put_listing(payload: &[u8], options: Extent, fill: usize, text: &mut [u8], at
     let to = options.to;
     let start = from.0;
     let end = to.0;
-    let listed = program_lines::put_items(&payload[start..end], text, at);
+    let listed = program_lines::put_items(&payload[start..end], from, text, at);
     program_text::put_line(b"fill ", fill, text, listed)
 }

@@ -1,3 +1,4 @@
 pub mod Digits
 pub mod Characters
 pub mod Put
+pub mod Offsets

@@ -1,4 +1,5 @@
 // Text put into a buffer: as much of it as fits.
+use number_offsets::PacketOffset;
 ghost use mathlib.Core.Path.{_≡_};
 ghost use mathlib.Core.List.{_++_, _∷_, []};
 ghost use Prim.Native.Nat.{_≤_, _<_};
@@ -6,6 +7,7 @@ ghost use lib.ListN.{length};
 ghost use Rattle.program_text.specs.Digits.{decimalOf, hexOf, hexDigit};
 ghost use Rattle.program_text.specs.Put.{Put};
 ghost use Rattle.program_text.specs.Characters.{newline};
+ghost use Rattle.program_text.specs.Offsets.{atOffset};
 
 // Puts what fits of `bytes` at `at`, and answers where it ends.
 pub fn put(bytes: &[u8], text: &mut [u8], at: usize) -> usize
@@ -79,4 +81,12 @@ pub fn put_line(label: &[u8], n: usize, text: &mut [u8], at: usize) -> usize
     let named = put(label, text, at);
     let numbered = put_decimal(n, text, named);
     put(b"\n", text, numbered)
+}
+
+// The end of a line that says where something stands.
+pub fn put_offset(offset: PacketOffset, text: &mut [u8], at: usize) -> usize
+    requires { ⌜ at ≤ length (now text) ⌝ }
+    ensures { λ r. ⌜ Put (now (text .entry)) at (atOffset offset) r (now (text .exit)) ⌝ }
+{
+    put_line(b" at ", offset.0, text, at)
 }

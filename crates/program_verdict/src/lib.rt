@@ -1,9 +1,11 @@
 // The line of a verdict in a report (document 01, "The program").
+use wire_reading::FaultOffset;
 use wire_reading::Verdict;
 ghost use Prim.Native.Nat.{_≤_};
 ghost use lib.ListN.{length};
+ghost use Rattle.wire_reading.specs.Verdict.{offsetFrom};
 ghost use Rattle.program_text.specs.Put.{Put};
-ghost use Rattle.program_verdict.specs.Words.{verdictLine, wordOf};
+ghost use Rattle.program_verdict.specs.Words.{verdictLine, wordOf, endBy};
 
 pub fn put_verdict(verdict: Verdict, text: &mut [u8], at: usize) -> usize
     requires { ⌜ at ≤ length (now text) ⌝ }
@@ -11,7 +13,18 @@ pub fn put_verdict(verdict: Verdict, text: &mut [u8], at: usize) -> usize
 {
     let named = program_text::put(b"verdict ", text, at);
     let judged = put_word(verdict, text, named);
-    program_text::put(b"\n", text, judged)
+    put_end(wire_reading::fault_at(verdict), text, judged)
+}
+
+// The end of the line: where the fault was met, if the verdict is one.
+fn put_end(fault: FaultOffset, text: &mut [u8], at: usize) -> usize
+    requires { ⌜ at ≤ length (now text) ⌝ }
+    ensures { λ r. ⌜ Put (now (text .entry)) at (endBy (offsetFrom fault)) r (now (text .exit)) ⌝ }
+{
+    match fault {
+        FaultOffset::At(offset) => program_text::put_offset(offset, text, at),
+        FaultOffset::Absent => program_text::put(b"\n", text, at),
+    }
 }
 
 fn put_word(verdict: Verdict, text: &mut [u8], at: usize) -> usize
@@ -24,12 +37,12 @@ fn put_word(verdict: Verdict, text: &mut [u8], at: usize) -> usize
         Verdict::Pad => program_text::put(b"pad", text, at),
         Verdict::Unsummed => program_text::put(b"unsummed", text, at),
         Verdict::BadSum => program_text::put(b"badsum", text, at),
-        Verdict::Malformed => program_text::put(b"malformed", text, at),
-        Verdict::Unsafe => program_text::put(b"unsafe", text, at),
-        Verdict::FragData => program_text::put(b"fragdata", text, at),
-        Verdict::Crowded => program_text::put(b"crowded", text, at),
-        Verdict::Tail => program_text::put(b"tail", text, at),
-        Verdict::Padded => program_text::put(b"padded", text, at),
+        Verdict::Malformed(_) => program_text::put(b"malformed", text, at),
+        Verdict::Unsafe(_) => program_text::put(b"unsafe", text, at),
+        Verdict::FragData(_) => program_text::put(b"fragdata", text, at),
+        Verdict::Crowded(_) => program_text::put(b"crowded", text, at),
+        Verdict::Tail(_) => program_text::put(b"tail", text, at),
+        Verdict::Padded(_) => program_text::put(b"padded", text, at),
         Verdict::Read => program_text::put(b"read", text, at),
         Verdict::Piece(_) => program_text::put(b"piece", text, at),
     }

@@ -72,12 +72,12 @@ piece-verdict Short f e = absurd (let z : _≡_ {A = ℕ} 0 1 = cc in omega arit
 piece-verdict Pad f e = absurd (let z : _≡_ {A = ℕ} 0 1 = cc in omega arith)
 piece-verdict Unsummed f e = absurd (let z : _≡_ {A = ℕ} 0 1 = cc in omega arith)
 piece-verdict BadSum f e = absurd (let z : _≡_ {A = ℕ} 0 1 = cc in omega arith)
-piece-verdict Malformed f e = absurd (let z : _≡_ {A = ℕ} 0 1 = cc in omega arith)
-piece-verdict Unsafe f e = absurd (let z : _≡_ {A = ℕ} 0 1 = cc in omega arith)
-piece-verdict FragData f e = absurd (let z : _≡_ {A = ℕ} 0 1 = cc in omega arith)
-piece-verdict Crowded f e = absurd (let z : _≡_ {A = ℕ} 0 1 = cc in omega arith)
-piece-verdict Tail f e = absurd (let z : _≡_ {A = ℕ} 0 1 = cc in omega arith)
-piece-verdict Padded f e = absurd (let z : _≡_ {A = ℕ} 0 1 = cc in omega arith)
+piece-verdict (Malformed at) f e = absurd (let z : _≡_ {A = ℕ} 0 1 = cc in omega arith)
+piece-verdict (Unsafe at) f e = absurd (let z : _≡_ {A = ℕ} 0 1 = cc in omega arith)
+piece-verdict (FragData at) f e = absurd (let z : _≡_ {A = ℕ} 0 1 = cc in omega arith)
+piece-verdict (Crowded at) f e = absurd (let z : _≡_ {A = ℕ} 0 1 = cc in omega arith)
+piece-verdict (Tail at) f e = absurd (let z : _≡_ {A = ℕ} 0 1 = cc in omega arith)
+piece-verdict (Padded at) f e = absurd (let z : _≡_ {A = ℕ} 0 1 = cc in omega arith)
 piece-verdict Read f e = absurd (let z : _≡_ {A = ℕ} 0 1 = cc in omega arith)
 piece-verdict (Piece g) f e = cc
 

@@ -1,13 +1,12 @@
 -- The walk of a list that FRAG leads computes: EOL in a piece's options, up to Frag. Start, and NOPs in a row, before FRAG and behind it.
--- The list stands at packet offset 10, behind the option
--- checksum of a datagram without user data.
+-- The list stands at packet offset 10, behind the option checksum of a datagram without user data; a fault has its own packet offset.
 -- Assumes nothing.
 use mathlib.Core.Path.{_≡_, refl}
 use mathlib.Core.Bool.{true, false}
 use mathlib.Core.List.{List, [], _∷_}
 use Prim.Native.Nat.{ℕ}
 use Rattle.number_octets.specs.Octets.{number}
-use Rattle.number_octets.specs.Zeros.{allZero}
+use Rattle.number_octets.specs.Zeros.{allZero, zerosOf}
 use Rattle.number_offsets.specs.Offsets.{udpHeader, placeOf}
 use Rattle.wire_nops.specs.Nops.{nopLimit, nopsOf}
 use Rattle.wire_nops.specs.declared.Strictness.the-variants.{Plain, Strict}
@@ -36,25 +35,25 @@ fragment start end = piece (record {
 
 -- EOL right before Frag. Start, at 21: what stands behind is the piece's
 eol-last : areaOf Plain true 10 (led 21 (0x00 ∷ 0xAA ∷ 0xBB ∷ [])) ≡ fragment 21 23
-unfolding number allZero placeOf udpHeader classOf headerOf stepOf walkFrom optionLimit nopsOf fieldsOf fragmentOf areaOf
+unfolding number allZero zerosOf placeOf udpHeader classOf headerOf stepOf walkFrom optionLimit nopsOf fieldsOf fragmentOf areaOf
 eol-last = refl
 
 -- a zero between them, and another byte
 zero-between : areaOf Plain true 10 (led 22 (0x00 ∷ 0x00 ∷ 0xBB ∷ [])) ≡ fragment 22 23
-unfolding number allZero placeOf udpHeader classOf headerOf stepOf walkFrom optionLimit nopsOf fieldsOf fragmentOf areaOf
+unfolding number allZero zerosOf placeOf udpHeader classOf headerOf stepOf walkFrom optionLimit nopsOf fieldsOf fragmentOf areaOf
 zero-between = refl
 
-other-between : areaOf Plain true 10 (led 22 (0x00 ∷ 0xAA ∷ 0xBB ∷ [])) ≡ fault Tail
-unfolding number allZero placeOf udpHeader classOf headerOf stepOf walkFrom optionLimit nopsOf fieldsOf fragmentOf areaOf
+other-between : areaOf Plain true 10 (led 22 (0x00 ∷ 0xAA ∷ 0xBB ∷ [])) ≡ fault Tail (record { 0 = 21 })
+unfolding number allZero zerosOf placeOf udpHeader classOf headerOf stepOf walkFrom optionLimit nopsOf fieldsOf fragmentOf areaOf
 other-between = refl
 
 -- with user data FRAG is met first; behind EOL it is not met
-with-data : areaOf Plain false 10 (led 22 (0x00 ∷ 0xAA ∷ 0xBB ∷ [])) ≡ fault FragData
-unfolding number allZero placeOf udpHeader classOf headerOf stepOf walkFrom optionLimit nopsOf fieldsOf fragmentOf areaOf
+with-data : areaOf Plain false 10 (led 22 (0x00 ∷ 0xAA ∷ 0xBB ∷ [])) ≡ fault FragData (record { 0 = 10 })
+unfolding number allZero zerosOf placeOf udpHeader classOf headerOf stepOf walkFrom optionLimit nopsOf fieldsOf fragmentOf areaOf
 with-data = refl
 
-frag-behind-eol : areaOf Plain true 10 (0x00 ∷ led 22 (0xAA ∷ [])) ≡ fault Tail
-unfolding number allZero placeOf udpHeader classOf headerOf stepOf walkFrom optionLimit nopsOf fieldsOf fragmentOf areaOf
+frag-behind-eol : areaOf Plain true 10 (0x00 ∷ led 22 (0xAA ∷ [])) ≡ fault Tail (record { 0 = 11 })
+unfolding number allZero zerosOf placeOf udpHeader classOf headerOf stepOf walkFrom optionLimit nopsOf fieldsOf fragmentOf areaOf
 frag-behind-eol = refl
 
 -- ---- NOPs in a row (document 02, R-6)
@@ -64,11 +63,11 @@ seven-before-frag : areaOf Strict true 10 (padded 7 (led 27 (0xAA ∷ []))) ≡ 
 unfolding number placeOf udpHeader classOf headerOf stepOf walkFrom strictFrom nopLimit optionLimit nopsOf fieldsOf fragmentOf areaOf
 seven-before-frag = refl
 
-eight-before-frag : areaOf Strict true 10 (padded 8 (led 28 (0xAA ∷ []))) ≡ fault Padded
+eight-before-frag : areaOf Strict true 10 (padded 8 (led 28 (0xAA ∷ []))) ≡ fault Padded (record { 0 = 17 })
 unfolding number placeOf udpHeader classOf headerOf stepOf walkFrom strictFrom nopLimit optionLimit nopsOf fieldsOf fragmentOf areaOf
 eight-before-frag = refl
 
-eight-with-data : areaOf Strict false 10 (padded 8 (led 28 (0xAA ∷ []))) ≡ fault Padded
+eight-with-data : areaOf Strict false 10 (padded 8 (led 28 (0xAA ∷ []))) ≡ fault Padded (record { 0 = 17 })
 unfolding number placeOf udpHeader classOf headerOf stepOf walkFrom strictFrom nopLimit optionLimit nopsOf fieldsOf fragmentOf areaOf
 eight-with-data = refl
 
@@ -81,7 +80,7 @@ seven-around-frag : areaOf Strict true 10 (padded 7 (led 34 (padded 7 (0xAA ∷ 
 unfolding number placeOf udpHeader classOf headerOf stepOf walkFrom strictFrom nopLimit optionLimit nopsOf fieldsOf fragmentOf areaOf
 seven-around-frag = refl
 
-eight-in-piece : areaOf Strict true 10 (led 28 (padded 8 (0xAA ∷ []))) ≡ fault Padded
+eight-in-piece : areaOf Strict true 10 (led 28 (padded 8 (0xAA ∷ []))) ≡ fault Padded (record { 0 = 27 })
 unfolding number placeOf udpHeader classOf headerOf stepOf walkFrom strictFrom nopLimit optionLimit nopsOf fieldsOf fragmentOf areaOf
 eight-in-piece = refl
 
@@ -90,6 +89,6 @@ unfolding number placeOf udpHeader classOf headerOf stepOf walkFrom strictFrom n
 eight-past-start = refl
 
 -- with user data a good FRAG is met before the NOPs behind it
-data-before-nops : areaOf Strict false 10 (led 28 (padded 8 (0xAA ∷ []))) ≡ fault FragData
+data-before-nops : areaOf Strict false 10 (led 28 (padded 8 (0xAA ∷ []))) ≡ fault FragData (record { 0 = 10 })
 unfolding number placeOf udpHeader classOf headerOf stepOf walkFrom strictFrom nopLimit optionLimit nopsOf fieldsOf fragmentOf areaOf
 data-before-nops = refl

@@ -13,7 +13,7 @@ use lib.ListN.{length, take, drop, getD, length-drop}
 use lib.Seq.{getD-drop}
 use Rattle.number_octets.specs.Octets.{number, part}
 use Rattle.number_offsets.specs.Offsets.{udpHeader}
-use Rattle.wire_nops.specs.Nops.{nopsOf, isPadding}
+use Rattle.wire_nops.specs.Nops.{nopLimit, nopsOf, isPadding}
 use Rattle.wire_nops.specs.declared.Strictness.{Strictness}
 use Rattle.wire_step.specs.Kinds.{classOf, eol, nop, frag, lastFragSize}
 use Rattle.wire_step.specs.Step.{stepOf}
@@ -23,7 +23,7 @@ use Rattle.wire_step.proofs.Locality.{byte-same, part-same, step-local}
 use Rattle.wire_options.specs.Walk.{optionLimit}
 use Rattle.wire_options.specs.Strict.{walkBy}
 use Rattle.wire_options.specs.declared.walk.Fault.the-variants.{Padded}
-use Rattle.wire_area.specs.Area.{fieldsOf, fragmentOf, piece, fault, pieceWith, behindFrag, areaOf}
+use Rattle.wire_area.specs.Area.{fieldsOf, fragmentOf, piece, fault, pieceWith, offsetIn, behindFrag, areaOf}
 use Rattle.wire_area.specs.declared.Fields.{Fields}
 use Rattle.wire_area.specs.declared.Fragment.{Fragment}
 use Rattle.wire_area.specs.declared.Placed.the-variants.{Sound as SoundPiece}
@@ -66,11 +66,11 @@ frag-long l kind h s e k =
     ⊎-elim (λ u. omega arith) (λ u. omega arith) (f .fixed 10 12 (ap classOf (f .front ∙ k)))
 
 -- the options behind FRAG are walked up to Frag. Start
-behind-local : (how : Strictness) (empty : Bool) (l m : List ℕ) (base behind : ℕ) (f : Fragment) → base + behind ≤ f .start .0
+behind-local : (how : Strictness) (empty : Bool) (l m : List ℕ) (base nops behind : ℕ) (f : Fragment) → base + behind ≤ f .start .0
     → take (f .start .0 - base) l ≡ take (f .start .0 - base) m
-    → behindFrag how empty l base behind (SoundPiece f) ≡ behindFrag how empty m base behind (SoundPiece f)
-behind-local how false l m base behind f h same = refl
-behind-local how true l m base behind f h same =
+    → behindFrag how empty l base nops behind (SoundPiece f) ≡ behindFrag how empty m base nops behind (SoundPiece f)
+behind-local how false l m base nops behind f h same = refl
+behind-local how true l m base nops behind f h same =
     ap (λ (t : List ℕ). pieceWith f (walkBy how (optionLimit - 1) 0 t))
     (part-same behind (f .start .0 - (base + behind)) (f .start .0 - base) l m same (omega arith))
 
@@ -128,8 +128,8 @@ module _
   unfolding led-local
   area-local how empty led =
       led-area how empty base m f (led-local led)
-      ∙ ap (λ (i : ℕ). cond (isPadding how i) (fault Padded) (behindFrag how empty m base (i + led .size) (SoundPiece f))) (nops-same led)
-      ∙ ap (cond (isPadding how nops) (fault Padded)) (sym (behind-local how empty l m base (nops + led .size) f (ahead led .0) same))
+      ∙ ap (λ (i : ℕ). cond (isPadding how i) (fault Padded (offsetIn base nopLimit)) (behindFrag how empty m base i (i + led .size) (SoundPiece f))) (nops-same led)
+      ∙ ap (cond (isPadding how nops) (fault Padded (offsetIn base nopLimit))) (sym (behind-local how empty l m base nops (nops + led .size) f (ahead led .0) same))
       ∙ sym (led-area how empty base l f led)
 
 -- Where FRAG leads, the walk looks at no byte behind Frag. Start, whatever it comes to: a piece, or the fault met first.

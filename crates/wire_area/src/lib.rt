@@ -9,7 +9,7 @@ use wire_options::walk::Fault;
 use wire_options::walk::Walk;
 use wire_step::Step;
 ghost use mathlib.Core.Path.{_≡_};
-ghost use Prim.Native.Nat.{_<_, _≤_};
+ghost use Prim.Native.Nat.{_+_, _<_, _≤_};
 ghost use lib.ListN.{length, drop, getD};
 ghost use Rattle.wire_step.specs.Kinds.{frag};
 ghost use Rattle.wire_step.specs.Step.{stepOf};
@@ -55,15 +55,17 @@ pub enum Area {
         apcs: Apcs,
     },
     Piece(Fragment),
-    Faulty(Fault),
+    // The fault met first, and where.
+    Faulty(Fault, PacketOffset),
 }
 
 // Walks the list that stands at packet offset `base`. `empty` says that the datagram has no user data.
 pub fn walk_area(list: &[u8], base: PacketOffset, empty: bool, strictness: Strictness) -> Area
+    requires { ⌜ base .0 + length (now list) < 18446744073709551616 ⌝ }
     ensures { λ r. ⌜ r ≡ areaAnswer (areaOf strictness empty (base .0) (now (list .entry))) ⌝ }
 {
     if wire_nops::is_padded(list, strictness) {
-        return Area::Faulty(Fault::Padded);
+        return Area::Faulty(Fault::Padded, PacketOffset(base.0 + wire_nops::NOP_LIMIT));
     }
     let nops = wire_nops::leading_nops(list);
     if nops < list.len() {
@@ -71,15 +73,17 @@ pub fn walk_area(list: &[u8], base: PacketOffset, empty: bool, strictness: Stric
             return led(list, base, nops, empty, strictness);
         }
     }
-    as_area(walk::walk_list(&list[nops..], walk::OPTION_LIMIT, strictness))
+    let from = PacketOffset(base.0 + nops);
+    as_area(walk::walk_list(&list[nops..], from, walk::OPTION_LIMIT, strictness))
 }
 
-// A list whose first option behind the NOPs has the kind of FRAG.
+// A list whose first option behind the NOPs has the kind of FRAG, which is where it is faulty.
 fn led(list: &[u8], base: PacketOffset, nops: usize, empty: bool, strictness: Strictness) -> Area
-    requires { ⌜ (nops < length (now list)) × (getD (now list) nops 0 ≡ frag) ⌝ }
+    requires { ⌜ (nops < length (now list)) × (getD (now list) nops 0 ≡ frag) × (base .0 + length (now list) < 18446744073709551616) ⌝ }
     ensures { λ r. ⌜ r ≡ areaAnswer (ledBy strictness empty (now (list .entry)) (base .0) nops (stepOf (drop nops (now (list .entry))))) ⌝ }
 {
     let rest = &list[nops..];
+    let at = PacketOffset(base.0 + nops);
     let step = wire_step::next(rest);
     match step {
         Step::Found {
@@ -88,13 +92,13 @@ fn led(list: &[u8], base: PacketOffset, nops: usize, empty: bool, strictness: St
             size,
         } => {
             let fields = fields_of(rest, size);
-            behind_frag(list, base, nops + size, empty, fields, strictness)
+            behind_frag(list, base, nops, nops + size, empty, fields, strictness)
         }
-        Step::End => Area::Faulty(Fault::Malformed),
-        Step::Eol => Area::Faulty(Fault::Malformed),
-        Step::Nop => Area::Faulty(Fault::Malformed),
-        Step::Malformed => Area::Faulty(Fault::Malformed),
-        Step::Outlawed => Area::Faulty(Fault::Malformed),
+        Step::End => Area::Faulty(Fault::Malformed, at),
+        Step::Eol => Area::Faulty(Fault::Malformed, at),
+        Step::Nop => Area::Faulty(Fault::Malformed, at),
+        Step::Malformed => Area::Faulty(Fault::Malformed, at),
+        Step::Outlawed => Area::Faulty(Fault::Malformed, at),
     }
 }
 
@@ -166,34 +170,36 @@ fn at_places(fields: Fields, end: PacketOffset, place: Origin, option_start: Ori
     })
 }
 
-// What is behind FRAG, which ends `behind` bytes into the list. Mostly that is nothing, and no walk is started.
+// What is behind FRAG, which stands `nops` bytes into the list and ends `behind` bytes into it. Mostly that is nothing, and no walk is started.
 fn behind_frag(
     list: &[u8],
     base: PacketOffset,
+    nops: usize,
     behind: usize,
     empty: bool,
     fields: Fields,
     strictness: Strictness,
 ) -> Area
-    requires { ⌜ (behind ≤ length (now list)) × (fields .start .0 < 65536) ⌝ }
-    ensures { λ r. ⌜ r ≡ areaAnswer (behindFrag strictness empty (now (list .entry)) (base .0) behind (fragmentOf fields (base .0) behind (length (now (list .entry))))) ⌝ }
+    requires { ⌜ (nops ≤ behind) × (behind ≤ length (now list)) × (fields .start .0 < 65536) × (base .0 + length (now list) < 18446744073709551616) ⌝ }
+    ensures { λ r. ⌜ r ≡ areaAnswer (behindFrag strictness empty (now (list .entry)) (base .0) nops behind (fragmentOf fields (base .0) behind (length (now (list .entry))))) ⌝ }
 {
     let origin = base.0;
     let found = fragment_of(fields, base, behind, list.len());
     match found {
-        Placed::Refused => Area::Faulty(Fault::Malformed),
+        Placed::Refused => Area::Faulty(Fault::Malformed, PacketOffset(origin + nops)),
         Placed::Sound(fragment) => {
             if !empty {
-                return Area::Faulty(Fault::FragData);
+                return Area::Faulty(Fault::FragData, PacketOffset(origin + nops));
             }
             let start = fragment.start;
             let end = start.0 - origin;
             if end == behind {
                 return Area::Piece(fragment);
             }
+            let from = PacketOffset(origin + behind);
             as_piece(
                 fragment,
-                walk::walk_list(&list[behind..end], walk::OPTION_LIMIT - 1, strictness),
+                walk::walk_list(&list[behind..end], from, walk::OPTION_LIMIT - 1, strictness),
             )
         }
     }
@@ -209,7 +215,7 @@ fn as_piece(fragment: Fragment, others: Walk) -> Area
             fill: _,
             apcs: _,
         } => Area::Piece(fragment),
-        Walk::Faulty(fault) => Area::Faulty(fault),
+        Walk::Faulty(fault, at) => Area::Faulty(fault, at),
     }
 }
 
@@ -218,6 +224,6 @@ fn as_area(walked: Walk) -> Area
 {
     match walked {
         Walk::Listed { count, fill, apcs } => Area::Listed { count, fill, apcs },
-        Walk::Faulty(fault) => Area::Faulty(fault),
+        Walk::Faulty(fault, at) => Area::Faulty(fault, at),
     }
 }

@@ -17,7 +17,7 @@ use Rattle.number_octets.specs.Octets.{number, part}
 use Rattle.number_octets.proofs.Laws.{part-take}
 use Rattle.number_offsets.specs.Offsets.{udpHeader}
 use Rattle.wire_nops.specs.declared.Strictness.{Strictness}
-use Rattle.wire_options.specs.Walk.{Item, listed, walkFrom, optionLimit}
+use Rattle.wire_options.specs.Walk.{Located, listed, walkFrom, optionLimit}
 use Rattle.wire_area.specs.Area.{plain, piece, areaOf}
 use Rattle.wire_area.specs.declared.Fragment.{Fragment}
 use Rattle.wire_surplus.specs.Surplus.{startOf}
@@ -56,8 +56,8 @@ in-range p s d e =
 -- a reading by cases
 pub reading-by : (how : Strictness) (P : Reading → Type 0) (p s d : List ℕ) (r : Reading) → reading how p s d ≡ reads r
     → ((end : ℕ) (verdict : Verdict) → Other verdict → P (optionless end verdict))
-    → ((from : ℕ) (items : List Item) (fill : ℕ) → from ≤ length p → walkFrom optionLimit 0 (drop from p) ≡ listed items fill
-    → P (walked p (udpLength p) from (plain items fill)))
+    → ((from : ℕ) (options : List Located) (fill : ℕ) → from ≤ length p → walkFrom optionLimit 0 (drop from p) ≡ listed options fill
+    → P (walked p (udpLength p) from (plain options fill)))
     → ((from : ℕ) (f : Fragment) → from ≤ length p → areaOf how (noData (udpLength p)) from (drop from p) ≡ piece f → P (optionless (udpLength p) (Piece f)))
     → P r
 unfolding accepted
@@ -86,7 +86,7 @@ pub options-only-with-read : (how : Strictness) (p s d : List ℕ) (r : Reading)
 options-only-with-read how p s d r e =
     reading-by how (λ x. (x .verdict ≡ Read) ⊎ Silent x) p s d r e
     (λ end verdict o. inr (record { no-list = refl; no-count = refl; no-fill = refl; no-apc = refl }))
-    (λ from items fill h w. inl refl)
+    (λ from options fill h w. inl refl)
     (λ from f h a. inr (record { no-list = refl; no-count = refl; no-fill = refl; no-apc = refl }))
 
 -- ---- user data survives

@@ -1,6 +1,7 @@
 pub mod Claims
 pub mod Faults
 pub mod Lists
+pub mod Offsets
 pub mod Paddings
 pub mod Pieces
 pub mod Refusals

@@ -17,7 +17,7 @@ pub reading-lists : (how : Strictness) (p s d : List ℕ) (r : Reading) → read
 reading-lists how p s d r e =
     reading-by how (λ x. x .verdict ≡ Read → ListsIn p x) p s d r e
     (λ end verdict o v. absurd (subst Other v o))
-    (λ from items fill h w v. record { items = items; ordered = h; ends = refl; walks = w; counts = refl })
+    (λ from options fill h w v. record { found = options; ordered = h; ends = refl; walks = w; counts = refl })
     (λ from f h a v. absurd (not-read (Piece f) refl v))
 
 -- Document 02, R-2: with "read" the fill is zero bytes throughout.

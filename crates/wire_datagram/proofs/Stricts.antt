@@ -8,6 +8,7 @@ use Prim.Native.Nat.{ℕ}
 use lib.Dec.{eqb}
 use lib.ListN.{drop}
 use Rattle.number_tests.specs.Tests.{firstOf}
+use Rattle.number_offsets.specs.declared.PacketOffset.{PacketOffset}
 use Rattle.wire_nops.specs.declared.Strictness.{Strictness}
 use Rattle.wire_nops.specs.declared.Strictness.the-variants.{Plain}
 use Rattle.wire_surplus.specs.Surplus.{startOf}
@@ -19,21 +20,21 @@ use Rattle.wire_datagram.specs.Reading.{udpLength, udpChecksum, refusalT
 
 module _ (how : Strictness) (p : List ℕ) where
   -- the user data, 8 to L, and no option
-  abbrev pub padded : Reading
-  padded = optionless (udpLength p) Padded
+  abbrev pub padded : PacketOffset → Reading
+  padded at = optionless (udpLength p) (Padded at)
 
   abbrev OrPlain : Reading → Reading → Type 0
-  OrPlain r q = (r ≡ padded) ⊎ (r ≡ q)
+  OrPlain r q = ((at : PacketOffset) × (r ≡ padded at)) ⊎ (r ≡ q)
 
   accepted-or-plain : OrPlain (accepted how p) (accepted Plain p)
   unfolding accepted
   accepted-or-plain = started-or-plain how p (udpLength p) (startOf (isOdd (udpLength p)) (eqb (udpChecksum p) 0) (drop (udpLength p) p))
 
-  pub reading-or-plain : (s d : List ℕ) → (reading how p s d ≡ reads padded) ⊎ (reading how p s d ≡ reading Plain p s d)
+  pub reading-or-plain : (s d : List ℕ) → ((at : PacketOffset) × (reading how p s d ≡ reads (padded at))) ⊎ (reading how p s d ≡ reading Plain p s d)
   unfolding reading
   reading-or-plain s d = go (firstOf (refusalTests p s d)) accepted-or-plain
     where
       go : (o : Option ℕ) → OrPlain (accepted how p) (accepted Plain p)
-          → (answered o (accepted how p) ≡ reads padded) ⊎ (answered o (accepted how p) ≡ answered o (accepted Plain p))
+          → ((at : PacketOffset) × (answered o (accepted how p) ≡ reads (padded at))) ⊎ (answered o (accepted how p) ≡ answered o (accepted Plain p))
       go (some n) a = inr refl
-      go none a = ⊎-elim (λ e. inl (ap reads e)) (λ e. inr (ap reads e)) a
+      go none a = ⊎-elim (λ q. inl (q .0, ap reads (q .1))) (λ e. inr (ap reads e)) a

@@ -14,7 +14,8 @@ use lib.Seq.{drop-cons}
 use Rattle.number_octets.specs.Octets.{number, part}
 use Rattle.number_octets.proofs.Laws.{little-four}
 use Rattle.wire_nops.specs.Nops.{nop, nopLimit, nopsOf, isPadding}
-use Rattle.wire_nops.specs.declared.Strictness.the-variants.{Strict}
+use Rattle.wire_nops.specs.declared.Strictness.{Strictness}
+use Rattle.wire_nops.specs.declared.Strictness.the-variants.{Plain, Strict}
 
 -- ---- counting
 
@@ -89,7 +90,7 @@ none-different bits word e =
     )
 
 -- NOPs at the front are NOP bytes, and four of them are this number
-nops-are : (l : List ℕ) (i : ℕ) → i < nopsOf l → getD l i 0 ≡ nop
+pub nops-are : (l : List ℕ) (i : ℕ) → i < nopsOf l → getD l i 0 ≡ nop
 unfolding nopsOf
 nops-are [] i h = absurd (omega arith)
 nops-are (b ∷ bs) i h = go (eqb b nop) refl i h (nops-are bs)
@@ -116,6 +117,11 @@ padding-many l h = lt-ltb nopLimit (nopsOf l) (omega arith)
 pub padding-few : (l : List ℕ) → nopsOf l < 8 → isPadding Strict (nopsOf l) ≡ false
 unfolding nopLimit
 padding-few l h = le-ltb nopLimit (nopsOf l) (omega arith)
+
+-- so padding is behind as many as there may be
+pub padding-limit : (s : Strictness) (nops : ℕ) → isPadding s nops ≡ true → nopLimit < nops
+padding-limit Plain nops e = absurd (let z : _≡_ {A = ℕ} 0 1 = cc in omega arith)
+padding-limit Strict nops e = ltb-true nopLimit nops e
 
 -- another word among the first eight bytes ends the row before the eighth
 pub padding-word : (l : List ℕ) (i : ℕ) → i ≤ 4 → (number (reverse (part i 4 l)) ≡ 16843009 → ⊥) → isPadding Strict (nopsOf l) ≡ false

@@ -10,8 +10,10 @@ pub enum Strictness {
     Strict,
 }
 
-// How many NOPs in a row are padding where reading is strict.
-const PADDING: usize = 8;
+// How many NOPs may stand in a row where reading is strict; with one more they are padding.
+pub const NOP_LIMIT: usize = 7;
+
+const PADDING: usize = NOP_LIMIT + 1;
 
 const NOP: u8 = 1;
 

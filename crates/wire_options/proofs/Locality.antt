@@ -7,26 +7,27 @@ use Prim.Native.Nat.{ℕ, zero, suc, _+_, _-_, _≤_}
 use native.Mathlib.Omega.{arith}
 use lib.ListN.{length, take, length-append}
 use lib.Seq.{take-at}
-use Rattle.number_octets.specs.Zeros.{allZero}
+use Rattle.number_octets.specs.Zeros.{allZero, zerosOf}
 use Rattle.wire_step.specs.Kinds.{classOf, eol}
 use Rattle.wire_step.specs.Step.{stepOf}
 use Rattle.wire_step.specs.declared.Step.{Step}
 use Rattle.wire_step.specs.declared.Step.the-variants.{End, Eol, Nop, Found, Malformed as Unsound, Outlawed}
 use Rattle.wire_step.proofs.Steps.{step-found}
 use Rattle.wire_step.proofs.Locality.{part-same, step-local, nop-local}
-use Rattle.wire_options.specs.Walk.{Item, Walked, listed, faulty, before, itemOf, walkAt, walkFrom}
+use Rattle.wire_options.specs.Walk.{Located, Walked, listed, faulty, before, locatedOf, walkAt, walkFrom}
 use Rattle.wire_options.specs.declared.walk.Fault.the-variants.{Malformed, Tail}
 use Rattle.wire_options.proofs.Rests.{ListsBy, lists-by}
 use Rattle.wire_options.proofs.Fills.{walk-fills}
 
--- what a walk comes to that lists `items` where the bytes `t` behind its EOL are zero
-abbrev pub ending : List Item → List ℕ → Walked
-ending items t = cond (allZero t) (listed items (suc (length t))) (faulty Tail)
+-- what a walk comes to that lists `options` where the bytes `t` behind its EOL are zero; else it is "tail" at the first other byte
+abbrev pub ending : List Located → List ℕ → Walked
+ending options t = cond (allZero t) (listed options (suc (length t))) (faulty Tail (suc (length t) - zerosOf (eol ∷ t)))
 
-before-ending : (item : Item) (items : List Item) (t : List ℕ) → before item (ending items t) ≡ ending (item ∷ items) t
-before-ending item items t = go (allZero t)
+before-ending : (option : Located) (options : List Located) (t : List ℕ) → before option (ending options t) ≡ ending (option ∷ options) t
+before-ending option options t = go (allZero t)
   where
-    go : (z : Bool) → before item (cond z (listed items (suc (length t))) (faulty Tail)) ≡ cond z (listed (item ∷ items) (suc (length t))) (faulty Tail)
+    go : (z : Bool) → before option (cond z (listed options (suc (length t))) (faulty Tail (suc (length t) - zerosOf (eol ∷ t))))
+        ≡ cond z (listed (option ∷ options) (suc (length t))) (faulty Tail (suc (length t) - zerosOf (eol ∷ t)))
     go true = refl
     go false = refl
 
@@ -39,8 +40,8 @@ module _ (x : ℕ) (a t u : List ℕ) (same : length t ≡ length u) where
 
   -- the law for the bytes behind the first
   abbrev Rest : Type 0
-  Rest = (left skip : ℕ) (items : List Item) → skip ≤ length a → walkFrom left skip (a ++ (eol ∷ t)) ≡ listed items (suc (length t))
-      → walkFrom left skip (a ++ (eol ∷ u)) ≡ ending items u
+  Rest = (left skip : ℕ) (options : List Located) → skip ≤ length a → walkFrom left skip (a ++ (eol ∷ t)) ≡ listed options (suc (length t))
+      → walkFrom left skip (a ++ (eol ∷ u)) ≡ ending options u
 
   lengths : length l ≡ length m
   lengths = simp length-append (omega arith)
@@ -49,17 +50,17 @@ module _ (x : ℕ) (a t u : List ℕ) (same : length t ≡ length u) where
   fronts = take-at (x ∷ a) (eol ∷ t) (suc (length a)) refl ∙ sym (take-at (x ∷ a) (eol ∷ u) (suc (length a)) refl)
 
   -- by the step at the front; of an option the fill says that it ends before the EOL
-  front : (room : ℕ) (items : List Item) (step : Step) → stepOf l ≡ step → ListsBy room l items (suc (length t)) step
-      → Rest → walkFrom room 0 m ≡ ending items u
+  front : (room : ℕ) (options : List Located) (step : Step) → stepOf l ≡ step → ListsBy room l options (suc (length t)) step
+      → Rest → walkFrom room 0 m ≡ ending options u
   unfolding walkFrom
-  front room items End e q ih = absurd (omega (arith, q .1))
-  front room items Eol e q ih = absurd (omega (arith, q .1, length-append a (eol ∷ t)))
-  front room items Unsound e q ih = absurd q
-  front room items Outlawed e q ih = absurd q
-  front room items Nop e q ih =
+  front room options End e q ih = absurd (omega (arith, q .1))
+  front room options Eol e q ih = absurd (omega (arith, q .1, length-append a (eol ∷ t)))
+  front room options Unsound e q ih = absurd q
+  front room options Outlawed e q ih = absurd q
+  front room options Nop e q ih =
       ap (λ (s : Step). walkAt room m s (λ left skip. walkFrom left skip (a ++ (eol ∷ u)))) (nop-local x (a ++ (eol ∷ t)) (a ++ (eol ∷ u)) e)
-      ∙ ih room 0 items (omega arith) q
-  front room items (Found kind header size) e q ih =
+      ∙ ih room 0 options (omega arith) q
+  front room options (Found kind header size) e q ih =
       let f = step-found l kind header size e .sized in
       let left : length (a ++ (eol ∷ t)) ≡ length a + suc (length t) = length-append a (eol ∷ t) in
       let d : suc (length t) + (size - 1) ≤ length (a ++ (eol ∷ t)) =
@@ -68,30 +69,30 @@ module _ (x : ℕ) (a t u : List ℕ) (same : length t ≡ length u) where
       let step : stepOf m ≡ Found kind header size = step-local (suc (length a)) l m kind header size lengths fronts fits e in
       let next : walkFrom (q .left) (size - 1) (a ++ (eol ∷ u)) ≡ ending (q .later) u =
       ih (q .left) (size - 1) (q .later) (omega arith) (q .walks) in
-      let item : itemOf kind header size l ≡ itemOf kind header size m =
-      ap (λ (body : List ℕ). record { kind = kind; body = body })
+      let option : locatedOf kind header size l ≡ locatedOf kind header size m =
+      ap₂ (λ (n : ℕ) (body : List ℕ). record { remains = n; size = size; item = record { kind = kind; body = body } }) lengths
       (part-same header (size - header) (suc (length a)) l m fronts (omega (arith, f .head))) in
       ap (λ (r : ℕ). walkFrom r 0 m) (q .one)
       ∙ ap (λ (s : Step). walkAt (suc (q .left)) m s (λ left skip. walkFrom left skip (a ++ (eol ∷ u)))) step
-      ∙ ap (λ (c : Bool). cond c (faulty Malformed) (before (itemOf kind header size m) (walkFrom (q .left) (size - 1) (a ++ (eol ∷ u))))) (q .other)
-      ∙ ap₂ before (sym item) next ∙ before-ending (itemOf kind header size l) (q .later) u ∙ ap (λ (i : List Item). ending i u) (sym (q .splits))
+      ∙ ap (λ (c : Bool). cond c (faulty Malformed (length m)) (before (locatedOf kind header size m) (walkFrom (q .left) (size - 1) (a ++ (eol ∷ u))))) (q .other)
+      ∙ ap₂ before (sym option) next ∙ before-ending (locatedOf kind header size l) (q .later) u ∙ ap (λ (i : List Located). ending i u) (sym (q .splits))
 
-behind-from : (room skip : ℕ) (a t u : List ℕ) (items : List Item) → skip ≤ length a → length t ≡ length u
-    → walkFrom room skip (a ++ (eol ∷ t)) ≡ listed items (suc (length t)) → walkFrom room skip (a ++ (eol ∷ u)) ≡ ending items u
+behind-from : (room skip : ℕ) (a t u : List ℕ) (options : List Located) → skip ≤ length a → length t ≡ length u
+    → walkFrom room skip (a ++ (eol ∷ t)) ≡ listed options (suc (length t)) → walkFrom room skip (a ++ (eol ∷ u)) ≡ ending options u
 unfolding walkFrom stepOf classOf allZero
-behind-from room (suc skip) [] t u items h same q = absurd (omega arith)
-behind-from room zero [] t u items h same q = ap (λ (i : List Item). ending i u) (ended (allZero t) q)
+behind-from room (suc skip) [] t u options h same q = absurd (omega arith)
+behind-from room zero [] t u options h same q = ap (λ (i : List Located). ending i u) (ended (allZero t) q)
   where
-    ended : (z : Bool) → cond z (listed [] (suc (length t))) (faulty Tail) ≡ listed items (suc (length t)) → [] ≡ items
+    ended : (z : Bool) → cond z (listed [] (suc (length t))) (faulty Tail (suc (length t) - zerosOf (eol ∷ t))) ≡ listed options (suc (length t)) → [] ≡ options
     ended true q = cc
     ended false q = absurd (let z : _≡_ {A = ℕ} 0 1 = cc in omega arith)
-behind-from room (suc skip) (x ∷ a) t u items h same q = behind-from room skip a t u items (omega arith) same q
-behind-from room zero (x ∷ a) t u items h same q =
+behind-from room (suc skip) (x ∷ a) t u options h same q = behind-from room skip a t u options (omega arith) same q
+behind-from room zero (x ∷ a) t u options h same q =
     let l : List ℕ = x ∷ (a ++ (eol ∷ t)) in
-    front x a t u same room items (stepOf l) refl (lists-by room l items (suc (length t)) (stepOf l) (omega arith) refl q) (λ left skip more within e. behind-from left skip a t u more within same e)
+    front x a t u same room options (stepOf l) refl (lists-by room l options (suc (length t)) (stepOf l) (omega arith) refl q) (λ left skip more within e. behind-from left skip a t u more within same e)
 
 -- Bytes behind EOL count only as zero or not. The fill counts from the EOL to the end, so it says that the walk ended at this one: with other
 -- bytes behind it the walk ends there too, with the same options and the same fill if they are all zero, else with "tail".
-pub behind-eol : (room : ℕ) (a t u : List ℕ) (items : List Item) → length t ≡ length u
-    → walkFrom room 0 (a ++ (eol ∷ t)) ≡ listed items (suc (length t)) → walkFrom room 0 (a ++ (eol ∷ u)) ≡ ending items u
-behind-eol room a t u items same q = behind-from room 0 a t u items (omega arith) same q
+pub behind-eol : (room : ℕ) (a t u : List ℕ) (options : List Located) → length t ≡ length u
+    → walkFrom room 0 (a ++ (eol ∷ t)) ≡ listed options (suc (length t)) → walkFrom room 0 (a ++ (eol ∷ u)) ≡ ending options u
+behind-eol room a t u options same q = behind-from room 0 a t u options (omega arith) same q

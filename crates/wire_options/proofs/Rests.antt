@@ -9,6 +9,7 @@ use borrow.Author.Tests.{eqb-false}
 use lib.Dec.{eqb}
 use lib.ListN.{length, drop, replicate, length-drop, drop-of-length-le}
 use lib.Seq.{drop-drop}
+use Rattle.number_octets.specs.Zeros.{zerosOf}
 use Rattle.number_octets.proofs.ZeroBytes.{zero-only}
 use Rattle.wire_nops.specs.Nops.{nopsOf}
 use Rattle.wire_step.specs.Kinds.{frag}
@@ -16,7 +17,7 @@ use Rattle.wire_step.specs.Step.{stepOf}
 use Rattle.wire_step.specs.declared.Step.{Step}
 use Rattle.wire_step.specs.declared.Step.the-variants.{End, Eol, Nop, Found, Malformed as Unsound, Outlawed}
 use Rattle.wire_step.proofs.Steps.{step-found}
-use Rattle.wire_options.specs.Walk.{Item, Walked, listed, faulty, before, itemOf, sound, fillIsZero, walkAt, walkFrom, itemsOf}
+use Rattle.wire_options.specs.Walk.{Located, Walked, listed, faulty, before, locatedOf, sound, fillIsZero, walkAt, walkFrom, optionsOf}
 use Rattle.wire_options.specs.declared.walk.Fault.{Fault}
 use Rattle.wire_options.specs.declared.walk.Fault.the-variants.{Malformed, Tail}
 use Rattle.wire_options.proofs.Stricts.{walk-skip}
@@ -24,37 +25,37 @@ use Rattle.wire_options.proofs.Runs.{plain-run}
 
 -- ---- one step
 
--- the option that was found is the first of `items`, and the others are listed behind it
-pub record First (room : ℕ) (l : List ℕ) (items : List Item) (fill kind header size : ℕ) : Type 0 where
+-- the option that was found is the first of `options`, and the others are listed behind it
+pub record First (room : ℕ) (l : List ℕ) (options : List Located) (fill kind header size : ℕ) : Type 0 where
   pub left : ℕ
   pub one : room ≡ suc left
   pub other : eqb kind frag ≡ false
-  pub later : List Item
-  pub splits : items ≡ itemOf kind header size l ∷ later
+  pub later : List Located
+  pub splits : options ≡ locatedOf kind header size l ∷ later
   pub walks : walkFrom left (suc (size - 1)) l ≡ listed later fill
 
--- what a walk of `l` that lists `items` has at its front, by the step there
-abbrev pub ListsBy : ℕ → List ℕ → List Item → ℕ → Step → Type 0
-ListsBy room l items fill End = ([] ≡ items) × (0 ≡ fill)
-ListsBy room l items fill Eol = ([] ≡ items) × (length l ≡ fill) × (fillIsZero l ≡ true)
-ListsBy room l items fill Nop = walkFrom room 1 l ≡ listed items fill
-ListsBy room l items fill (Found kind header size) = First room l items fill kind header size
-ListsBy room l items fill Unsound = ⊥
-ListsBy room l items fill Outlawed = ⊥
+-- what a walk of `l` that lists `options` has at its front, by the step there
+abbrev pub ListsBy : ℕ → List ℕ → List Located → ℕ → Step → Type 0
+ListsBy room l options fill End = ([] ≡ options) × (0 ≡ fill)
+ListsBy room l options fill Eol = ([] ≡ options) × (length l ≡ fill) × (fillIsZero l ≡ true)
+ListsBy room l options fill Nop = walkFrom room 1 l ≡ listed options fill
+ListsBy room l options fill (Found kind header size) = First room l options fill kind header size
+ListsBy room l options fill Unsound = ⊥
+ListsBy room l options fill Outlawed = ⊥
 
-faultless : (fault : Fault) (items : List Item) (fill : ℕ) → faulty fault ≡ listed items fill → ⊥
-faultless fault items fill e = let z : _≡_ {A = ℕ} 0 1 = cc in omega arith
+faultless : (fault : Fault) (remains : ℕ) (options : List Located) (fill : ℕ) → faulty fault remains ≡ listed options fill → ⊥
+faultless fault remains options fill e = let z : _≡_ {A = ℕ} 0 1 = cc in omega arith
 
-behind : (item : Item) (w : Walked) (items : List Item) (fill : ℕ) → before item w ≡ listed items fill
-    → (later : List Item) × (items ≡ item ∷ later) × (w ≡ listed later fill)
-behind item (listed later n) items fill e = (later, cc, cc)
-behind item (faulty fault) items fill e = absurd (faultless fault items fill e)
+behind : (option : Located) (w : Walked) (options : List Located) (fill : ℕ) → before option w ≡ listed options fill
+    → (later : List Located) × (options ≡ option ∷ later) × (w ≡ listed later fill)
+behind option (listed later n) options fill e = (later, cc, cc)
+behind option (faulty fault remains) options fill e = absurd (faultless fault remains options fill e)
 
-pub lists-by : (room : ℕ) (l : List ℕ) (items : List Item) (fill : ℕ) (step : Step) → 0 < length l → stepOf l ≡ step
-    → walkFrom room 0 l ≡ listed items fill → ListsBy room l items fill step
+pub lists-by : (room : ℕ) (l : List ℕ) (options : List Located) (fill : ℕ) (step : Step) → 0 < length l → stepOf l ≡ step
+    → walkFrom room 0 l ≡ listed options fill → ListsBy room l options fill step
 unfolding walkFrom
-lists-by room [] items fill step h e q = absurd (omega arith)
-lists-by room (b ∷ bs) items fill step h e q = go step (sym (ap (λ (s : Step). walkAt room l s rest) e) ∙ q)
+lists-by room [] options fill step h e q = absurd (omega arith)
+lists-by room (b ∷ bs) options fill step h e q = go step (sym (ap (λ (s : Step). walkAt room l s rest) e) ∙ q)
   where
     l : List ℕ
     l = b ∷ bs
@@ -63,26 +64,26 @@ lists-by room (b ∷ bs) items fill step h e q = go step (sym (ap (λ (s : Step)
     rest left skip = walkFrom left skip bs
 
     found : (kind header size : ℕ) (t : Bool) (r : ℕ) → eqb kind frag ≡ t
-        → cond t (faulty Malformed) (sound r (itemOf kind header size l) (λ left. rest left (size - 1))) ≡ listed items fill
-        → First r l items fill kind header size
-    found kind header size true r c q = absurd (faultless _ items fill q)
-    found kind header size false zero c q = absurd (faultless _ items fill q)
+        → cond t (faulty Malformed (length l)) (sound r (locatedOf kind header size l) (λ left. rest left (size - 1))) ≡ listed options fill
+        → First r l options fill kind header size
+    found kind header size true r c q = absurd (faultless _ _ options fill q)
+    found kind header size false zero c q = absurd (faultless _ _ options fill q)
     found kind header size false (suc r) c q =
-        let n = behind (itemOf kind header size l) (rest r (size - 1)) items fill q in
+        let n = behind (locatedOf kind header size l) (rest r (size - 1)) options fill q in
         record { left = r; one = refl; other = c; later = n .0; splits = n .1; walks = n .2 }
 
-    ended : (t : Bool) → fillIsZero l ≡ t → cond t (listed [] (length l)) (faulty Tail) ≡ listed items fill
-        → ([] ≡ items) × (length l ≡ fill) × (fillIsZero l ≡ true)
+    ended : (t : Bool) → fillIsZero l ≡ t → cond t (listed [] (length l)) (faulty Tail (length l - zerosOf l)) ≡ listed options fill
+        → ([] ≡ options) × (length l ≡ fill) × (fillIsZero l ≡ true)
     ended true z q = (cc, cc, z)
-    ended false z q = absurd (faultless _ items fill q)
+    ended false z q = absurd (faultless _ _ options fill q)
 
-    go : (step : Step) → walkAt room l step rest ≡ listed items fill → ListsBy room l items fill step
+    go : (step : Step) → walkAt room l step rest ≡ listed options fill → ListsBy room l options fill step
     go End q = (cc, cc)
     go Eol q = ended (fillIsZero l) refl q
     go Nop q = q
     go (Found kind header size) q = found kind header size (eqb kind frag) room refl q
-    go Unsound q = faultless _ items fill q
-    go Outlawed q = faultless _ items fill q
+    go Unsound q = faultless _ _ options fill q
+    go Outlawed q = faultless _ _ options fill q
 
 -- ---- all steps
 
@@ -101,33 +102,33 @@ filled-whole l z =
 
 -- What holds at the end of a list and is kept by each step holds of every walk that lists its options.
 module _
-    (P : ℕ → ℕ → List ℕ → List Item → ℕ → Type 0)
+    (P : ℕ → ℕ → List ℕ → List Located → ℕ → Type 0)
     (over : (room skip : ℕ) → P room skip [] [] 0)
     (ends : (room fill : ℕ) (l : List ℕ) → Fills 0 l fill → P room 0 l [] fill)
-    (skips : (room skip b : ℕ) (bs : List ℕ) (items : List Item) (fill : ℕ) → P room skip bs items fill → P room (suc skip) (b ∷ bs) items fill)
-    (nop : (room : ℕ) (l : List ℕ) (items : List Item) (fill : ℕ) → 0 < length l → P room 1 l items fill → P room 0 l items fill)
-    (found : (room : ℕ) (l : List ℕ) (items : List Item) (fill kind header size : ℕ) → stepOf l ≡ Found kind header size → (kind ≡ frag → ⊥)
-    → P room size l items fill → P (suc room) 0 l (itemOf kind header size l ∷ items) fill) where
-  pub walk-all : (l : List ℕ) (room skip : ℕ) (items : List Item) (fill : ℕ) → walkFrom room skip l ≡ listed items fill → P room skip l items fill
+    (skips : (room skip b : ℕ) (bs : List ℕ) (options : List Located) (fill : ℕ) → P room skip bs options fill → P room (suc skip) (b ∷ bs) options fill)
+    (nop : (room : ℕ) (l : List ℕ) (options : List Located) (fill : ℕ) → 0 < length l → P room 1 l options fill → P room 0 l options fill)
+    (found : (room : ℕ) (l : List ℕ) (options : List Located) (fill kind header size : ℕ) → stepOf l ≡ Found kind header size → (kind ≡ frag → ⊥)
+    → P room size l options fill → P (suc room) 0 l (locatedOf kind header size l ∷ options) fill) where
+  pub walk-all : (l : List ℕ) (room skip : ℕ) (options : List Located) (fill : ℕ) → walkFrom room skip l ≡ listed options fill → P room skip l options fill
   unfolding walkFrom
-  walk-all [] room skip items fill q =
-      let none : [] ≡ items = cc in
+  walk-all [] room skip options fill q =
+      let none : [] ≡ options = cc in
       let zeros : 0 ≡ fill = cc in
       rw (← none, ← zeros) (over room skip)
-  walk-all (b ∷ bs) room (suc skip) items fill q = skips room skip b bs items fill (walk-all bs room skip items fill q)
-  walk-all (b ∷ bs) room zero items fill q =
-      go (stepOf l) refl (lists-by room l items fill (stepOf l) (omega arith) refl q) (λ left skip later e. walk-all bs left skip later fill e)
+  walk-all (b ∷ bs) room (suc skip) options fill q = skips room skip b bs options fill (walk-all bs room skip options fill q)
+  walk-all (b ∷ bs) room zero options fill q =
+      go (stepOf l) refl (lists-by room l options fill (stepOf l) (omega arith) refl q) (λ left skip later e. walk-all bs left skip later fill e)
     where
       l : List ℕ
       l = b ∷ bs
 
       Later : Type 0
-      Later = (left skip : ℕ) (later : List Item) → walkFrom left skip bs ≡ listed later fill → P left skip bs later fill
+      Later = (left skip : ℕ) (later : List Located) → walkFrom left skip bs ≡ listed later fill → P left skip bs later fill
 
-      go : (step : Step) → stepOf l ≡ step → ListsBy room l items fill step → Later → P room 0 l items fill
+      go : (step : Step) → stepOf l ≡ step → ListsBy room l options fill step → Later → P room 0 l options fill
       go End e q ih = rw (← (q .0), ← (q .1)) (ends room 0 l (filled-none l))
       go Eol e q ih = rw (← (q .0), ← (q .1)) (ends room (length l) l (filled-whole l (q .2)))
-      go Nop e q ih = nop room l items fill (omega arith) (skips room 0 b bs items fill (ih room 0 items q))
+      go Nop e q ih = nop room l options fill (omega arith) (skips room 0 b bs options fill (ih room 0 options q))
       go Unsound e q ih = absurd q
       go Outlawed e q ih = absurd q
       go (Found kind header size) e q ih =
@@ -137,45 +138,45 @@ module _
 
 -- ---- from a position
 
--- `items` are still to come behind the first `at` bytes of `s`
-pub record Rest (s : List ℕ) (at : ℕ) (items : List Item) : Type 0 where
+-- `options` are still to come behind the first `at` bytes of `s`
+pub record Rest (s : List ℕ) (at : ℕ) (options : List Located) : Type 0 where
   pub room : ℕ
   pub fill : ℕ
-  pub walks : walkFrom room 0 (drop at s) ≡ listed items fill
+  pub walks : walkFrom room 0 (drop at s) ≡ listed options fill
 
 -- the option found there is the first of them
-pub record Taken (s : List ℕ) (at : ℕ) (items : List Item) (kind header size : ℕ) : Type 0 where
+pub record Taken (s : List ℕ) (at : ℕ) (options : List Located) (kind header size : ℕ) : Type 0 where
   pub other : kind ≡ frag → ⊥
   pub some : 0 < size
   pub fits : at + size ≤ length s
-  pub later : List Item
-  pub splits : items ≡ itemOf kind header size (drop at s) ∷ later
+  pub later : List Located
+  pub splits : options ≡ locatedOf kind header size (drop at s) ∷ later
   pub rest : Rest s (at + size) later
 
 -- what a step does to what is still to come; where the walk ends, that is nothing
-abbrev pub RestBy : List ℕ → ℕ → List Item → Step → Type 0
-RestBy s at items Nop = Rest s (at + 1) items
-RestBy s at items (Found kind header size) = Taken s at items kind header size
-RestBy s at items End = [] ≡ items
-RestBy s at items Eol = [] ≡ items
-RestBy s at items Unsound = [] ≡ items
-RestBy s at items Outlawed = [] ≡ items
+abbrev pub RestBy : List ℕ → ℕ → List Located → Step → Type 0
+RestBy s at options Nop = Rest s (at + 1) options
+RestBy s at options (Found kind header size) = Taken s at options kind header size
+RestBy s at options End = [] ≡ options
+RestBy s at options Eol = [] ≡ options
+RestBy s at options Unsound = [] ≡ options
+RestBy s at options Outlawed = [] ≡ options
 
 -- all that a walk without fault lists
-pub rest-all : (s : List ℕ) (room : ℕ) → ((fault : Fault) → walkFrom room 0 s ≡ faulty fault → ⊥) → Rest s 0 (itemsOf (walkFrom room 0 s))
+pub rest-all : (s : List ℕ) (room : ℕ) → ((fault : Fault) (remains : ℕ) → walkFrom room 0 s ≡ faulty fault remains → ⊥) → Rest s 0 (optionsOf (walkFrom room 0 s))
 rest-all s room faultless = go (walkFrom room 0 s) refl
   where
-    go : (w : Walked) → walkFrom room 0 s ≡ w → Rest s 0 (itemsOf w)
-    go (listed items fill) e = record { room = room; fill = fill; walks = e }
-    go (faulty fault) e = absurd (faultless fault e)
+    go : (w : Walked) → walkFrom room 0 s ≡ w → Rest s 0 (optionsOf w)
+    go (listed options fill) e = record { room = room; fill = fill; walks = e }
+    go (faulty fault remains) e = absurd (faultless fault remains e)
 
-module _ {s : List ℕ} {at : ℕ} {items : List Item} (r : Rest s at items) where
-  pub rest-over : length s ≤ at → [] ≡ items
+module _ {s : List ℕ} {at : ℕ} {options : List Located} (r : Rest s at options) where
+  pub rest-over : length s ≤ at → [] ≡ options
   unfolding walkFrom
-  rest-over h = let over : listed [] 0 ≡ listed items (r .fill) = sym (ap (walkFrom (r .room) 0) (drop-of-length-le s h)) ∙ r .walks in cc
+  rest-over h = let over : listed [] 0 ≡ listed options (r .fill) = sym (ap (walkFrom (r .room) 0) (drop-of-length-le s h)) ∙ r .walks in cc
 
   -- NOPs in a row are passed together
-  pub rest-nops : Rest s (at + nopsOf (drop at s)) items
+  pub rest-nops : Rest s (at + nopsOf (drop at s)) options
   rest-nops =
       let l : List ℕ = drop at s in
       record {
@@ -184,21 +185,21 @@ module _ {s : List ℕ} {at : ℕ} {items : List Item} (r : Rest s at items) whe
         walks = ap (walkFrom (r .room) 0) (sym (drop-drop (nopsOf l) at s)) ∙ sym (plain-run (r .room) l) ∙ r .walks;
       }
 
-  pub rest-by : {step : Step} → at < length s → stepOf (drop at s) ≡ step → RestBy s at items step
-  rest-by {step} h e = go step e (lists-by (r .room) l items (r .fill) step (simp length-drop (omega arith)) e (r .walks))
+  pub rest-by : {step : Step} → at < length s → stepOf (drop at s) ≡ step → RestBy s at options step
+  rest-by {step} h e = go step e (lists-by (r .room) l options (r .fill) step (simp length-drop (omega arith)) e (r .walks))
     where
       l : List ℕ
       l = drop at s
 
-      onward : (left n : ℕ) (later : List Item) → walkFrom left n l ≡ listed later (r .fill) → Rest s (at + n) later
+      onward : (left n : ℕ) (later : List Located) → walkFrom left n l ≡ listed later (r .fill) → Rest s (at + n) later
       onward left n later w = record { room = left; fill = r .fill; walks = ap (walkFrom left 0) (sym (drop-drop n at s)) ∙ sym (walk-skip left n l) ∙ w }
 
-      go : (step : Step) → stepOf l ≡ step → ListsBy (r .room) l items (r .fill) step → RestBy s at items step
+      go : (step : Step) → stepOf l ≡ step → ListsBy (r .room) l options (r .fill) step → RestBy s at options step
       go End e q = q .0
       go Eol e q = q .0
       go Unsound e q = absurd q
       go Outlawed e q = absurd q
-      go Nop e q = onward (r .room) 1 items q
+      go Nop e q = onward (r .room) 1 options q
       go (Found kind header size) e q =
           let f = step-found l kind header size e .sized in
           let down : suc (size - 1) ≡ size = omega (arith, f .least) in

@@ -8,30 +8,30 @@ use native.Mathlib.Omega.{arith}
 use lib.ListN.{length, length-take}
 use Rattle.number_octets.specs.Octets.{part}
 use Rattle.wire_step.proofs.Steps.{step-found}
-use Rattle.wire_options.specs.Walk.{Item, listed, walkFrom}
+use Rattle.wire_options.specs.Walk.{Located, listed, walkFrom}
 use Rattle.wire_options.proofs.Rests.{walk-all}
 
 -- how long the bodies are together
-abbrev pub bodySizes : List Item → ℕ
+abbrev pub bodySizes : List Located → ℕ
 bodySizes [] = 0
-bodySizes (item ∷ items) = length (item .body) + bodySizes items
+bodySizes (option ∷ options) = length (option .item .body) + bodySizes options
 
 -- so many options and so long bodies are listed of bytes, of which `skip` are passed over
-pub record Bounded (room skip : ℕ) (l : List ℕ) (items : List Item) : Type 0 where
-  pub few : length items ≤ room
-  pub bodies : bodySizes items + skip ≤ length l
+pub record Bounded (room skip : ℕ) (l : List ℕ) (options : List Located) : Type 0 where
+  pub few : length options ≤ room
+  pub bodies : bodySizes options + skip ≤ length l
 
-pub walk-bounded : (room skip : ℕ) (l : List ℕ) (items : List Item) (fill : ℕ) → skip ≤ length l → walkFrom room skip l ≡ listed items fill
-    → Bounded room skip l items
-walk-bounded room skip l items fill h q =
-    walk-all (λ room skip l items fill. skip ≤ length l → Bounded room skip l items)
+pub walk-bounded : (room skip : ℕ) (l : List ℕ) (options : List Located) (fill : ℕ) → skip ≤ length l → walkFrom room skip l ≡ listed options fill
+    → Bounded room skip l options
+walk-bounded room skip l options fill h q =
+    walk-all (λ room skip l options fill. skip ≤ length l → Bounded room skip l options)
     (λ room skip h. record { few = omega arith; bodies = omega arith })
     (λ room fill l f h. record { few = omega arith; bodies = omega arith })
-    (λ room skip b bs items fill ih h. let i = ih (omega arith) in record { few = i .few; bodies = omega (arith, i .bodies) })
-    (λ room l items fill some ih h. let i = ih (omega arith) in record { few = i .few; bodies = omega (arith, i .bodies) })
-    (λ room l items fill kind header size e d ih h.
+    (λ room skip b bs options fill ih h. let i = ih (omega arith) in record { few = i .few; bodies = omega (arith, i .bodies) })
+    (λ room l options fill some ih h. let i = ih (omega arith) in record { few = i .few; bodies = omega (arith, i .bodies) })
+    (λ room l options fill kind header size e d ih h.
     let f = step-found l kind header size e .sized in
     let i = ih (f .fits) in
     let body : length (part header (size - header) l) ≤ size = simp length-take (omega arith) in
     record { few = omega (arith, i .few); bodies = omega (arith, i .bodies) })
-    l room skip items fill q h
+    l room skip options fill q h

@@ -18,7 +18,8 @@ use Rattle.wire_step.specs.Step.{stepOf}
 use Rattle.wire_step.specs.declared.Step.{Step}
 use Rattle.wire_step.specs.declared.Step.the-variants.{End, Eol, Nop, Found, Malformed as Unsound, Outlawed}
 use Rattle.wire_step.proofs.Steps.{step-found, nop-byte}
-use Rattle.wire_options.specs.Walk.{Item, Walked, listed, faulty, before, itemOf, sound, fillIsZero, walkAt, walkFrom}
+use Rattle.number_octets.specs.Zeros.{zerosOf}
+use Rattle.wire_options.specs.Walk.{Located, Walked, listed, faulty, before, locatedOf, sound, fillIsZero, walkAt, walkFrom}
 use Rattle.wire_options.specs.Strict.{strictAt, strictFrom, walkBy}
 use Rattle.wire_options.specs.declared.walk.Fault.the-variants.{Malformed, Tail, Padded}
 
@@ -87,7 +88,7 @@ count-free nops room b bs other = go (stepOf (b ∷ bs)) refl
 
 -- a sound option: it is taken, and the walk goes on behind it
 found-at : (room b : ℕ) (bs : List ℕ) (kind header size : ℕ) (w : Walked) (rest : ℕ → ℕ → Walked) → (kind ≡ frag → ⊥)
-    → w ≡ walkAt (suc room) (b ∷ bs) (Found kind header size) rest → w ≡ before (itemOf kind header size (b ∷ bs)) (rest room (size - 1))
+    → w ≡ walkAt (suc room) (b ∷ bs) (Found kind header size) rest → w ≡ before (locatedOf kind header size (b ∷ bs)) (rest room (size - 1))
 found-at room b bs kind header size w rest other e = e ∙ simp (ne-eqb kind frag other)
 
 behind-option : (b : ℕ) (bs : List ℕ) (kind header size : ℕ) → stepOf (b ∷ bs) ≡ Found kind header size → drop (size - 1) bs ≡ drop size (b ∷ bs)
@@ -96,39 +97,43 @@ behind-option b bs kind header size e =
     ap (λ (n : ℕ). drop n (b ∷ bs)) down
 
 pub strict-found : (nops room : ℕ) (l : List ℕ) (kind header size : ℕ) → stepOf l ≡ Found kind header size → (kind ≡ frag → ⊥)
-    → strictFrom nops (suc room) 0 l ≡ before (itemOf kind header size l) (strictFrom 0 room 0 (drop size l))
+    → strictFrom nops (suc room) 0 l ≡ before (locatedOf kind header size l) (strictFrom 0 room 0 (drop size l))
 unfolding stepOf
 strict-found nops room [] kind header size e other = absurd (let z : _≡_ {A = ℕ} 0 1 = cc in omega arith)
 strict-found nops room (b ∷ bs) kind header size e other =
     found-at room b bs kind header size (strictFrom nops (suc room) 0 (b ∷ bs)) (λ left skip. strictFrom 0 left skip bs) other
     (strict-other nops (suc room) b bs (Found kind header size) e tt)
-    ∙ ap (before (itemOf kind header size (b ∷ bs)))
+    ∙ ap (before (locatedOf kind header size (b ∷ bs)))
     (strict-skip 0 room (size - 1) bs ∙ ap (strictFrom 0 room 0) (behind-option b bs kind header size e))
 
 plain-found : (room : ℕ) (l : List ℕ) (kind header size : ℕ) → stepOf l ≡ Found kind header size → (kind ≡ frag → ⊥)
-    → walkFrom (suc room) 0 l ≡ before (itemOf kind header size l) (walkFrom room 0 (drop size l))
+    → walkFrom (suc room) 0 l ≡ before (locatedOf kind header size l) (walkFrom room 0 (drop size l))
 unfolding stepOf
 plain-found room [] kind header size e other = absurd (let z : _≡_ {A = ℕ} 0 1 = cc in omega arith)
 plain-found room (b ∷ bs) kind header size e other =
     found-at room b bs kind header size (walkFrom (suc room) 0 (b ∷ bs)) (λ left skip. walkFrom left skip bs) other
     (walk-other Plain (suc room) b bs (Found kind header size) e tt)
-    ∙ ap (before (itemOf kind header size (b ∷ bs)))
+    ∙ ap (before (locatedOf kind header size (b ∷ bs)))
     (walk-skip room (size - 1) bs ∙ ap (walkFrom room 0) (behind-option b bs kind header size e))
 
 pub walk-found : (s : Strictness) (room : ℕ) (l : List ℕ) (kind header size : ℕ) → stepOf l ≡ Found kind header size → (kind ≡ frag → ⊥)
-    → walkBy s (suc room) 0 l ≡ before (itemOf kind header size l) (walkBy s room 0 (drop size l))
+    → walkBy s (suc room) 0 l ≡ before (locatedOf kind header size l) (walkBy s room 0 (drop size l))
 walk-found Plain room l kind header size e other = plain-found room l kind header size e other
 walk-found Strict room l kind header size e other = strict-found 0 room l kind header size e other
 
 -- ---- padded, or as plain
 
+-- a walk that is "padded", at some place
+abbrev pub IsPadded : Walked → Type 0
+IsPadded walked = (remains : ℕ) × (walked ≡ faulty Padded remains)
+
 abbrev OrPlain : Walked → Walked → Type 0
-OrPlain strict plain = (strict ≡ faulty Padded) ⊎ (strict ≡ plain)
+OrPlain strict plain = IsPadded strict ⊎ (strict ≡ plain)
 
-before-either : (item : Item) (v w : Walked) → OrPlain v w → OrPlain (before item v) (before item w)
-before-either item v w o = ⊎-elim (λ e. inl (ap (before item) e)) (λ e. inr (ap (before item) e)) o
+before-either : (option : Located) (v w : Walked) → OrPlain v w → OrPlain (before option v) (before option w)
+before-either option v w o = ⊎-elim (λ p. inl (p .0, ap (before option) (p .1))) (λ e. inr (ap (before option) e)) o
 
-pub strict-or-plain : (l : List ℕ) (nops room skip : ℕ) → (strictFrom nops room skip l ≡ faulty Padded) ⊎ (strictFrom nops room skip l ≡ walkFrom room skip l)
+pub strict-or-plain : (l : List ℕ) (nops room skip : ℕ) → IsPadded (strictFrom nops room skip l) ⊎ (strictFrom nops room skip l ≡ walkFrom room skip l)
 unfolding strictFrom walkFrom
 strict-or-plain [] nops room skip = inr refl
 strict-or-plain (b ∷ bs) nops room (suc skip) = strict-or-plain bs nops room skip
@@ -146,15 +151,16 @@ strict-or-plain (b ∷ bs) nops room zero = go (stepOf (b ∷ bs)) (λ n left sk
     Rest : Type 0
     Rest = (n left skip : ℕ) → OrPlain (strictFrom n left skip bs) (walkFrom left skip bs)
 
-    counted : (t : Bool) → Rest → OrPlain (cond t (faulty Padded) (strict (suc nops) room 0)) (plain room 0)
-    counted true ih = inl refl
+    counted : (t : Bool) → Rest → OrPlain (cond t (faulty Padded (length l)) (strict (suc nops) room 0)) (plain room 0)
+    counted true ih = inl (length l, refl)
     counted false ih = ih (suc nops) room 0
 
-    found : (t : Bool) (r : ℕ) (item : Item) (skip : ℕ) → Rest
-        → OrPlain (cond t (faulty Malformed) (sound r item (λ left. strict 0 left skip))) (cond t (faulty Malformed) (sound r item (λ left. plain left skip)))
-    found true r item skip ih = inr refl
-    found false zero item skip ih = inr refl
-    found false (suc r) item skip ih = before-either item (strict 0 r skip) (plain r skip) (ih 0 r skip)
+    found : (t : Bool) (r : ℕ) (option : Located) (skip : ℕ) → Rest
+        → OrPlain (cond t (faulty Malformed (length l)) (sound r option (λ left. strict 0 left skip)))
+        (cond t (faulty Malformed (length l)) (sound r option (λ left. plain left skip)))
+    found true r option skip ih = inr refl
+    found false zero option skip ih = inr refl
+    found false (suc r) option skip ih = before-either option (strict 0 r skip) (plain r skip) (ih 0 r skip)
 
     go : (step : Step) → Rest → OrPlain (strictAt nops room l step strict) (walkAt room l step plain)
     go End ih = inr refl
@@ -162,51 +168,53 @@ strict-or-plain (b ∷ bs) nops room zero = go (stepOf (b ∷ bs)) (λ n left sk
     go Unsound ih = inr refl
     go Outlawed ih = inr refl
     go Nop ih = counted (isPadding Strict (suc nops)) ih
-    go (Found kind header size) ih = found (eqb kind frag) room (itemOf kind header size l) (size - 1) ih
+    go (Found kind header size) ih = found (eqb kind frag) room (locatedOf kind header size l) (size - 1) ih
 
 -- the same of the walk that the host chose
-pub padded-or-plain : (s : Strictness) (room : ℕ) (l : List ℕ) → (walkBy s room 0 l ≡ faulty Padded) ⊎ (walkBy s room 0 l ≡ walkFrom room 0 l)
+pub padded-or-plain : (s : Strictness) (room : ℕ) (l : List ℕ) → IsPadded (walkBy s room 0 l) ⊎ (walkBy s room 0 l ≡ walkFrom room 0 l)
 padded-or-plain Plain room l = inr refl
 padded-or-plain Strict room l = strict-or-plain l 0 room 0
 
 -- a list that is read is read as plainly
-pub listed-plain : (s : Strictness) (room : ℕ) (l : List ℕ) (items : List Item) (fill : ℕ) → walkBy s room 0 l ≡ listed items fill
-    → walkFrom room 0 l ≡ listed items fill
-listed-plain s room l items fill q =
-    ⊎-elim (λ e. absurd (let both : faulty Padded ≡ listed items fill = sym e ∙ q in let z : _≡_ {A = ℕ} 0 1 = cc in omega arith)) (λ e. sym e ∙ q)
+pub listed-plain : (s : Strictness) (room : ℕ) (l : List ℕ) (options : List Located) (fill : ℕ) → walkBy s room 0 l ≡ listed options fill
+    → walkFrom room 0 l ≡ listed options fill
+listed-plain s room l options fill q =
+    ⊎-elim (λ p. absurd (let both : faulty Padded (p .0) ≡ listed options fill = sym (p .1) ∙ q in let z : _≡_ {A = ℕ} 0 1 = cc in omega arith))
+    (λ e. sym e ∙ q)
     (padded-or-plain s room l)
 
 -- ---- the plain walk is never "padded"
 
-before-unpadded : (item : Item) (w : Walked) → (w ≡ faulty Padded → ⊥) → before item w ≡ faulty Padded → ⊥
-before-unpadded item (listed items fill) h e = let z : _≡_ {A = ℕ} 0 1 = cc in omega arith
-before-unpadded item (faulty f) h e = h e
+before-unpadded : (option : Located) (w : Walked) (n : ℕ) → (w ≡ faulty Padded n → ⊥) → before option w ≡ faulty Padded n → ⊥
+before-unpadded option (listed options fill) n h e = let z : _≡_ {A = ℕ} 0 1 = cc in omega arith
+before-unpadded option (faulty f m) n h e = h e
 
-pub plain-unpadded : (l : List ℕ) (room skip : ℕ) → walkFrom room skip l ≡ faulty Padded → ⊥
+pub plain-unpadded : (l : List ℕ) (room skip remains : ℕ) → walkFrom room skip l ≡ faulty Padded remains → ⊥
 unfolding walkFrom
-plain-unpadded [] room skip q = let z : _≡_ {A = ℕ} 0 1 = cc in omega arith
-plain-unpadded (b ∷ bs) room (suc skip) q = plain-unpadded bs room skip q
-plain-unpadded (b ∷ bs) room zero q = go (stepOf (b ∷ bs)) q (λ left skip e. plain-unpadded bs left skip e)
+plain-unpadded [] room skip n q = let z : _≡_ {A = ℕ} 0 1 = cc in omega arith
+plain-unpadded (b ∷ bs) room (suc skip) n q = plain-unpadded bs room skip n q
+plain-unpadded (b ∷ bs) room zero n q = go (stepOf (b ∷ bs)) q (λ left skip e. plain-unpadded bs left skip n e)
   where
     l : List ℕ
     l = b ∷ bs
 
     Rest : Type 0
-    Rest = (left skip : ℕ) → walkFrom left skip bs ≡ faulty Padded → ⊥
+    Rest = (left skip : ℕ) → walkFrom left skip bs ≡ faulty Padded n → ⊥
 
-    ended : (t : Bool) → cond t (listed [] (length l)) (faulty Tail) ≡ faulty Padded → ⊥
+    ended : (t : Bool) → cond t (listed [] (length l)) (faulty Tail (length l - zerosOf l)) ≡ faulty Padded n → ⊥
     ended true q = let z : _≡_ {A = ℕ} 0 1 = cc in omega arith
     ended false q = let z : _≡_ {A = ℕ} 0 1 = cc in omega arith
 
-    found : (t : Bool) (r : ℕ) (item : Item) (skip : ℕ) → cond t (faulty Malformed) (sound r item (λ left. walkFrom left skip bs)) ≡ faulty Padded → Rest → ⊥
-    found true r item skip q ih = let z : _≡_ {A = ℕ} 0 1 = cc in omega arith
-    found false zero item skip q ih = let z : _≡_ {A = ℕ} 0 1 = cc in omega arith
-    found false (suc r) item skip q ih = before-unpadded item (walkFrom r skip bs) (ih r skip) q
+    found : (t : Bool) (r : ℕ) (option : Located) (skip : ℕ)
+        → cond t (faulty Malformed (length l)) (sound r option (λ left. walkFrom left skip bs)) ≡ faulty Padded n → Rest → ⊥
+    found true r option skip q ih = let z : _≡_ {A = ℕ} 0 1 = cc in omega arith
+    found false zero option skip q ih = let z : _≡_ {A = ℕ} 0 1 = cc in omega arith
+    found false (suc r) option skip q ih = before-unpadded option (walkFrom r skip bs) n (ih r skip) q
 
-    go : (step : Step) → walkAt room l step (λ left skip. walkFrom left skip bs) ≡ faulty Padded → Rest → ⊥
+    go : (step : Step) → walkAt room l step (λ left skip. walkFrom left skip bs) ≡ faulty Padded n → Rest → ⊥
     go End q ih = let z : _≡_ {A = ℕ} 0 1 = cc in omega arith
     go Eol q ih = ended (fillIsZero l) q
     go Unsound q ih = let z : _≡_ {A = ℕ} 0 1 = cc in omega arith
     go Outlawed q ih = let z : _≡_ {A = ℕ} 0 1 = cc in omega arith
     go Nop q ih = ih room 0 q
-    go (Found kind header size) q ih = found (eqb kind frag) room (itemOf kind header size l) (size - 1) q ih
+    go (Found kind header size) q ih = found (eqb kind frag) room (locatedOf kind header size l) (size - 1) q ih

@@ -4,7 +4,8 @@ use mathlib.Core.List.{List}
 use Prim.Native.Nat.{ℕ, zero, suc}
 use lib.Dec.{eqb}
 use lib.ListN.{length}
-use Rattle.wire_nops.specs.Nops.{nopsOf, isPadding}
+use Rattle.number_octets.specs.Zeros.{zerosOf}
+use Rattle.wire_nops.specs.Nops.{nopLimit, nopsOf, isPadding}
 use Rattle.wire_nops.specs.declared.Strictness.{Strictness}
 use Rattle.wire_step.specs.Kinds.{frag}
 use Rattle.wire_step.specs.Step.{stepOf}
@@ -19,24 +20,24 @@ use Rattle.wire_options.specs.declared.walk.Progress.the-variants.{On, E
 
 -- a sound option, where there is room for one
 abbrev pub roomProgress : ℕ → ℕ → Apcs → Progress
-roomProgress zero size apcs = Failed Crowded
+roomProgress zero size apcs = Failed Crowded 0
 roomProgress (suc room) size apcs = On room size apcs
 
--- EOL: the fill, or a tail
+-- EOL: the fill, or a tail, met behind the zeros
 abbrev pub endProgress : List ℕ → Progress
-endProgress l = cond (fillIsZero l) (Ended (length l)) (Failed Tail)
+endProgress l = cond (fillIsZero l) (Ended (length l)) (Failed Tail (zerosOf l))
 
--- NOPs: all that stand in a row
+-- NOPs: all that stand in a row, or padding, met behind as many as there may be
 abbrev pub nopProgress : Strictness → ℕ → ℕ → Progress
-nopProgress strictness room nops = cond (isPadding strictness nops) (Failed Padded) (On room nops Absent)
+nopProgress strictness room nops = cond (isPadding strictness nops) (Failed Padded nopLimit) (On room nops Absent)
 
 abbrev pub progressIn : Strictness → ℕ → List ℕ → Step → Progress
 progressIn strictness room l End = Ended 0
 progressIn strictness room l Eol = endProgress l
 progressIn strictness room l Nop = nopProgress strictness room (nopsOf l)
-progressIn strictness room l (Found kind header size) = cond (eqb kind frag) (Failed Malformed) (roomProgress room size (apcOf (itemOf kind header size l)))
-progressIn strictness room l Unsound = Failed Malformed
-progressIn strictness room l Outlawed = Failed Unsafe
+progressIn strictness room l (Found kind header size) = cond (eqb kind frag) (Failed Malformed 0) (roomProgress room size (apcOf (itemOf kind header size l)))
+progressIn strictness room l Unsound = Failed Malformed 0
+progressIn strictness room l Outlawed = Failed Unsafe 0
 
 unfoldable pub progressOf : Strictness → ℕ → List ℕ → Progress
 progressOf strictness room l = progressIn strictness room l (stepOf l)

@@ -1,8 +1,9 @@
--- The walk in the reading that the host chose (document 02, R-6). The strict walk counts the NOPs in a row, and the eighth is "padded"; "any other
+-- The walk in the reading that the host chose (document 02, R-6). The strict walk counts the NOPs in a row, and is "padded" at the eighth; "any other
 -- option starts the count again". All else is the plain walk's.
 use mathlib.Core.Bool.{cond}
 use mathlib.Core.List.{List, [], _∷_}
 use Prim.Native.Nat.{ℕ, zero, suc}
+use lib.ListN.{length}
 use Rattle.wire_nops.specs.Nops.{isPadding}
 use Rattle.wire_nops.specs.declared.Strictness.{Strictness}
 use Rattle.wire_nops.specs.declared.Strictness.the-variants.{Plain, Strict}
@@ -14,7 +15,7 @@ use Rattle.wire_options.specs.declared.walk.Fault.the-variants.{Padded}
 
 -- What follows from the step at the front of `l`, behind `nops` NOPs in a row. `rest nops room skip` is the walk behind its first byte.
 abbrev pub strictAt : ℕ → ℕ → List ℕ → Step → (ℕ → ℕ → ℕ → Walked) → Walked
-strictAt nops room l Nop rest = cond (isPadding Strict (suc nops)) (faulty Padded) (rest (suc nops) room 0)
+strictAt nops room l Nop rest = cond (isPadding Strict (suc nops)) (faulty Padded (length l)) (rest (suc nops) room 0)
 strictAt nops room l (Found kind header size) rest = walkAt room l (Found kind header size) (rest 0)
 strictAt nops room l End rest = walkAt room l End (rest 0)
 strictAt nops room l Eol rest = walkAt room l Eol (rest 0)

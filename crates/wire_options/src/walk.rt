@@ -1,9 +1,11 @@
 // The walk over a list of options in which FRAG has no place: what is behind a leading FRAG, or the whole list where there is none.
 use number_octets::zeros;
+use number_offsets::PacketOffset;
 use wire_nops::Strictness;
 use wire_step::Step;
 ghost use mathlib.Core.Path.{_≡_};
-ghost use Prim.Native.Nat.{_<_};
+ghost use Prim.Native.Nat.{_+_, _<_};
+ghost use lib.ListN.{length};
 ghost use Rattle.wire_nops.specs.Nops.{nopsOf};
 ghost use Rattle.wire_options.specs.Walk.{joined, walkAnswer};
 ghost use Rattle.wire_options.specs.Strict.{walkBy};
@@ -43,7 +45,8 @@ pub enum Walk {
         fill: usize,
         apcs: Apcs,
     },
-    Faulty(Fault),
+    // The fault met first, and where.
+    Faulty(Fault, PacketOffset),
 }
 
 // What one step of the walk comes to.
@@ -57,12 +60,14 @@ enum Progress {
     Ended {
         fill: usize,
     },
-    Failed(Fault),
+    // A fault, met so many bytes further on.
+    Failed(Fault, usize),
 }
 
-// Walks a list that may have `room` options.
-pub fn walk_list(list: &[u8], room: usize, strictness: Strictness) -> Walk
-    ensures { λ r. ⌜ r ≡ walkAnswer (walkBy strictness room 0 (now (list .entry))) ⌝ }
+// Walks the list that stands at packet offset `base` and may have `room` options.
+pub fn walk_list(list: &[u8], base: PacketOffset, room: usize, strictness: Strictness) -> Walk
+    requires { ⌜ base .0 + length (now list) < 18446744073709551616 ⌝ }
+    ensures { λ r. ⌜ r ≡ walkAnswer (base .0 + length (now (list .entry))) (walkBy strictness room 0 (now (list .entry))) ⌝ }
 {
     let mut at = 0;
     let mut left = room;
@@ -86,8 +91,8 @@ pub fn walk_list(list: &[u8], room: usize, strictness: Strictness) -> Walk
                     apcs,
                 };
             }
-            Progress::Failed(fault) => {
-                return Walk::Faulty(fault);
+            Progress::Failed(fault, ahead) => {
+                return Walk::Faulty(fault, PacketOffset(base.0 + at + ahead));
             }
         }
     }
@@ -109,10 +114,10 @@ fn progress_at(rest: &[u8], room: usize, strictness: Strictness) -> Progress
         Step::Nop => nops_at(rest, room, strictness),
         Step::Found { kind, header, size } => {
             if kind == FRAG {
-                return Progress::Failed(Fault::Malformed);
+                return Progress::Failed(Fault::Malformed, 0);
             }
             if room == 0 {
-                return Progress::Failed(Fault::Crowded);
+                return Progress::Failed(Fault::Crowded, 0);
             }
             if kind == APC {
                 let value = number_octets::get_u32(rest, header);
@@ -120,30 +125,30 @@ fn progress_at(rest: &[u8], room: usize, strictness: Strictness) -> Progress
             }
             on(room - 1, size, Apcs::Absent)
         }
-        Step::Malformed => Progress::Failed(Fault::Malformed),
-        Step::Outlawed => Progress::Failed(Fault::Unsafe),
+        Step::Malformed => Progress::Failed(Fault::Malformed, 0),
+        Step::Outlawed => Progress::Failed(Fault::Unsafe, 0),
     }
 }
 
-// NOPs stand at the front: all in a row are passed at once.
+// NOPs stand at the front: all in a row are passed at once. Padding is met at the one behind as many as there may be.
 fn nops_at(rest: &[u8], room: usize, strictness: Strictness) -> Progress
     ensures { λ r. ⌜ r ≡ nopProgress strictness room (nopsOf (now (rest .entry))) ⌝ }
 {
     if wire_nops::is_padded(rest, strictness) {
-        return Progress::Failed(Fault::Padded);
+        return Progress::Failed(Fault::Padded, wire_nops::NOP_LIMIT);
     }
     let nops = wire_nops::leading_nops(rest);
     on(room, nops, Apcs::Absent)
 }
 
-// EOL stands at the front: with all behind it, it is the fill, which is zero bytes.
+// EOL stands at the front: with all behind it, it is the fill, which is zero bytes. A tail is met at the first other one.
 fn end_at(rest: &[u8]) -> Progress
     ensures { λ r. ⌜ r ≡ endProgress (now (rest .entry)) ⌝ }
 {
     if zeros::all_zero(rest) {
         return Progress::Ended { fill: rest.len() };
     }
-    Progress::Failed(Fault::Tail)
+    Progress::Failed(Fault::Tail, zeros::leading_zeros(rest))
 }
 
 fn on(room: usize, size: usize, apcs: Apcs) -> Progress

@@ -1,5 +1,6 @@
 pub mod Causes
 pub mod Lists
+pub mod Offsets
 pub mod Refusals
 pub mod Rereadings
 pub mod Rereads

@@ -18,7 +18,7 @@ use Rattle.wire_options.proofs.Stricts.{listed-plain}
 use Rattle.wire_options.specs.declared.walk.Fault.the-variants.{Malformed as malformedList, Unsafe as unsafeList, FragData as fragData, Crowded as crowdedList, Tail as tailed, Padded as paddedList}
 use Rattle.wire_surplus.specs.Surplus.{startOf}
 use Rattle.wire_reading.specs.Reading.{isOdd, isRead}
-use Rattle.wire_original.specs.Rereading.{ReAnswer, refused, rereads, originalOptionless, rewalked, restarted, reTests, reAnswered, rereading}
+use Rattle.wire_original.specs.Rereading.{ReAnswer, refused, rereads, originalOptionless, offsetFor, rewalked, restarted, reTests, reAnswered, rereading}
 use Rattle.wire_surplus.specs.declared.Start.{Start}
 use Rattle.wire_surplus.specs.declared.Start.the-variants.{Empty, Short as shortArea, Pad as badPad, Unsummed as noSum, BadSum as badSum, List as ListAt}
 use Rattle.wire_reading.specs.declared.Verdict.{Verdict}
@@ -46,14 +46,14 @@ module _ (how : Strictness) (original : List ℕ) (r : ℕ) (x : Rereading) (v :
 
   rewalked-lists : (from : ℕ) (w : Walked) → from ≤ length original → walkBy how optionLimit 0 (drop from original) ≡ w
       → rewalked original r from w ≡ rereads x → RelistsIn original x
-  rewalked-lists from (listed items fill) h e q =
-      subst (RelistsBy original) q (record { items = items; ordered = h; ends = refl; walks = listed-plain how optionLimit (drop from original) items fill e; counts = refl })
-  rewalked-lists from (faulty unsafeList) h e q = absurd (let z : _≡_ {A = ℕ} 0 1 = cc in omega arith)
-  rewalked-lists from (faulty malformedList) h e q = absurd (optionless-not Malformed refl q)
-  rewalked-lists from (faulty fragData) h e q = absurd (optionless-not FragData refl q)
-  rewalked-lists from (faulty crowdedList) h e q = absurd (optionless-not Crowded refl q)
-  rewalked-lists from (faulty tailed) h e q = absurd (optionless-not Tail refl q)
-  rewalked-lists from (faulty paddedList) h e q = absurd (optionless-not Padded refl q)
+  rewalked-lists from (listed options fill) h e q =
+      subst (RelistsBy original) q (record { found = options; ordered = h; ends = refl; walks = listed-plain how optionLimit (drop from original) options fill e; counts = refl })
+  rewalked-lists from (faulty unsafeList n) h e q = absurd (let z : _≡_ {A = ℕ} 0 1 = cc in omega arith)
+  rewalked-lists from (faulty malformedList n) h e q = absurd (optionless-not (Malformed (offsetFor original n)) refl q)
+  rewalked-lists from (faulty fragData n) h e q = absurd (optionless-not (FragData (offsetFor original n)) refl q)
+  rewalked-lists from (faulty crowdedList n) h e q = absurd (optionless-not (Crowded (offsetFor original n)) refl q)
+  rewalked-lists from (faulty tailed n) h e q = absurd (optionless-not (Tail (offsetFor original n)) refl q)
+  rewalked-lists from (faulty paddedList n) h e q = absurd (optionless-not (Padded (offsetFor original n)) refl q)
 
   restarted-lists : (odd : Bool) (start : Start) → r ≤ length original → startOf odd true (drop r original) ≡ start
       → restarted how original r start ≡ rereads x → RelistsIn original x

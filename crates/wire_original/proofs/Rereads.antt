@@ -23,7 +23,7 @@ use Rattle.wire_options.specs.declared.walk.Fault.the-variants.{
 }
 use Rattle.wire_surplus.specs.Surplus.{startOf}
 use Rattle.wire_reading.specs.Reading.{isOdd}
-use Rattle.wire_original.specs.Rereading.{places, ReAnswer, refused, rereads, originalOptionless, rewalked, restarted, reTests, reAnswered, rereading}
+use Rattle.wire_original.specs.Rereading.{places, ReAnswer, refused, rereads, originalOptionless, offsetFor, rewalked, restarted, reTests, reAnswered, rereading}
 use Rattle.wire_surplus.specs.declared.Start.{Start}
 use Rattle.wire_surplus.specs.declared.Start.the-variants.{
   Empty,
@@ -61,13 +61,13 @@ optionless-by r verdict = record {
 }
 
 rewalked-by : (original : List ℕ) (r from : ℕ) (w : Walked) → RereadBy r (rewalked original r from w)
-rewalked-by original r from (listed items fill) = record { user = refl; options-only-with-read = inl refl }
-rewalked-by original r from (faulty unsafeList) = tt
-rewalked-by original r from (faulty malformedList) = optionless-by r Malformed
-rewalked-by original r from (faulty fragData) = optionless-by r FragData
-rewalked-by original r from (faulty crowdedList) = optionless-by r Crowded
-rewalked-by original r from (faulty tailed) = optionless-by r Tail
-rewalked-by original r from (faulty paddedList) = optionless-by r Padded
+rewalked-by original r from (listed options fill) = record { user = refl; options-only-with-read = inl refl }
+rewalked-by original r from (faulty unsafeList n) = tt
+rewalked-by original r from (faulty malformedList n) = optionless-by r (Malformed (offsetFor original n))
+rewalked-by original r from (faulty fragData n) = optionless-by r (FragData (offsetFor original n))
+rewalked-by original r from (faulty crowdedList n) = optionless-by r (Crowded (offsetFor original n))
+rewalked-by original r from (faulty tailed n) = optionless-by r (Tail (offsetFor original n))
+rewalked-by original r from (faulty paddedList n) = optionless-by r (Padded (offsetFor original n))
 
 restarted-by : (how : Strictness) (original : List ℕ) (r : ℕ) (start : Start) → RereadBy r (restarted how original r start)
 restarted-by how original r Empty = optionless-by r Bare

@@ -9,6 +9,7 @@ use Prim.Native.Nat.{ℕ, _+_}
 use lib.ListN.{drop}
 use Rattle.number_tests.specs.Tests.{firstOf}
 use Rattle.number_offsets.specs.Offsets.{udpHeader}
+use Rattle.number_offsets.specs.declared.PacketOffset.{PacketOffset}
 use Rattle.wire_nops.specs.declared.Strictness.{Strictness}
 use Rattle.wire_nops.specs.declared.Strictness.the-variants.{Plain}
 use Rattle.wire_options.specs.Walk.{optionLimit}
@@ -22,7 +23,7 @@ use Rattle.wire_original.specs.Rereading.{ReAnswer, originalOptionless, 
 
 module _ (how : Strictness) (original : List ℕ) (r : ℕ) where
   abbrev OrPlain : ReAnswer → ReAnswer → Type 0
-  OrPlain a b = (a ≡ originalOptionless r Padded) ⊎ (a ≡ b)
+  OrPlain a b = ((at : PacketOffset) × (a ≡ originalOptionless r (Padded at))) ⊎ (a ≡ b)
 
   restarted-or-plain : (start : Start) → OrPlain (restarted how original r start) (restarted Plain original r start)
   restarted-or-plain Empty = inr refl
@@ -31,10 +32,11 @@ module _ (how : Strictness) (original : List ℕ) (r : ℕ) where
   restarted-or-plain Unsummed = inr refl
   restarted-or-plain BadSum = inr refl
   restarted-or-plain (ListAt at) =
-      ⊎-elim (λ e. inl (ap (rewalked original r (r + at)) e)) (λ e. inr (ap (rewalked original r (r + at)) e))
+      ⊎-elim (λ p. inl (_, ap (rewalked original r (r + at)) (p .1))) (λ e. inr (ap (rewalked original r (r + at)) e))
       (padded-or-plain how optionLimit (drop (r + at) original))
 
-  pub rereading-or-plain : (rereading how original r ≡ originalOptionless r Padded) ⊎ (rereading how original r ≡ rereading Plain original r)
+  pub rereading-or-plain : ((at : PacketOffset) × (rereading how original r ≡ originalOptionless r (Padded at)))
+      ⊎ (rereading how original r ≡ rereading Plain original r)
   unfolding rereading
   rereading-or-plain = go (firstOf (reTests original r))
     where

@@ -17,4 +17,4 @@ rewalkedBy original r from (WalkListed count fill apcs) = rereads (record {
   fill = fill;
   apc = apcBy (take r original) apcs;
 })
-rewalkedBy original r from (WalkFaulty fault) = originalFaulty r fault
+rewalkedBy original r from (WalkFaulty fault at) = originalFaulty r fault at

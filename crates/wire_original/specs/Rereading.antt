@@ -2,13 +2,14 @@
 use mathlib.Core.Bool.{Bool, true}
 use mathlib.Core.List.{List, [], _∷_}
 use mathlib.Core.Option.{Option, none, some}
-use Prim.Native.Nat.{ℕ, _+_}
+use Prim.Native.Nat.{ℕ, _+_, _-_}
 use lib.Dec.{ltb}
 use lib.ListN.{length, take, drop}
 use Rattle.number_tests.specs.Tests.{firstOf}
-use Rattle.number_offsets.specs.Offsets.{udpHeader}
+use Rattle.number_offsets.specs.Offsets.{udpHeader, offsetOf}
+use Rattle.number_offsets.specs.declared.PacketOffset.{PacketOffset}
 use Rattle.wire_nops.specs.declared.Strictness.{Strictness}
-use Rattle.wire_options.specs.Walk.{Walked, listed, faulty, optionLimit}
+use Rattle.wire_options.specs.Walk.{Walked, listed, faulty, itemsIn, optionLimit}
 use Rattle.wire_options.specs.Strict.{walkBy}
 use Rattle.wire_options.specs.declared.walk.Fault.{Fault}
 use Rattle.wire_options.specs.declared.walk.Fault.the-variants.{Malformed as malformedList, Unsafe as unsafeList, FragData as fragData, Crowded as crowdedList, Tail as tailed, Padded as paddedList}
@@ -49,26 +50,30 @@ pub data ReAnswer : Type 0 where
 abbrev pub originalOptionless : ℕ → Verdict → ReAnswer
 originalOptionless r verdict = rereads (record { user = places 0 r; verdict = verdict; options = places 0 0; count = 0; fill = 0; apc = Absent })
 
--- 5: verdict unsafe, nothing delivered
-abbrev pub originalFaulty : ℕ → Fault → ReAnswer
-originalFaulty r unsafeList = refused 5
-originalFaulty r malformedList = originalOptionless r Malformed
-originalFaulty r fragData = originalOptionless r FragData
-originalFaulty r crowdedList = originalOptionless r Crowded
-originalFaulty r tailed = originalOptionless r Tail
-originalFaulty r paddedList = originalOptionless r Padded
+-- a fault that was met at an offset; 5: verdict unsafe, nothing delivered
+abbrev pub originalFaulty : ℕ → Fault → PacketOffset → ReAnswer
+originalFaulty r unsafeList at = refused 5
+originalFaulty r malformedList at = originalOptionless r (Malformed at)
+originalFaulty r fragData at = originalOptionless r (FragData at)
+originalFaulty r crowdedList at = originalOptionless r (Crowded at)
+originalFaulty r tailed at = originalOptionless r (Tail at)
+originalFaulty r paddedList at = originalOptionless r (Padded at)
+
+-- "In a reread original an offset is 8 plus the place" (document 02, R-7): the place from which so many bytes remain
+abbrev pub offsetFor : List ℕ → ℕ → PacketOffset
+offsetFor original remains = offsetOf (record { 0 = length original - remains })
 
 -- the list starts at place `from`; FRAG has no place in it
 abbrev pub rewalked : List ℕ → ℕ → ℕ → Walked → ReAnswer
-rewalked original r from (listed items fill) = rereads (record {
+rewalked original r from (listed list fill) = rereads (record {
   user = places 0 r;
   verdict = Read;
   options = places from (length original);
-  count = length items;
+  count = length list;
   fill = fill;
-  apc = apcOf (take r original) (apcValues items);
+  apc = apcOf (take r original) (apcValues (itemsIn list));
 })
-rewalked original r from (faulty fault) = originalFaulty r fault
+rewalked original r from (faulty fault remains) = originalFaulty r fault (offsetFor original remains)
 
 abbrev pub restarted : Strictness → List ℕ → ℕ → Start → ReAnswer
 restarted how original r Empty = originalOptionless r Bare

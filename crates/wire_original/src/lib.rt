@@ -1,5 +1,6 @@
 // Rereading an original that was reassembled from fragments.
 use number_offsets::OriginalOffset;
+use number_offsets::PacketOffset;
 use wire_nops::Strictness;
 use wire_options::walk;
 use wire_options::walk::Fault;
@@ -87,7 +88,8 @@ fn relisted(
 {
     let at = from.0;
     let user_end = r.0;
-    let list = walk::walk_list(&original[at..], walk::OPTION_LIMIT, strictness);
+    let base = number_offsets::offset_of(from);
+    let list = walk::walk_list(&original[at..], base, walk::OPTION_LIMIT, strictness);
     match list {
         Walk::Listed { count, fill, apcs } => RereadOutcome::Accepted(Rereading {
             user: OriginalExtent {
@@ -103,20 +105,21 @@ fn relisted(
             fill,
             apc: wire_reading::apc_of(original, 0, user_end, apcs),
         }),
-        Walk::Faulty(fault) => faulty(r, fault),
+        Walk::Faulty(fault, met) => faulty(r, fault, met),
     }
 }
 
-fn faulty(r: OriginalOffset, fault: Fault) -> RereadOutcome
-    ensures { λ a. ⌜ reAnswerOf a ≡ originalFaulty (r .0) fault ⌝ }
+// A fault that was met at `at`, which counts from the UDP header of the original too.
+fn faulty(r: OriginalOffset, fault: Fault, at: PacketOffset) -> RereadOutcome
+    ensures { λ a. ⌜ reAnswerOf a ≡ originalFaulty (r .0) fault at ⌝ }
 {
     match fault {
         Fault::Unsafe => RereadOutcome::Refused(RereadRefusal::UnsafeOption),
-        Fault::Malformed => optionless(r, Verdict::Malformed),
-        Fault::FragData => optionless(r, Verdict::FragData),
-        Fault::Crowded => optionless(r, Verdict::Crowded),
-        Fault::Tail => optionless(r, Verdict::Tail),
-        Fault::Padded => optionless(r, Verdict::Padded),
+        Fault::Malformed => optionless(r, Verdict::Malformed(at)),
+        Fault::FragData => optionless(r, Verdict::FragData(at)),
+        Fault::Crowded => optionless(r, Verdict::Crowded(at)),
+        Fault::Tail => optionless(r, Verdict::Tail(at)),
+        Fault::Padded => optionless(r, Verdict::Padded(at)),
     }
 }
 

@@ -7,7 +7,7 @@ use Prim.Native.Nat.{ℕ, _+_, _≤_}
 use native.Mathlib.Omega.{arith}
 use lib.ListN.{length, drop, length-drop}
 use Rattle.wire_nops.specs.declared.Strictness.{Strictness}
-use Rattle.wire_options.specs.Walk.{Item, listed, walkFrom, optionLimit}
+use Rattle.wire_options.specs.Walk.{Located, listed, walkFrom, optionLimit}
 use Rattle.wire_options.specs.declared.walk.Fault.the-variants.{Malformed as malformedList, Unsafe as unsafeList, FragData as fragData, Crowded as crowdedList, Tail as tailed, Padded as paddedList}
 use Rattle.wire_area.specs.Area.{AreaWalk, plain, piece, fault, areaOf}
 use Rattle.wire_area.specs.declared.Fragment.{Fragment}
@@ -28,12 +28,12 @@ Other Short = Unit {0}
 Other Pad = Unit {0}
 Other Unsummed = Unit {0}
 Other BadSum = Unit {0}
-Other Malformed = Unit {0}
-Other Unsafe = Unit {0}
-Other FragData = Unit {0}
-Other Crowded = Unit {0}
-Other Tail = Unit {0}
-Other Padded = Unit {0}
+Other (Malformed at) = Unit {0}
+Other (Unsafe at) = Unit {0}
+Other (FragData at) = Unit {0}
+Other (Crowded at) = Unit {0}
+Other (Tail at) = Unit {0}
+Other (Padded at) = Unit {0}
 Other Read = ⊥
 Other (Piece f) = ⊥
 
@@ -44,18 +44,18 @@ module _
     (size : ℕ)
     (fits : size ≤ length p)
     (by-other : (end : ℕ) (verdict : Verdict) → Other verdict → P (optionless end verdict))
-    (by-list : (from : ℕ) (items : List Item) (fill : ℕ) → from ≤ length p → walkFrom optionLimit 0 (drop from p) ≡ listed items fill
-    → P (walked p size from (plain items fill)))
+    (by-list : (from : ℕ) (options : List Located) (fill : ℕ) → from ≤ length p → walkFrom optionLimit 0 (drop from p) ≡ listed options fill
+    → P (walked p size from (plain options fill)))
     (by-piece : (from : ℕ) (f : Fragment) → from ≤ length p → areaOf how (noData size) from (drop from p) ≡ piece f → P (optionless size (Piece f))) where
   walked-by : (from : ℕ) (w : AreaWalk) → from ≤ length p → areaOf how (noData size) from (drop from p) ≡ w → P (walked p size from w)
-  walked-by from (plain items fill) h e = by-list from items fill h (area-plain how (noData size) from (drop from p) items fill e)
+  walked-by from (plain options fill) h e = by-list from options fill h (area-plain how (noData size) from (drop from p) options fill e)
   walked-by from (piece f) h e = by-piece from f h e
-  walked-by from (fault malformedList) h e = by-other _ Malformed tt
-  walked-by from (fault unsafeList) h e = by-other _ Unsafe tt
-  walked-by from (fault fragData) h e = by-other _ FragData tt
-  walked-by from (fault crowdedList) h e = by-other _ Crowded tt
-  walked-by from (fault tailed) h e = by-other _ Tail tt
-  walked-by from (fault paddedList) h e = by-other _ Padded tt
+  walked-by from (fault malformedList at) h e = by-other _ (Malformed at) tt
+  walked-by from (fault unsafeList at) h e = by-other _ (Unsafe at) tt
+  walked-by from (fault fragData at) h e = by-other _ (FragData at) tt
+  walked-by from (fault crowdedList at) h e = by-other _ (Crowded at) tt
+  walked-by from (fault tailed at) h e = by-other _ (Tail at) tt
+  walked-by from (fault paddedList at) h e = by-other _ (Padded at) tt
 
   pub started-by : (odd unused : Bool) (start : Start) → startOf odd unused (drop size p) ≡ start → P (started how p size start)
   started-by odd unused Empty e = by-other _ Bare tt

@@ -12,9 +12,9 @@ use Rattle.wire_surplus.specs.declared.Start.the-variants.{Empty, Short, Pad, U
 use Rattle.wire_reading.specs.Reading.{noData, extent, walked, started}
 
 walked-user : (p : List ℕ) (size from : ℕ) (w : AreaWalk) → walked p size from w .user ≡ extent udpHeader size
-walked-user p size from (plain items fill) = refl
+walked-user p size from (plain options fill) = refl
 walked-user p size from (piece f) = refl
-walked-user p size from (fault f) = refl
+walked-user p size from (fault f at) = refl
 
 pub started-user : (how : Strictness) (p : List ℕ) (size : ℕ) (start : Start) → started how p size start .user ≡ extent udpHeader size
 started-user how p size Empty = refl

@@ -10,7 +10,7 @@ use lib.ListN.{length, drop, length-drop}
 use lib.Seq.{drop-drop}
 use Rattle.number_octets.specs.Octets.{part}
 use Rattle.number_octets.proofs.Laws.{part-rest}
-use Rattle.wire_options.specs.Walk.{Item, listed, walkFrom, optionLimit}
+use Rattle.wire_options.specs.Walk.{Located, listed, walkFrom, optionLimit}
 use Rattle.wire_options.proofs.Rests.{Fills}
 use Rattle.wire_options.proofs.Fills.{walk-fills}
 use Rattle.wire_reading.specs.Reading.{isRead}
@@ -20,11 +20,11 @@ use Rattle.wire_reading.specs.declared.Reading.{Reading}
 
 -- what the bytes from `from` to `to` list
 pub record Lists (bytes : List ℕ) (from to count fill : ℕ) : Type 0 where
-  pub items : List Item
+  pub found : List Located
   pub ordered : from ≤ to
   pub ends : to ≡ length bytes
-  pub walks : walkFrom optionLimit 0 (drop from bytes) ≡ listed items fill
-  pub counts : length items ≡ count
+  pub walks : walkFrom optionLimit 0 (drop from bytes) ≡ listed found fill
+  pub counts : length found ≡ count
 
 -- they are all the bytes from `from` on
 pub lists-part : (bytes : List ℕ) (from to count fill : ℕ) → Lists bytes from to count fill → part from (to - from) bytes ≡ drop from bytes
@@ -33,7 +33,7 @@ lists-part bytes from to count fill l = ap (λ (n : ℕ). part from (n - from) b
 -- the last `fill` bytes are zero, and stand within the option list
 pub lists-fill : (bytes : List ℕ) (from to count fill : ℕ) → Lists bytes from to count fill → Fills from bytes fill
 lists-fill bytes from to count fill l =
-    let f = walk-fills optionLimit 0 (drop from bytes) (l .items) fill (omega arith) (l .walks) in
+    let f = walk-fills optionLimit 0 (drop from bytes) (l .found) fill (omega arith) (l .walks) in
     let left : length (drop from bytes) ≡ length bytes - from = length-drop from bytes in
     let within : fill + from ≤ length bytes = omega (arith, f .within, l .ordered, l .ends) in
     let place : from + (length (drop from bytes) - fill) ≡ length bytes - fill = omega arith in
@@ -52,11 +52,11 @@ read-verdict Short e = absurd (let z : _≡_ {A = ℕ} 0 1 = cc in omega arith)
 read-verdict Pad e = absurd (let z : _≡_ {A = ℕ} 0 1 = cc in omega arith)
 read-verdict Unsummed e = absurd (let z : _≡_ {A = ℕ} 0 1 = cc in omega arith)
 read-verdict BadSum e = absurd (let z : _≡_ {A = ℕ} 0 1 = cc in omega arith)
-read-verdict Malformed e = absurd (let z : _≡_ {A = ℕ} 0 1 = cc in omega arith)
-read-verdict Unsafe e = absurd (let z : _≡_ {A = ℕ} 0 1 = cc in omega arith)
-read-verdict FragData e = absurd (let z : _≡_ {A = ℕ} 0 1 = cc in omega arith)
-read-verdict Crowded e = absurd (let z : _≡_ {A = ℕ} 0 1 = cc in omega arith)
-read-verdict Tail e = absurd (let z : _≡_ {A = ℕ} 0 1 = cc in omega arith)
-read-verdict Padded e = absurd (let z : _≡_ {A = ℕ} 0 1 = cc in omega arith)
+read-verdict (Malformed at) e = absurd (let z : _≡_ {A = ℕ} 0 1 = cc in omega arith)
+read-verdict (Unsafe at) e = absurd (let z : _≡_ {A = ℕ} 0 1 = cc in omega arith)
+read-verdict (FragData at) e = absurd (let z : _≡_ {A = ℕ} 0 1 = cc in omega arith)
+read-verdict (Crowded at) e = absurd (let z : _≡_ {A = ℕ} 0 1 = cc in omega arith)
+read-verdict (Tail at) e = absurd (let z : _≡_ {A = ℕ} 0 1 = cc in omega arith)
+read-verdict (Padded at) e = absurd (let z : _≡_ {A = ℕ} 0 1 = cc in omega arith)
 read-verdict Read e = refl
 read-verdict (Piece f) e = absurd (let z : _≡_ {A = ℕ} 0 1 = cc in omega arith)

@@ -33,4 +33,4 @@ readingBy payload size from (Listed count fill apcs) = record {
   apc = apcBy (part udpHeader (size - udpHeader) payload) apcs;
 }
 readingBy payload size from (pieceArea fragment) = optionless size (Piece fragment)
-readingBy payload size from (Faulty f) = optionless size (verdictOf f)
+readingBy payload size from (Faulty f at) = optionless size (verdictOf f at)

@@ -6,10 +6,11 @@ use lib.Dec.{eqb}
 use lib.ListN.{length, drop}
 use Rattle.number_octets.specs.Octets.{number, part}
 use Rattle.number_offsets.specs.Offsets.{udpHeader}
+use Rattle.number_offsets.specs.declared.PacketOffset.{PacketOffset}
 use Rattle.number_crc32c.specs.Crc.{crcOf}
 use Rattle.wire_nops.specs.declared.Strictness.{Strictness}
 use Rattle.wire_step.specs.Kinds.{apc}
-use Rattle.wire_options.specs.Walk.{Item}
+use Rattle.wire_options.specs.Walk.{Item, itemsIn}
 use Rattle.wire_area.specs.Area.{AreaWalk, plain, piece, fault, areaOf}
 use Rattle.wire_options.specs.declared.walk.Fault.{Fault}
 use Rattle.wire_options.specs.declared.walk.Fault.the-variants.{Malformed as malformedList, Unsafe as unsafeList, FragData as fragData, Crowded as crowdedList, Tail as tailed, Padded as paddedList}
@@ -58,26 +59,27 @@ apcOf user (v ∷ values) = cond (allAre (crcOf user) (v ∷ values)) Right Wron
 abbrev pub optionless : ℕ → Verdict → Reading
 optionless size verdict = record { user = extent udpHeader size; verdict = verdict; options = extent 0 0; count = 0; fill = 0; apc = Absent }
 
-abbrev pub verdictOf : Fault → Verdict
-verdictOf malformedList = Malformed
-verdictOf unsafeList = Unsafe
-verdictOf fragData = FragData
-verdictOf crowdedList = Crowded
-verdictOf tailed = Tail
-verdictOf paddedList = Padded
+-- a fault that was met at an offset
+abbrev pub verdictOf : Fault → PacketOffset → Verdict
+verdictOf malformedList at = Malformed at
+verdictOf unsafeList at = Unsafe at
+verdictOf fragData at = FragData at
+verdictOf crowdedList at = Crowded at
+verdictOf tailed at = Tail at
+verdictOf paddedList at = Padded at
 
 -- the reading after the walk of a list at packet offset `from`
 abbrev pub walked : List ℕ → ℕ → ℕ → AreaWalk → Reading
-walked payload size from (plain items fill) = record {
+walked payload size from (plain list fill) = record {
   user = extent udpHeader size;
   verdict = Read;
   options = extent from (length payload);
-  count = length items;
+  count = length list;
   fill = fill;
-  apc = apcOf (part udpHeader (size - udpHeader) payload) (apcValues items);
+  apc = apcOf (part udpHeader (size - udpHeader) payload) (apcValues (itemsIn list));
 }
 walked payload size from (piece fragment) = optionless size (Piece fragment)
-walked payload size from (fault f) = optionless size (verdictOf f)
+walked payload size from (fault f at) = optionless size (verdictOf f at)
 
 -- whether there is no user data: L is that of a header alone
 abbrev pub noData : ℕ → Bool
@@ -103,11 +105,11 @@ isRead Short = false
 isRead Pad = false
 isRead Unsummed = false
 isRead BadSum = false
-isRead Malformed = false
-isRead Unsafe = false
-isRead FragData = false
-isRead Crowded = false
-isRead Tail = false
-isRead Padded = false
+isRead (Malformed at) = false
+isRead (Unsafe at) = false
+isRead (FragData at) = false
+isRead (Crowded at) = false
+isRead (Tail at) = false
+isRead (Padded at) = false
 isRead Read = true
 isRead (Piece fragment) = false

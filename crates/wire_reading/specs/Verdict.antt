@@ -2,9 +2,12 @@
 use mathlib.Core.List.{List, [], _∷_}
 use mathlib.Core.Option.{Option, none, some}
 use Prim.Native.Nat.{ℕ}
+use Rattle.number_offsets.specs.declared.PacketOffset.{PacketOffset}
 use Rattle.wire_area.specs.declared.Fragment.{Fragment}
 use Rattle.wire_reading.specs.declared.Apc.{Apc}
 use Rattle.wire_reading.specs.declared.Apc.the-variants.{Absent, Right, Wrong}
+use Rattle.wire_reading.specs.declared.FaultOffset.{FaultOffset}
+use Rattle.wire_reading.specs.declared.FaultOffset.the-variants.{At, Absent as Nowhere}
 use Rattle.wire_reading.specs.declared.Verdict.{Verdict}
 use Rattle.wire_reading.specs.declared.Verdict.the-variants.{Bare, Short, Pad, Unsummed, BadSum, Malformed, Unsafe, FragData, Crowded, Tail, Padded, Read, Piece}
 
@@ -88,14 +91,34 @@ verdictSays Short = said 1 shortWord
 verdictSays Pad = said 2 padWord
 verdictSays Unsummed = said 3 unsummedWord
 verdictSays BadSum = said 4 badsumWord
-verdictSays Malformed = said 5 malformedWord
-verdictSays Unsafe = said 6 unsafeWord
-verdictSays FragData = said 7 fragdataWord
-verdictSays Crowded = said 8 crowdedWord
-verdictSays Tail = said 11 tailWord
-verdictSays Padded = said 12 paddedWord
+verdictSays (Malformed at) = said 5 malformedWord
+verdictSays (Unsafe at) = said 6 unsafeWord
+verdictSays (FragData at) = said 7 fragdataWord
+verdictSays (Crowded at) = said 8 crowdedWord
+verdictSays (Tail at) = said 11 tailWord
+verdictSays (Padded at) = said 12 paddedWord
 verdictSays Read = said 9 readWord
 verdictSays (Piece fragment) = record { number = 10; word = pieceWord; values = some fragment }
+
+-- "with a fault verdict of the walk, the offset where the fault was met" (document 02, R-7); the others have none
+abbrev pub faultAt : Verdict → Option PacketOffset
+faultAt (Malformed at) = some at
+faultAt (Unsafe at) = some at
+faultAt (FragData at) = some at
+faultAt (Crowded at) = some at
+faultAt (Tail at) = some at
+faultAt (Padded at) = some at
+faultAt Bare = none
+faultAt Short = none
+faultAt Pad = none
+faultAt Unsummed = none
+faultAt BadSum = none
+faultAt Read = none
+faultAt (Piece fragment) = none
+
+abbrev pub offsetFrom : FaultOffset → Option PacketOffset
+offsetFrom (At at) = some at
+offsetFrom Nowhere = none
 
 -- "APC none, right or wrong"
 abbrev pub apcSays : Apc → Said Unit

@@ -16,6 +16,7 @@ ghost use Rattle.wire_area.specs.Area.{areaOf};
 ghost use Rattle.wire_surplus.specs.Surplus.{startOf};
 ghost use Rattle.wire_reading.specs.Reading.{payloadLimit, isOdd, optionless, verdictOf, walked, noData, started, isRead};
 ghost use Rattle.wire_reading.specs.ByWalk.{apcBy};
+ghost use Rattle.wire_reading.specs.Verdict.{faultAt, offsetFrom};
 
 // Bytes of a packet, counted from its UDP header.
 #[repr(C)]
@@ -31,21 +32,22 @@ pub enum Apc {
     Wrong,
 }
 
-// The verdict on the surplus area, in document 01's words; `Bare` is its "none". In the order of the numbers that hosts get.
+// The verdict on the surplus area, in document 01's words; `Bare` is its "none". In the order of the numbers that hosts get. A fault of the list
+// has the offset where it was met.
 pub enum Verdict {
     Bare,
     Short,
     Pad,
     Unsummed,
     BadSum,
-    Malformed,
-    Unsafe,
-    FragData,
-    Crowded,
+    Malformed(PacketOffset),
+    Unsafe(PacketOffset),
+    FragData(PacketOffset),
+    Crowded(PacketOffset),
     Read,
     Piece(Fragment),
-    Tail,
-    Padded,
+    Tail(PacketOffset),
+    Padded(PacketOffset),
 }
 
 pub struct Reading {
@@ -101,7 +103,7 @@ fn listed(payload: &[u8], size: usize, from: PacketOffset, strictness: Strictnes
             apc: apc_of(payload, UDP_HEADER, size, apcs),
         },
         Area::Piece(fragment) => optionless(size, Verdict::Piece(fragment)),
-        Area::Faulty(fault) => optionless(size, verdict_of(fault)),
+        Area::Faulty(fault, at) => optionless(size, verdict_of(fault, at)),
     }
 }
 
@@ -122,16 +124,17 @@ pub fn apc_of(bytes: &[u8], from: usize, to: usize, apcs: Apcs) -> Apc
     }
 }
 
-fn verdict_of(fault: Fault) -> Verdict
-    ensures { λ r. ⌜ r ≡ verdictOf fault ⌝ }
+// The verdict of a fault that was met at `at`.
+pub fn verdict_of(fault: Fault, at: PacketOffset) -> Verdict
+    ensures { λ r. ⌜ r ≡ verdictOf fault at ⌝ }
 {
     match fault {
-        Fault::Malformed => Verdict::Malformed,
-        Fault::Unsafe => Verdict::Unsafe,
-        Fault::FragData => Verdict::FragData,
-        Fault::Crowded => Verdict::Crowded,
-        Fault::Tail => Verdict::Tail,
-        Fault::Padded => Verdict::Padded,
+        Fault::Malformed => Verdict::Malformed(at),
+        Fault::Unsafe => Verdict::Unsafe(at),
+        Fault::FragData => Verdict::FragData(at),
+        Fault::Crowded => Verdict::Crowded(at),
+        Fault::Tail => Verdict::Tail(at),
+        Fault::Padded => Verdict::Padded(at),
     }
 }
 
@@ -145,14 +148,40 @@ pub fn is_read(verdict: Verdict) -> bool
         Verdict::Pad => false,
         Verdict::Unsummed => false,
         Verdict::BadSum => false,
-        Verdict::Malformed => false,
-        Verdict::Unsafe => false,
-        Verdict::FragData => false,
-        Verdict::Crowded => false,
-        Verdict::Tail => false,
-        Verdict::Padded => false,
+        Verdict::Malformed(_) => false,
+        Verdict::Unsafe(_) => false,
+        Verdict::FragData(_) => false,
+        Verdict::Crowded(_) => false,
+        Verdict::Tail(_) => false,
+        Verdict::Padded(_) => false,
         Verdict::Read => true,
         Verdict::Piece(_) => false,
+    }
+}
+
+// The offset that a verdict has, if it is a fault of the list.
+pub enum FaultOffset {
+    At(PacketOffset),
+    Absent,
+}
+
+pub fn fault_at(verdict: Verdict) -> FaultOffset
+    ensures { λ r. ⌜ offsetFrom r ≡ faultAt verdict ⌝ }
+{
+    match verdict {
+        Verdict::Bare => FaultOffset::Absent,
+        Verdict::Short => FaultOffset::Absent,
+        Verdict::Pad => FaultOffset::Absent,
+        Verdict::Unsummed => FaultOffset::Absent,
+        Verdict::BadSum => FaultOffset::Absent,
+        Verdict::Malformed(at) => FaultOffset::At(at),
+        Verdict::Unsafe(at) => FaultOffset::At(at),
+        Verdict::FragData(at) => FaultOffset::At(at),
+        Verdict::Crowded(at) => FaultOffset::At(at),
+        Verdict::Tail(at) => FaultOffset::At(at),
+        Verdict::Padded(at) => FaultOffset::At(at),
+        Verdict::Read => FaultOffset::Absent,
+        Verdict::Piece(_) => FaultOffset::Absent,
     }
 }
 

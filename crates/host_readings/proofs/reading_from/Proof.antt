@@ -10,6 +10,9 @@ fragment-in-requires c κs = search needs
 verdict-number-requires : tie.Need-verdict-number-requires
 verdict-number-requires c κs = search needs
 
+fault-offset-requires : tie.Need-fault-offset-requires
+fault-offset-requires c κs = search needs
+
 apc-number-requires : tie.Need-apc-number-requires
 apc-number-requires c κs = search needs
 
@@ -18,8 +21,13 @@ flag-requires c κs = search needs
 
 returns : tie.Need-returns
 returns c =
-    simp
-    (c .flag .ensures, c .before .apc-number .ensures, c .before .before .verdict-number .ensures, c .before .before .before .before .before .before .before .fragment-in .ensures)
+    simp (
+      c .flag .ensures,
+      c .before .apc-number .ensures,
+      c .before .before .fault-offset .ensures,
+      c .before .before .before .verdict-number .ensures,
+      c .before .before .before .before .before .before .before .before .fragment-in .ensures,
+    )
 
 pub reading-from-spec : {M : Type 1} → statement M
 reading-from-spec =
@@ -27,6 +35,7 @@ reading-from-spec =
     (tie.spec
     fragment-in-requires
     verdict-number-requires
+    fault-offset-requires
     apc-number-requires
     flag-requires
     returns)

@@ -17,7 +17,7 @@ list-sound-requires : tie.Need-list-sound-requires
 unfolding optionLimit
 list-sound-requires c κs =
     let a = c .before .before .before .before .before .before .before .args in
-    answer-sound (walkFrom optionLimit 0 (a .options .now)) _ _ _
+    answer-sound _ (walkFrom optionLimit 0 (a .options .now)) _ _ _
     (sym (c .before .before .before .before .walk-list .ensures) ∙ c .before .before .walked .given .1)
 
 enum-told : tie.Need-enum-told
@@ -42,7 +42,7 @@ same-length-2 c = search needs
 returns-2 : tie.Need-returns-2
 unfolding optionLimit walkFrom
 returns-2 c =
-    answer-faulty _ _ _ _ _ (sym (c .before .before .before .before .before .before .before .walk-list .ensures)
+    answer-faulty _ _ _ _ _ _ _ (sym (c .before .before .before .before .before .before .before .walk-list .ensures)
     ∙ c .before .before .before .before .before .enum-told .given .1) (c .before .before .list-sound2 .ensures)
 
 pub list-options-spec : {M : Type 1} → statement M

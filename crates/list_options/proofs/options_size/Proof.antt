@@ -11,7 +11,7 @@ use Rattle.number_octets.proofs.Laws.{part-rest}
 use Rattle.wire_step.specs.Step.{stepOf}
 use Rattle.wire_step.specs.declared.Step.{Step}
 use Rattle.wire_step.specs.declared.Step.the-variants.{Found}
-use Rattle.wire_options.specs.Walk.{Item, itemOf, walkFrom, optionLimit, itemsOf}
+use Rattle.wire_options.specs.Walk.{Located, itemOf, walkFrom, optionLimit, optionsOf}
 use Rattle.wire_options.proofs.Runs.{run-some}
 use Rattle.wire_options.proofs.Rests.{Rest, RestBy, Taken, rest-over, rest-nops, rest-by}
 use Rattle.list_entry.specs.Option.{encodedOption}
@@ -23,9 +23,9 @@ use Rattle.list_options.proofs.options_size.Tie as tie
 
 -- what was counted, and what is still to come
 record Counted (l : List ℕ) (at total : ℕ) : Type 0 where
-  items : List Item
-  rest : Rest l at items
-  sum : total + length (code items) ≡ length (whole l)
+  options : List Located
+  rest : Rest l at options
+  sum : total + length (code options) ≡ length (whole l)
 
 abbrev Inv-loop : tie.InvT-loop
 Inv-loop options at₀ total₀ at total = (at ≤ length options) × Counted options at total
@@ -51,11 +51,11 @@ module _ (c : tie.After-next Inv-loop μ-loop) where
   stepped = sym (c .next .ensures ∙ ap stepOf (part-rest (at-loop .loop .at) all))
 
   -- what it leaves to come
-  to-come : {step : Step} → c .next .result ≡ step → RestBy all (at-loop .loop .at) (at-loop .loop .inv .1 .items) step
+  to-come : {step : Step} → c .next .result ≡ step → RestBy all (at-loop .loop .at) (at-loop .loop .inv .1 .options) step
   to-come e = rest-by (at-loop .loop .inv .1 .rest) (c .before .before .loop-test .taken) (stepped ∙ e)
 
   -- nothing more to count
-  ended : [] ≡ at-loop .loop .inv .1 .items → at-loop .loop .total ≡ length (whole all)
+  ended : [] ≡ at-loop .loop .inv .1 .options → at-loop .loop .total ≡ length (whole all)
   ended e = omega (arith, at-loop .loop .inv .1 .sum, ap length (code-none e))
 
 -- the option that was found
@@ -75,7 +75,7 @@ module _ (c : tie.After-known-told Inv-loop μ-loop) where
   found : stepOf (rest here) ≡ Found kind header size
   found = stepped here ∙ c .before .met .given .1
 
-  taken : Taken (all here) (at-loop here .loop .at) (at-loop here .loop .inv .1 .items) kind header size
+  taken : Taken (all here) (at-loop here .loop .at) (at-loop here .loop .inv .1 .options) kind header size
   taken = to-come here (c .before .met .given .1)
 
 -- the sum so far and one option more
@@ -93,8 +93,8 @@ counted c =
 loop-holds : tie.Need-loop-holds Inv-loop μ-loop
 loop-holds c =
     let a = c .before in
-    let items : List Item = itemsOf (walkFrom optionLimit 0 (a .args .options .now)) in
-    (omega arith, record { items = items; rest = rest-sound (a .args .options .now) (a .pre); sum = omega arith })
+    let options : List Located = optionsOf (walkFrom optionLimit 0 (a .args .options .now)) in
+    (omega arith, record { options = options; rest = rest-sound (a .args .options .now) (a .pre); sum = omega arith })
 
 sub-next : tie.Need-sub-next Inv-loop μ-loop
 sub-next c = omega arith
@@ -125,7 +125,7 @@ loop-again c =
     let l = at-loop n .loop in (
       c .behind-nops .ensures .1,
       record {
-        items = l .inv .1 .items;
+        options = l .inv .1 .options;
         rest = rw (c .behind-nops .ensures .0) (rest-nops (l .inv .1 .rest));
         sum = l .inv .1 .sum;
       },
@@ -157,7 +157,7 @@ loop-less-2 c = let t = taken (c .before .before) in omega (arith, t .some, t .f
 
 loop-again-2 : tie.Need-loop-again-2 Inv-loop μ-loop
 loop-again-2 c =
-    let t = taken (c .before .before) in (t .fits, record { items = t .later; rest = t .rest; sum = counted c })
+    let t = taken (c .before .before) in (t .fits, record { options = t .later; rest = t .rest; sum = counted c })
 
 enum-told-2 : tie.Need-enum-told-2 Inv-loop μ-loop
 enum-told-2 c = search needs

@@ -11,7 +11,7 @@ use Rattle.number_octets.proofs.Laws.{part-rest}
 use Rattle.wire_step.specs.Step.{stepOf}
 use Rattle.wire_step.specs.declared.Step.{Step}
 use Rattle.wire_step.specs.declared.Step.the-variants.{Found}
-use Rattle.wire_options.specs.Walk.{Item, itemOf, walkFrom, optionLimit, itemsOf}
+use Rattle.wire_options.specs.Walk.{Located, itemOf, walkFrom, optionLimit, optionsOf}
 use Rattle.wire_options.proofs.Runs.{run-some}
 use Rattle.wire_options.proofs.Rests.{Rest, RestBy, Taken, rest-over, rest-nops, rest-by}
 use Rattle.list_entry.specs.Option.{encodedOption}
@@ -24,9 +24,9 @@ use Rattle.list_options.proofs.put_options.Tie as tie
 -- what was written, and what is still to come
 record PutSoFar (l buffer₀ : List ℕ) (start at out : ℕ) (buffer : List ℕ) : Type 0 where
   done : List ℕ
-  items : List Item
-  rest : Rest l at items
-  sum : done ++ code items ≡ whole l
+  options : List Located
+  rest : Rest l at options
+  sum : done ++ code options ≡ whole l
   written : WrittenAt done buffer₀ start out buffer
 
 abbrev Inv-loop : tie.InvT-loop
@@ -42,14 +42,14 @@ module _ (c : tie.At-loop Inv-loop μ-loop) where
   abbrev all : List ℕ
   all = start .args .options .now
 
-  so-far : length (c .loop .inv .1 .done) + length (code (c .loop .inv .1 .items)) ≡ length (whole all)
-  so-far = let i = c .loop .inv .1 in sym (length-append (i .done) (code (i .items))) ∙ ap length (i .sum)
+  so-far : length (c .loop .inv .1 .done) + length (code (c .loop .inv .1 .options)) ≡ length (whole all)
+  so-far = let i = c .loop .inv .1 in sym (length-append (i .done) (code (i .options))) ∙ ap length (i .sum)
 
   as-long : length (c .loop .buffer) ≡ length (start .args .buffer .now)
   as-long = written-length (c .loop .inv .1 .written) (omega (arith, so-far, start .pre .1))
 
   -- nothing more to write
-  ended : [] ≡ c .loop .inv .1 .items → c .loop .buffer ≡ overlay (start .args .buffer .now) (start .args .start) (whole all)
+  ended : [] ≡ c .loop .inv .1 .options → c .loop .buffer ≡ overlay (start .args .buffer .now) (start .args .start) (whole all)
   ended e =
       let i = c .loop .inv .1 in
       i .written .all
@@ -68,7 +68,7 @@ module _ (c : tie.After-next Inv-loop μ-loop) where
   stepped = sym (c .next .ensures ∙ ap stepOf (part-rest (at-loop .loop .at) (all at-loop)))
 
   -- what it leaves to come
-  to-come : {step : Step} → c .next .result ≡ step → RestBy (all at-loop) (at-loop .loop .at) (at-loop .loop .inv .1 .items) step
+  to-come : {step : Step} → c .next .result ≡ step → RestBy (all at-loop) (at-loop .loop .at) (at-loop .loop .inv .1 .options) step
   to-come e = rest-by (at-loop .loop .inv .1 .rest) (c .before .before .loop-test .taken) (stepped ∙ e)
 
 -- the option that was found
@@ -91,7 +91,7 @@ module _ (c : tie.After-known-told Inv-loop μ-loop) where
   found : stepOf (rest here) ≡ Found kind header size
   found = stepped here ∙ c .before .met .given .1
 
-  taken : Taken (all place) (place .loop .at) (place .loop .inv .1 .items) kind header size
+  taken : Taken (all place) (place .loop .at) (place .loop .inv .1 .options) kind header size
   taken = to-come here (c .before .met .given .1)
 
   abbrev one : List ℕ
@@ -110,7 +110,7 @@ loop-holds c =
       omega arith,
       record {
         done = [];
-        items = itemsOf (walkFrom optionLimit 0 (a .args .options .now));
+        options = optionsOf (walkFrom optionLimit 0 (a .args .options .now));
         rest = rest-sound (a .args .options .now) (a .pre .0);
         sum = refl;
         written = written-none _ _;
@@ -147,7 +147,7 @@ loop-again c =
       c .behind-nops .ensures .1,
       record {
         done = l .inv .1 .done;
-        items = l .inv .1 .items;
+        options = l .inv .1 .options;
         rest = rw (c .behind-nops .ensures .0) (rest-nops (l .inv .1 .rest));
         sum = l .inv .1 .sum;
         written = l .inv .1 .written;
@@ -186,7 +186,7 @@ loop-again-2 c =
       taken k .fits,
       record {
         done = i .done ++ one k;
-        items = taken k .later;
+        options = taken k .later;
         rest = taken k .rest;
         sum = append-assoc (i .done) (one k) (code (taken k .later)) ∙ ap (λ (x : List ℕ). i .done ++ x) (sym (code-first (taken k .splits))) ∙ i .sum;
         written = written-both (i .written) put (omega (arith, fits k, length-append (i .done) (one k), p .pre .1));

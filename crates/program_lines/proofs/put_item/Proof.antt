@@ -1,6 +1,6 @@
--- `program_lines::put_item` meets its contract: label, kind, fields and the end of the line are put one behind the other.
+-- `program_lines::put_item` meets its contract: label, kind, fields and the offset are put one behind the other.
 -- Assumes nothing.
-use Rattle.program_lines.specs.Lines.{itemLine}
+use Rattle.program_lines.specs.Lines.{optionLine}
 use Rattle.program_text.proofs.Puts.{put-append, put-room}
 use borrow.Author.Needs.{needs}
 use Rattle.program_lines.proofs.put_item.Statement.{statement}
@@ -21,12 +21,9 @@ put-fields-requires c κs =
     let p = e .before .before .before .before .before .before .before .before .pre in
     (put-room (p .0) (put-append (p .0) (e .before .before .before .put .ensures) (c .before .before .before .put-decimal .ensures)), p .1)
 
-slice-aggregate-put-2 : tie.Need-slice-aggregate-put-2
-slice-aggregate-put-2 c = search needs
-
-put-requires-2 : tie.Need-put-requires-2
-put-requires-2 c κs =
-    let fields = c .before .before .before .before in
+put-offset-requires : tie.Need-put-offset-requires
+put-offset-requires c κs =
+    let fields = c .before .before .before in
     let decimal = fields .before .before .before .before in
     let label = decimal .before .before .before .before in
     let h = label .before .before .before .before .before .pre .0 in
@@ -36,14 +33,14 @@ same-length : tie.Need-same-length
 same-length c = search needs
 
 returns : tie.Need-returns
-unfolding itemLine
+unfolding optionLine
 returns c =
-    let fields = c .before .before .before .before .before .before .before in
+    let fields = c .before .before .before .before .before .before in
     let decimal = fields .before .before .before .before in
     let label = decimal .before .before .before .before in
     let h = label .before .before .before .before .before .pre .0 in
     let named = put-append h (label .put .ensures) (decimal .put-decimal .ensures) in
-    put-append h (put-append h named (fields .put-fields .ensures)) (c .before .before .put2 .ensures)
+    put-append h (put-append h named (fields .put-fields .ensures)) (c .before .before .put-offset .ensures)
 
 pub put-item-spec : {M : Type 1} → statement M
 put-item-spec =
@@ -53,7 +50,6 @@ put-item-spec =
     put-requires
     put-decimal-requires
     put-fields-requires
-    slice-aggregate-put-2
-    put-requires-2
+    put-offset-requires
     same-length
     returns)

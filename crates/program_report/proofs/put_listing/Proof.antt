@@ -1,7 +1,16 @@
 -- `program_report::put_listing` meets its contract: the lines of the options are put and then the fill.
 -- Assumes nothing.
+use mathlib.Core.Path.{_≡_, ap}
+use mathlib.Core.List.{List}
+use Prim.Native.Nat.{ℕ, _+_, _-_}
+use native.Mathlib.Omega.{arith}
+use lib.ListN.{length}
+use Rattle.number_octets.specs.Octets.{part}
+use Rattle.number_octets.proofs.Laws.{length-part}
+use Rattle.wire_options.specs.Walk.{walkFrom, optionLimit, optionsOf}
+use Rattle.program_lines.specs.Lines.{optionLines}
 use Rattle.program_report.specs.Report.{numberLine, listingOf}
-use Rattle.program_text.proofs.Puts.{put-append, put-room}
+use Rattle.program_text.proofs.Puts.{put-as, put-append, put-room}
 use borrow.Author.Needs.{needs}
 use Rattle.program_report.proofs.put_listing.Statement.{statement}
 use Rattle.program_report.proofs.put_listing.Tie as tie
@@ -33,7 +42,14 @@ returns : tie.Need-returns
 unfolding numberLine listingOf
 returns c =
     let items = c .before .before .before .before .before .before .before in
-    put-append (items .before .before .before .before .before .before .before .pre .0) (items .put-items .ensures) (c .before .before .put-line .ensures)
+    let start = items .before .before .before .before .before .before .before in
+    let a = start .args in
+    let from : ℕ = a .options .from .0 in
+    let list : List ℕ = part from (a .options .to .0 - from) (a .payload .now) in
+    let end : from + length list ≡ a .options .to .0 =
+    omega (arith, start .pre .1 .ordered, length-part from (a .options .to .0 - from) (a .payload .now) (omega (arith, start .pre .1 .ordered, start .pre .1 .within))) in
+    put-append (start .pre .0)
+    (put-as (ap (λ (n : ℕ). optionLines n (optionsOf (walkFrom optionLimit 0 list))) end) (items .put-items .ensures)) (c .before .before .put-line .ensures)
 
 pub put-listing-spec : {M : Type 1} → statement M
 put-listing-spec =

@@ -3,7 +3,7 @@
 use mathlib.Core.Path.{sym, ap, _∙_}
 use mathlib.Core.Bool.{Bool, cond}
 use Prim.Native.Nat.{ℕ}
-use Rattle.wire_nops.specs.Nops.{nopsOf}
+use Rattle.wire_nops.specs.Nops.{nopLimit, nopsOf}
 use Rattle.wire_options.specs.declared.walk.Apcs.the-variants.{Absent}
 use Rattle.wire_options.specs.declared.walk.Fault.the-variants.{Padded}
 use Rattle.wire_options.specs.declared.walk.Progress.the-variants.{On, Failed}
@@ -15,9 +15,10 @@ is-padded-requires : tie.Need-is-padded-requires
 is-padded-requires c κs = search needs
 
 returns : tie.Need-returns
+unfolding nopLimit
 returns c =
     let a = c .before .before .before .args in
-    sym (ap (λ (t : Bool). cond t (Failed Padded) (On (a .room) (nopsOf (a .rest .now)) Absent)) (sym (c .before .is-padded .ensures) ∙ c .if1 .taken))
+    sym (ap (λ (t : Bool). cond t (Failed Padded nopLimit) (On (a .room) (nopsOf (a .rest .now)) Absent)) (sym (c .before .is-padded .ensures) ∙ c .if1 .taken))
 
 leading-nops-requires : tie.Need-leading-nops-requires
 leading-nops-requires c κs = search needs
@@ -30,7 +31,7 @@ returns-2 c =
     let a = c .before .before .before .before .before .args in
     c .on .ensures
     ∙ ap (λ (n : ℕ). On (a .room) n Absent) (c .before .leading-nops .ensures .0)
-    ∙ sym (ap (λ (t : Bool). cond t (Failed Padded) (On (a .room) (nopsOf (a .rest .now)) Absent)) (sym (c .before .before .before .is-padded .ensures) ∙ c .before .before .if1 .left))
+    ∙ sym (ap (λ (t : Bool). cond t (Failed Padded nopLimit) (On (a .room) (nopsOf (a .rest .now)) Absent)) (sym (c .before .before .before .is-padded .ensures) ∙ c .before .before .if1 .left))
 
 pub nops-at-spec : {M : Type 1} → statement M
 nops-at-spec =

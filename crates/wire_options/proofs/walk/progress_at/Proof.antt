@@ -66,7 +66,7 @@ an-apc c e =
     apc-found (c .before .before .before .before .before .args .rest .now) (headerOf c) (sizeOf c)
     (found c ∙ ap (λ (k : ℕ). Found k (headerOf c) (sizeOf c)) e)
 
-no-room : (room size : ℕ) (apcs : Apcs) → room ≡ 0 → roomProgress room size apcs ≡ Failed Crowded
+no-room : (room size : ℕ) (apcs : Apcs) → room ≡ 0 → roomProgress room size apcs ≡ Failed Crowded 0
 no-room room size apcs e = ap (λ (r : ℕ). roomProgress r size apcs) e
 
 some-room : (room size : ℕ) (apcs : Apcs) → (room ≡ 0 → ⊥) → roomProgress room size apcs ≡ On (room - 1) size apcs

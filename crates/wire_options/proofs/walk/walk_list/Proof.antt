@@ -14,18 +14,21 @@ use Rattle.wire_options.specs.Walk.{walkAnswer}
 use Rattle.wire_options.specs.Strict.{walkBy}
 use Rattle.wire_options.specs.declared.walk.Apcs.{Apcs}
 use Rattle.wire_options.specs.declared.walk.Apcs.the-variants.{Absent}
+use Rattle.wire_options.specs.declared.walk.Progress.the-variants.{Failed}
+use Rattle.wire_options.specs.declared.walk.Walk.{Walk}
 use Rattle.wire_options.specs.declared.walk.Walk.the-variants.{Listed}
-use Rattle.wire_options.proofs.Walks.{Goes, behind, behind-none, turn-on, joined-absent, progress-goes, tells, answer-none}
+use Rattle.wire_options.proofs.Walks.{Goes, Tells, behind, behind-none, turn-on, joined-absent, progress-goes, tells, answer-none, answer-ended, answer-failed}
 use Rattle.wire_options.proofs.walk.walk_list.Statement.{statement}
 use Rattle.wire_options.proofs.walk.walk_list.Tie as tie
 
 abbrev Inv-loop : tie.InvT-loop
-Inv-loop list room strictness at₀ left₀ apcs₀ at left apcs =
+Inv-loop list base room strictness at₀ left₀ apcs₀ at left apcs =
     (at ≤ length list) × (left ≤ room)
-    × (walkAnswer (walkBy strictness room 0 list) ≡ behind (room - left) apcs (walkAnswer (walkBy strictness left 0 (drop at list))))
+    × (walkAnswer (base .0 + length list) (walkBy strictness room 0 list)
+    ≡ behind (room - left) apcs (walkAnswer (base .0 + length list) (walkBy strictness left 0 (drop at list))))
 
 abbrev μ-loop : tie.MeasureT-loop
-μ-loop list room strictness at₀ left₀ apcs₀ at left apcs = length list - at
+μ-loop list base room strictness at₀ left₀ apcs₀ at left apcs = length list - at
 
 -- the turn that was made, over the rest of the list
 module _ (c : tie.After-progress-at Inv-loop μ-loop) where
@@ -56,12 +59,11 @@ bound c =
 loop-holds : tie.Need-loop-holds Inv-loop μ-loop
 loop-holds c =
     let a = c .before .args in
-    let none : a .room - a .room ≡ 0 = omega arith in (
+    let none : a .room - a .room ≡ 0 = omega arith in
+    let whole : Walk = walkAnswer (a .base .0 + length (a .list .now)) (walkBy (a .strictness) (a .room) 0 (a .list .now)) in (
       search needs,
       search needs,
-      sym
-          (ap (λ (n : ℕ). behind n Absent (walkAnswer (walkBy (a .strictness) (a .room) 0 (a .list .now)))) none
-          ∙ behind-none (walkAnswer (walkBy (a .strictness) (a .room) 0 (a .list .now)))),
+      sym (ap (λ (n : ℕ). behind n Absent whole) none ∙ behind-none whole),
     )
 
 sub-progress-at : tie.Need-sub-progress-at Inv-loop μ-loop
@@ -97,15 +99,15 @@ loop-again c =
     let v = c .before .before .turn .given .0 in (
       omega (arith, bound (c .before .before)),
       omega (arith, g .less, here .loop .inv),
-      turn-on (a .strictness) _ (a .list .now) (a .room) (here .loop .left) (v .0) (here .loop .at) (v .1 .0) (here .loop .apcs) (v .1 .1 .0) (c .join .result)
+      turn-on (a .strictness) (a .base .0 + length (a .list .now)) _ (a .list .now) (a .room) (here .loop .left) (v .0) (here .loop .at) (v .1 .0) (here .loop .apcs) (v .1 .1 .0) (c .join .result)
           (here .loop .inv .1) (here .loop .inv .2) g (c .join .ensures),
     )
 
 enum-known-turn-2 : tie.Need-enum-known-turn-2 Inv-loop μ-loop
 enum-known-turn-2 c = search needs
 
-sub-t18 : tie.Need-sub-t18 Inv-loop μ-loop
-sub-t18 c = omega arith
+sub-t20 : tie.Need-sub-t20 Inv-loop μ-loop
+sub-t20 c = omega arith
 
 returns : tie.Need-returns Inv-loop μ-loop
 returns c =
@@ -114,23 +116,45 @@ returns c =
     let a = here .before .before .args in
     let n : ℕ = a .room - here .loop .left in
     sym (here .loop .inv .2
-    ∙ ap (behind n (here .loop .apcs)) (tells (a .strictness) (here .loop .left) (rest p) _ (some-rest p) (progress-is p ∙ c .before .turn2 .given .1))
+    ∙ ap (behind n (here .loop .apcs)) (answer-ended (a .strictness) (a .base .0 + length (a .list .now)) (here .loop .left) (rest p) _
+    (tells (a .strictness) (here .loop .left) (rest p) _ (some-rest p) (progress-is p ∙ c .before .turn2 .given .1)))
     ∙ ap₂ (λ (k : ℕ) (x : Apcs). Listed k (c .before .turn2 .given .0 .0) x) (add-zero n) (joined-absent (here .loop .apcs)))
 
 enum-known-turn-3 : tie.Need-enum-known-turn-3 Inv-loop μ-loop
 enum-known-turn-3 c = search needs
 
+-- a turn that fails: the fault's place lies within the list
+fails : (c : tie.After-struct-known Inv-loop μ-loop) → let p = c .before .before .before .before in
+    Tells (at-loop p .before .before .args .strictness) (at-loop p .loop .left) (rest p)
+    (Failed (c .before .before .turn3 .given .0 .0) (c .before .before .turn3 .given .0 .1 .0))
+fails c =
+    let p = c .before .before .before .before in
+    tells (at-loop p .before .before .args .strictness) (at-loop p .loop .left) (rest p) _ (some-rest p) (progress-is p ∙ c .before .before .turn3 .given .1)
+
+met-within : (c : tie.After-struct-known Inv-loop μ-loop) → let p = c .before .before .before .before in
+    at-loop p .loop .at + c .before .before .turn3 .given .0 .1 .0 ≤ length (at-loop p .before .before .args .list .now)
+met-within c =
+    let p = c .before .before .before .before in
+    let f = fails c .0 in
+    omega (arith, simp length-drop at f, p .before .before .loop-test .taken)
+
+add-t21 : tie.Need-add-t21 Inv-loop μ-loop
+add-t21 c = omega (arith, met-within c)
+
+add-t22 : tie.Need-add-t22 Inv-loop μ-loop
+add-t22 c = omega (arith, met-within c)
+
 returns-2 : tie.Need-returns-2 Inv-loop μ-loop
 returns-2 c =
-    let p = c .before .before .before in
+    let p = c .before .before .before .before in
     let here = at-loop p in
     let a = here .before .before .args in
     sym (here .loop .inv .2
     ∙ ap (behind (a .room - here .loop .left) (here .loop .apcs))
-    (tells (a .strictness) (here .loop .left) (rest p) _ (some-rest p) (progress-is p ∙ c .before .turn3 .given .1)))
+    (answer-failed (a .strictness) (a .base .0) (here .loop .left) (a .list .now) (here .loop .at) _ _ (here .loop .inv .0) (fails c)))
 
-sub-t19 : tie.Need-sub-t19 Inv-loop μ-loop
-sub-t19 c = omega arith
+sub-t24 : tie.Need-sub-t24 Inv-loop μ-loop
+sub-t24 c = omega arith
 
 returns-3 : tie.Need-returns-3 Inv-loop μ-loop
 returns-3 c =
@@ -138,8 +162,8 @@ returns-3 c =
     let a = here .before .before .args in
     let n : ℕ = a .room - here .loop .left in
     sym (here .loop .inv .2
-    ∙ ap (λ (l : List ℕ). behind n (here .loop .apcs) (walkAnswer (walkBy (a .strictness) (here .loop .left) 0 l))) (drop-of-length-le (a .list .now) (c .loop-test .left))
-    ∙ ap (behind n (here .loop .apcs)) (answer-none (a .strictness) (here .loop .left) 0)
+    ∙ ap (λ (l : List ℕ). behind n (here .loop .apcs) (walkAnswer (a .base .0 + length (a .list .now)) (walkBy (a .strictness) (here .loop .left) 0 l))) (drop-of-length-le (a .list .now) (c .loop-test .left))
+    ∙ ap (behind n (here .loop .apcs)) (answer-none (a .strictness) (a .base .0 + length (a .list .now)) (here .loop .left) 0)
     ∙ ap₂ (λ (k : ℕ) (x : Apcs). Listed k 0 x) (add-zero n) (joined-absent (here .loop .apcs)))
 
 pub walk-list-spec : {M : Type 1} → statement M
@@ -159,9 +183,11 @@ walk-list-spec =
     loop-less
     loop-again
     enum-known-turn-2
-    sub-t18
+    sub-t20
     returns
     enum-known-turn-3
+    add-t21
+    add-t22
     returns-2
-    sub-t19
+    sub-t24
     returns-3)

@@ -1,0 +1,66 @@
+-- `host_options::original_option` meets its contract: the arm knows what was found, at which `originalOption` computes.
+-- Assumes nothing.
+use mathlib.Core.Path.{_≡_, refl, sym, ap, subst, _∙_}
+use Prim.Native.Nat.{ℕ, _+_, _≤_, _<_}
+use native.Mathlib.Omega.{arith}
+use Rattle.number_offsets.specs.declared.PacketOffset.{PacketOffset}
+use Rattle.wire_original.specs.Rereading.{places}
+use Rattle.host_options.specs.Options.{originalOption, Fits}
+use borrow.Author.Needs.{needs}
+use Rattle.host_options.proofs.original_option.Statement.{statement}
+use Rattle.host_options.proofs.original_option.Tie as tie
+
+-- the option that was found ends within a slice
+fits : (c : tie.After-known-told) → let g = c .before .next .given .0 in
+    (g .1 .1 .0 ≤ g .1 .1 .1 .0) × (c .before .before .before .args .from + g .0 + g .1 .1 .1 .0 < 9223372036854775808)
+fits c = let start = c .before .before .before in subst (Fits (start .args .from)) (c .before .next .given .1) (start .pre)
+
+enum-known-next : tie.Need-enum-known-next
+enum-known-next c = search needs
+
+add-place : tie.Need-add-place
+add-place c = omega (arith, fits c .1)
+
+cast-t9 : tie.Need-cast-t9
+cast-t9 c = search needs
+
+offset-of-requires : tie.Need-offset-of-requires
+offset-of-requires c κs = omega (arith, fits c .1)
+
+add-t12 : tie.Need-add-t12
+add-t12 c = let f = fits (c .before) in omega (arith, f .0, f .1)
+
+add-t14 : tie.Need-add-t14
+add-t14 c = omega (arith, fits (c .before) .1)
+
+enum-told : tie.Need-enum-told
+enum-told c = search needs
+
+no-original-option-requires : tie.Need-no-original-option-requires
+no-original-option-requires c κs = search needs
+
+returns : tie.Need-returns
+returns c =
+    let s = c .before in
+    let g = s .before .next .given .0 in
+    let place : ℕ = s .before .before .before .args .from + g .0 in
+    ap (λ (o : PacketOffset). record { found = 1; kind = g .1 .0; offset = o; body = places (place + g .1 .1 .0) (place + g .1 .1 .1 .0) }) (c .offset-of .ensures)
+    ∙ sym (ap (originalOption (s .before .before .before .args .from)) (s .before .next .given .1))
+
+returns-2 : tie.Need-returns-2
+returns-2 c = c .no-original-option .ensures ∙ ap (originalOption (c .before .before .before .args .from)) (sym (c .before .enum-told .given .1))
+
+pub original-option-spec : {M : Type 1} → statement M
+original-option-spec =
+    tie.close
+    (tie.spec
+    enum-known-next
+    add-place
+    cast-t9
+    offset-of-requires
+    add-t12
+    add-t14
+    enum-told
+    no-original-option-requires
+    returns
+    returns-2)

@@ -1,0 +1,9 @@
+pub mod Nexts
+pub mod Options
+pub mod Turns
+pub mod Suffixes
+pub mod Bytes
+pub mod Faults
+pub mod FaultBytes
+pub mod Parts
+pub mod Examples
