@@ -191,7 +191,8 @@ pub fn list_reread(
 }
 
 fn list(options: Options, fill: usize, buffer: &mut [u8]) -> Result<Listing, u32> {
-    let options = options.take(OPTIONS_MOST);
+    // A docket says nothing of where an option stood.
+    let options = options.map(|located| located.option).take(OPTIONS_MOST);
     let mut count = 0;
     let mut length = 1; // a count of at most 32
     for option in options.clone() {
