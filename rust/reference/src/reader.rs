@@ -616,49 +616,26 @@ impl<'a> Iterator for Options<'a> {
     type Item = Located<'a>;
 
     fn next(&mut self) -> Option<Located<'a>> {
-        let list = self.list;
-        let found = first_option(list, self.at)?;
-        self.at = found.next;
-        let body = found.body;
-        let fields = match found.kind {
-            4 => Fields::One(number16(list, body) as u32),
-            5 => Fields::Two(number16(list, body) as u32, u32::from(list[body + 2])),
-            2 | 6 | 7 => Fields::One(number32(list, body)),
-            8 => Fields::Two(number32(list, body), number32(list, body + 4)),
-            _ => Fields::Body(&list[body..found.next]),
-        };
-        let kind = found.kind;
-        Some(Located {
-            offset: PacketOffset(self.from.0 + found.at),
-            option: ReadOption { kind, fields },
-        })
-    }
-}
-
-/// An option of sound length at `at`: its body runs to `next`.
-struct Found {
-    kind: u8,
-    at: usize,
-    body: usize,
-    next: usize,
-}
-
-/// The first option from `at` on that is no NOP; none at the end, at EOL and at
-/// a fault, which a list that was read does not have.
-#[inline]
-fn first_option(list: &[u8], mut at: usize) -> Option<Found> {
-    loop {
-        match step(list, at) {
-            Step::Nop => at = skip_nops(list, at, Strictness::Plain).ok()?,
-            Step::Sound { kind, body, next } => {
-                return Some(Found {
-                    kind,
-                    at,
-                    body,
-                    next,
-                })
+        loop {
+            match step(self.list, self.at) {
+                Step::Nop => self.at = skip_nops(self.list, self.at, Strictness::Plain).ok()?,
+                Step::Sound { kind, body, next } => {
+                    let offset = PacketOffset(self.from.0 + self.at);
+                    self.at = next;
+                    let list = self.list;
+                    let fields = match kind {
+                        4 => Fields::One(number16(list, body) as u32),
+                        5 => Fields::Two(number16(list, body) as u32, u32::from(list[body + 2])),
+                        2 | 6 | 7 => Fields::One(number32(list, body)),
+                        8 => Fields::Two(number32(list, body), number32(list, body + 4)),
+                        _ => Fields::Body(&list[body..next]),
+                    };
+                    let option = ReadOption { kind, fields };
+                    return Some(Located { offset, option });
+                }
+                // A list that was read has no fault.
+                Step::End | Step::Eol | Step::Unsafe | Step::Malformed => return None,
             }
-            Step::End | Step::Eol | Step::Unsafe | Step::Malformed => return None,
         }
     }
 }
@@ -677,29 +654,40 @@ pub struct Standing {
 /// remains of it behind an option's body. `read` says that the verdict is
 /// "read". With anything else that a host may say: none, or what stands there if
 /// it has the form of an option, FRAG too.
+#[inline]
 pub fn next_option(payload: &[u8], read: bool, rest: Range) -> Option<Standing> {
     standing(payload, read, rest, Carrier::Packet)
 }
 
 /// The same of an original, where `rest` and the body are places.
+#[inline]
 pub fn next_reread_option(original: &[u8], read: bool, rest: Range) -> Option<Standing> {
     standing(original, read, rest, Carrier::Original)
 }
 
-#[inline]
+#[inline(always)]
 fn standing(bytes: &[u8], read: bool, rest: Range, carrier: Carrier) -> Option<Standing> {
     if !read || rest.from > rest.to {
         return None;
     }
-    let found = first_option(bytes.get(..rest.to)?, rest.from)?;
-    Some(Standing {
-        kind: found.kind,
-        offset: carrier.offset(found.at),
-        body: Range {
-            from: found.body,
-            to: found.next,
-        },
-    })
+    let list = bytes.get(..rest.to)?;
+    let mut at = rest.from;
+    loop {
+        match step(list, at) {
+            Step::Nop => at = skip_nops(list, at, Strictness::Plain).ok()?,
+            Step::Sound { kind, body, next } => {
+                return Some(Standing {
+                    kind,
+                    offset: carrier.offset(at),
+                    body: Range {
+                        from: body,
+                        to: next,
+                    },
+                })
+            }
+            Step::End | Step::Eol | Step::Unsafe | Step::Malformed => return None,
+        }
+    }
 }
 
 /// Two bytes, big-endian. The caller has tested that they are there.
