@@ -31,6 +31,7 @@ fn wanted() -> Vec<String> {
         add(call, &["no option", "options", "32 options"]);
         add(call, &["an empty body", "an option behind NOPs"]);
         add(call, &["an option behind an extended one"]);
+        add(call, &["from the middle of an option"]);
     }
     for call in ["step", "step in an original"] {
         add(call, &["option", "extended option", "FRAG", "behind NOPs"]);

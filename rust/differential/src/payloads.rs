@@ -242,7 +242,7 @@ fn read_as(
         from: found.options_from,
         to: found.options_to,
     };
-    let walk = steps::walk(counts, Sort::Packet, payload, number, rest, &shown)?;
+    let walk = steps::walk(random, counts, Sort::Packet, payload, number, rest, &shown)?;
     same(&found.count, &walk.len(), &shown)?;
     same(
         &walk,
@@ -325,7 +325,15 @@ fn reread_as(
         from: found.options_from,
         to: found.options_to,
     };
-    let walk = steps::walk(counts, Sort::Original, original, number, rest, &shown)?;
+    let walk = steps::walk(
+        random,
+        counts,
+        Sort::Original,
+        original,
+        number,
+        rest,
+        &shown,
+    )?;
     same(&found.count, &walk.len(), &shown)?;
     same(
         &walk,

@@ -49,8 +49,9 @@ fn step(
 }
 
 /// The options of a reading as the wrapper should give them, each step of both
-/// compared, the one that finds none too.
+/// compared, the one that finds none too; and steps from the middle of one.
 pub fn walk<'a>(
+    random: &mut Random,
     counts: &mut Counts,
     sort: Sort,
     bytes: &'a [u8],
@@ -77,7 +78,7 @@ pub fn walk<'a>(
         }
         behind_extended = found.body.from - at == 4;
         rest.from = found.body.to;
-        options.push(located(bytes, &found));
+        options.push(found);
     }
     let word = match options.len() {
         0 => "no option",
@@ -85,7 +86,14 @@ pub fn walk<'a>(
         _ => "options",
     };
     counts.add(call, word);
-    Ok(options)
+    if !options.is_empty() {
+        let found = random.pick(&options);
+        let at = index(sort, &found);
+        rest.from = at + 1 + random.below(found.body.to - at - 1);
+        counts.add(call, "from the middle of an option");
+        by_both(counts, bytes, verdict, rest, shown)?;
+    }
+    Ok(options.iter().map(|found| located(bytes, found)).collect())
 }
 
 /// The index of an option's kind byte.
