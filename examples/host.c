@@ -3,7 +3,8 @@
  *     gcc -std=c11 -Wall -Wextra -Werror -Iinclude examples/host.c target/staticlib/libhost_calls.a -o target/host-example
  *
  * The logger sends the first fragment of one message after another and never the rest. It fills its own four places again and
- * again; the gauge and the mast get their messages as if it were not there. What this prints stands in examples/host.expected.
+ * again; the gauge and the mast get their messages as if it were not there. Options and faults are shown with their offsets from the
+ * UDP header, so that they can be looked up in a packet trace. What this prints stands in examples/host.expected.
  */
 #include <inttypes.h>
 #include <stdio.h>
@@ -52,6 +53,16 @@ static const uint8_t level_padded[] = {
     0xf4, 0xb9,                                     /* option checksum */
     0x01, 0x01, 0x01, 0x01, 0x01, 0x01, 0x01, 0x01, /* NOPs */
     0x06, 0x06, 0x00, 0x00, 0x01, 0x2c,             /* REQ, token 300 */
+};
+
+/* The same token behind NOPs again, with a last option that is cut short. No checksums, which IPv4 allows. */
+static const uint8_t level_cut_option[] = {
+    0x12, 0x34, 0x14, 0xb4, 0x00, 0x14, 0x00, 0x00, /* UDP header */
+    'l', 'e', 'v', 'e', 'l', ' ', '4', '1', '2', ' ', 'c', 'm',
+    0x00, 0x00,                         /* no option checksum */
+    0x01, 0x01,                         /* NOPs */
+    0x06, 0x06, 0x00, 0x00, 0x01, 0x2c, /* REQ, token 300 */
+    0x08, 0x0a, 0x00, 0x00, 0x00, 0x01, /* TIME, 10 bytes; four of them are missing */
 };
 
 /* A long report in three fragments: 68 bytes of user data, then its own options, 82 bytes in all. */
@@ -148,10 +159,13 @@ static const char *verdict_word(uint32_t verdict)
     return verdict < sizeof words / sizeof words[0] ? words[verdict] : "?";
 }
 
-/* Shows what was read: the user data, the verdict, and the options as an encoded list in hex. */
-static void show(const uint8_t *user, size_t user_length, uint32_t verdict, uint32_t apc, const uint8_t *list, wuraketozo_listing listing)
+/* Shows what was read: the user data, the verdict, where a fault was met, and the options as an encoded list in hex. */
+static void show(const uint8_t *user, size_t user_length, uint32_t verdict, size_t fault_at, uint32_t apc, const uint8_t *list,
+                 wuraketozo_listing listing)
 {
     printf("\"%.*s\", verdict %s", (int)user_length, (const char *)user, verdict_word(verdict));
+    if (fault_at != 0)
+        printf(" at %zu", fault_at);
     if (verdict == WURAKETOZO_READ && listing.refusal == 0) {
         printf(", options ");
         for (size_t i = 0; i < listing.size; i++)
@@ -162,18 +176,40 @@ static void show(const uint8_t *user, size_t user_length, uint32_t verdict, uint
     printf("\n");
 }
 
+/* Shows an option: its kind, its fields or body in hex, and where it stands. */
+static void show_option(uint32_t kind, const uint8_t *body, size_t length, size_t offset)
+{
+    printf("                   kind %" PRIu32 "%s", kind, length > 0 ? " " : "");
+    for (size_t i = 0; i < length; i++)
+        printf("%02x", body[i]);
+    printf(" at %zu\n", offset);
+}
+
 static void show_reading(const uint8_t *payload, size_t length, const wuraketozo_reading *r)
 {
     uint8_t list[128];
     wuraketozo_listing listing = wuraketozo_list(payload, length, r->verdict, r->options, list, sizeof list);
-    show(payload + r->user.from, r->user.to - r->user.from, r->verdict, r->apc, list, listing);
+    wuraketozo_extent rest = r->options;
+    wuraketozo_option option;
+    show(payload + r->user.from, r->user.to - r->user.from, r->verdict, r->fault_at, r->apc, list, listing);
+    while ((option = wuraketozo_next(payload, length, r->verdict, rest)).found) {
+        show_option(option.kind, payload + option.body.from, option.body.to - option.body.from, option.offset);
+        rest.from = option.body.to;
+    }
 }
 
+/* The same of an original: what is in it has places, and an offset is 8 plus the place. */
 static void show_rereading(const uint8_t *original, size_t length, const wuraketozo_rereading *r)
 {
     uint8_t list[128];
     wuraketozo_listing listing = wuraketozo_relist(original, length, r->verdict, r->options, list, sizeof list);
-    show(original + r->user.from, r->user.to - r->user.from, r->verdict, r->apc, list, listing);
+    wuraketozo_original_extent rest = r->options;
+    wuraketozo_original_option option;
+    show(original + r->user.from, r->user.to - r->user.from, r->verdict, r->fault_at, r->apc, list, listing);
+    while ((option = wuraketozo_renext(original, length, r->verdict, rest)).found) {
+        show_option(option.kind, original + option.body.from, option.body.to - option.body.from, option.offset);
+        rest.from = option.body.to;
+    }
 }
 
 /* Shows what came of a fragment; a whole original is read again. */
@@ -288,6 +324,9 @@ int main(void)
     strictness = WURAKETOZO_STRICT;
     RECEIVE(GAUGE, 110, gauge_address, level_padded);
     strictness = WURAKETOZO_PLAIN;
+
+    printf("-- one with an option that is cut short\n");
+    RECEIVE(GAUGE, 200, gauge_address, level_cut_option);
 
     printf("-- a long report, its fragments out of order, one of them twice\n");
     RECEIVE(GAUGE, 1000, gauge_address, weir_last);

@@ -15,9 +15,11 @@
  *  - a record may hold any bytes: it has no padding, and each of its bytes counts. One that fails the record test is refused with 22;
  *  - no other thread uses them during the call. The library keeps no state of its own.
  *
- * Positions are of two kinds that must not mix. Bytes of a payload are a `wuraketozo_extent`, counted from the payload's UDP header.
- * Bytes of an original that was put together from fragments are a `wuraketozo_original_extent`, counted from its first user byte. A
- * single count from there is a place: `place`, `option_start` and, of a held fragment, `offset`. No other position stands alone.
+ * Positions are of two kinds that must not mix. An offset counts from a UDP header. Bytes of a payload are a `wuraketozo_extent` of
+ * offsets; `fault_at` and, of an option, `offset` are offsets that stand alone. A place counts from the first user byte of an original
+ * that was put together from fragments. Its bytes are a `wuraketozo_original_extent` of places; `place`, `option_start` and, of a held
+ * fragment, `offset` are places that stand alone. No other position does. What is said of an original by an offset, `fault_at` or an
+ * option's `offset`, counts from the UDP header that it would have had in one piece: it is 8 plus the place.
  */
 #ifndef WURAKETOZO_H
 #define WURAKETOZO_H
@@ -49,7 +51,16 @@ typedef struct {
 /* ---- reading ---- */
 
 /* The verdict on what stands behind the user data (the surplus area). With every verdict but PIECE the user data is to be delivered. A
- * number stays what it is: new verdicts come at the end. */
+ * number stays what it is: new verdicts come at the end.
+ *
+ * Six of them are faults in the option list. They carry `fault_at`, the offset where the fault was met:
+ *     MALFORMED  the kind byte of the faulty option; FRAG's own, if FRAG stands in a wrong place or has a bad field
+ *     UNSAFE     the kind byte of the unsafe option
+ *     FRAGDATA   FRAG's kind byte
+ *     CROWDED    the 33rd option's kind byte
+ *     TAIL       the first byte behind EOL that is not zero
+ *     PADDED     the eighth NOP of the run
+ * With every other verdict `fault_at` is 0. */
 enum {
     WURAKETOZO_NONE = 0,
     WURAKETOZO_SHORT = 1,
@@ -81,6 +92,7 @@ enum { WURAKETOZO_APC_NONE = 0, WURAKETOZO_APC_RIGHT = 1, WURAKETOZO_APC_WRONG =
 typedef struct {
     uint32_t refusal;          /* 0, or the reader's number; then every other field is 0 */
     uint32_t verdict;          /* WURAKETOZO_NONE .. WURAKETOZO_PADDED */
+    size_t fault_at;           /* with a fault in the option list the offset where it was met, else 0 */
     wuraketozo_extent user;    /* the user data */
     wuraketozo_extent options; /* the option list with its fill, 0 and 0 unless the verdict is READ */
     size_t count;              /* options in it, NOP and EOL not counted */
@@ -101,6 +113,7 @@ wuraketozo_reading wuraketozo_read(const uint8_t *payload, size_t length, wurake
 typedef struct {
     uint32_t refusal;                   /* 0, or the reader's number; then every other field is 0 */
     uint32_t verdict;                   /* WURAKETOZO_NONE .. WURAKETOZO_READ, TAIL or PADDED, and not UNSAFE: refusal 5 */
+    size_t fault_at;                    /* with a fault in the option list the offset where it was met, 8 plus the place; else 0 */
     wuraketozo_original_extent user;    /* the user data */
     wuraketozo_original_extent options; /* the option list with its fill, 0 and 0 unless the verdict is READ */
     size_t count;                       /* options in it, NOP and EOL not counted */
@@ -128,6 +141,35 @@ wuraketozo_listing wuraketozo_list(const uint8_t *payload, size_t length, uint32
 /* The same of a rereading and its original. */
 wuraketozo_listing wuraketozo_relist(const uint8_t *original, size_t length, uint32_t verdict, wuraketozo_original_extent options,
                                      uint8_t *buffer, size_t room);
+
+/* An option of a payload, where it stands. */
+typedef struct {
+    uint32_t found;         /* 1, or 0 if there is no option (any more): then every other field is 0 */
+    uint32_t kind;
+    size_t offset;          /* its kind byte, counted from the UDP header */
+    wuraketozo_extent body; /* its fields or body, up to the option's end */
+} wuraketozo_option;
+
+/* The first option in `rest`, which is a reading's `options` or what remains of it: the next one is in what stands behind `body.to`.
+ *
+ *     wuraketozo_extent rest = reading.options;
+ *     wuraketozo_option option;
+ *     while ((option = wuraketozo_next(payload, length, reading.verdict, rest)).found) { ..; rest.from = option.body.to; }
+ *
+ * gives the options of the listing in its order, each once. With other values: none, or what stands there if it has the form of an
+ * option. */
+wuraketozo_option wuraketozo_next(const uint8_t *payload, size_t length, uint32_t verdict, wuraketozo_extent rest);
+
+/* An option of an original, where it stands. */
+typedef struct {
+    uint32_t found;                  /* 1, or 0 if there is no option (any more): then every other field is 0 */
+    uint32_t kind;
+    size_t offset;                   /* 8 plus the place of its kind byte */
+    wuraketozo_original_extent body; /* its fields or body, as places */
+} wuraketozo_original_option;
+
+/* The same of a rereading and its original. */
+wuraketozo_original_option wuraketozo_renext(const uint8_t *original, size_t length, uint32_t verdict, wuraketozo_original_extent rest);
 
 /* ---- writing ---- */
 
@@ -184,7 +226,7 @@ typedef struct {
  * the call below with its own layout's number in its name and no other one. The reference to it that stands here goes into every
  * object that includes this header, so that a host does not link against a library of another layout. It answers the bytes of a
  * record, as wuraketozo_record_size does. */
-size_t wuraketozo_layout_3(void);
+size_t wuraketozo_layout_4(void);
 #if defined(__has_attribute)
 #if __has_attribute(retain)
 #define WURAKETOZO_KEPT __attribute__((used, retain))
@@ -194,11 +236,12 @@ size_t wuraketozo_layout_3(void);
 #define WURAKETOZO_KEPT __attribute__((used))
 #endif
 #ifdef WURAKETOZO_KEPT
-static size_t (*const wuraketozo_layout)(void) WURAKETOZO_KEPT = wuraketozo_layout_3;
+static size_t (*const wuraketozo_layout)(void) WURAKETOZO_KEPT = wuraketozo_layout_4;
 #endif
 #if defined(__STDC_VERSION__) && __STDC_VERSION__ >= 201112L
 _Static_assert(sizeof(wuraketozo_client) == 704, "a record is 704 bytes");
-_Static_assert(sizeof(wuraketozo_reading) == 104 && sizeof(wuraketozo_rereading) == 64, "readings are 104 and 64 bytes");
+_Static_assert(sizeof(wuraketozo_reading) == 112 && sizeof(wuraketozo_rereading) == 72, "readings are 112 and 72 bytes");
+_Static_assert(sizeof(wuraketozo_option) == 32 && sizeof(wuraketozo_original_option) == 32, "an option is 32 bytes");
 #endif
 
 /* The bytes of a record, of a client's share of the store, of the smallest out buffer, and how many clients a table may have. */

@@ -1,16 +1,17 @@
 #!/usr/bin/env python3
 """Compares the program with make_samples.py's reading of the papers on random datagrams that stay close to the rules.
 
-Among 1,000 or more of them each verdict has to come, tail also in a datagram that FRAG leads, and read and piece also with eight NOPs
-in a row: the program is not strict."""
+Among 1,000 or more of them each verdict has to come, tail also in a datagram that FRAG leads, read and piece also with eight NOPs in a
+row: the program is not strict; and each fault at four offsets or more, one of them behind an odd UDP length."""
 import os, random, struct, subprocess, sys
-from collections import Counter
+from collections import Counter, defaultdict
 from make_samples import SRC, DST, FIXED, area_of, expected, opt, udp
 
 HERE = os.path.dirname(os.path.abspath(__file__))
 PROGRAM = os.path.join(HERE, "..", "..", "target", "bin", "program_inspect")
 COUNT = int(sys.argv[1]) if len(sys.argv) > 1 else 2000
 VERDICTS = "none short pad unsummed badsum malformed unsafe fragdata crowded tail read piece".split()
+FAULTS = "malformed unsafe fragdata crowded tail".split()
 rng = random.Random(9868)
 
 
@@ -83,13 +84,16 @@ def datagram():
     return SRC + DST + udp(area, user=user, checksum=checksum, length=length)
 
 
-seen = Counter()
+seen, offsets = Counter(), defaultdict(set)
 for i in range(COUNT):
     data = datagram()
     want = expected(data)
     got = subprocess.run([PROGRAM], input=data, stdout=subprocess.PIPE).stdout.decode("latin-1")
-    word = want.split("\n")[0] if want.startswith("refused") else want.split("\n")[1]
+    word, _, at = (want.split("\n")[0] if want.startswith("refused") else want.split("\n")[1]).partition(" at ")
     seen[word] += 1
+    if at:
+        offsets[word].add(at)
+        seen[word + ", odd L"] += data[13] % 2
     if word in ("verdict read", "verdict piece") and b"\x01" * 8 in data[18:]:
         seen[word + ", eight NOPs"] += 1
     if word == "verdict tail" and data[12:14] == b"\0\x08" and data[18:].lstrip(b"\x01")[:1] == b"\x03":
@@ -99,6 +103,10 @@ for i in range(COUNT):
         sys.exit(1)
 print(COUNT, "agree:", dict(seen))
 wanted = ["verdict " + word for word in VERDICTS] + ["tail led by FRAG", "verdict read, eight NOPs", "verdict piece, eight NOPs"]
-missing = [name for name in wanted if name not in seen]
+for word in FAULTS:
+    wanted.append(f"verdict {word}, odd L")
+    if len(offsets[f"verdict {word}"]) < 4:
+        wanted.append(f"verdict {word} at four offsets")
+missing = [name for name in wanted if not seen[name]]
 if COUNT >= 1000 and missing:
     sys.exit("never came: " + ", ".join(missing))

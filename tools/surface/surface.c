@@ -1,5 +1,6 @@
-/* Holds include/wuraketozo.h to the library: every constant of the header is what the library answers, and a pointer with length 0 may
- * be NULL in every call that takes one. Prints how many checks were made; a failed one is named by its line. */
+/* Holds include/wuraketozo.h to the library: every constant of the header is what the library answers, a fault has the offset that the
+ * header says, the options of a reading are found one by one where they stand, and a pointer with length 0 may be NULL in every call that
+ * takes one. Prints how many checks were made; a failed one is named by its line. */
 #include <stdio.h>
 #include <stdlib.h>
 #include <string.h>
@@ -26,20 +27,30 @@ static const wuraketozo_address here = {{192, 0, 2, 1}}, there = {{198, 51, 100,
 
 static int same_reading(wuraketozo_reading a, wuraketozo_reading b)
 {
-    return SAME(refusal) && SAME(verdict) && SAME(user.from) && SAME(user.to) && SAME(options.from) && SAME(options.to) && SAME(count) &&
-           SAME(fill) && SAME(apc) && SAME(identification) && SAME(place) && SAME(part.from) && SAME(part.to) && SAME(option_start) &&
-           SAME(last);
+    return SAME(refusal) && SAME(verdict) && SAME(fault_at) && SAME(user.from) && SAME(user.to) && SAME(options.from) &&
+           SAME(options.to) && SAME(count) && SAME(fill) && SAME(apc) && SAME(identification) && SAME(place) && SAME(part.from) &&
+           SAME(part.to) && SAME(option_start) && SAME(last);
 }
 
 static int same_rereading(wuraketozo_rereading a, wuraketozo_rereading b)
 {
-    return SAME(refusal) && SAME(verdict) && SAME(user.from) && SAME(user.to) && SAME(options.from) && SAME(options.to) && SAME(count) &&
-           SAME(fill) && SAME(apc);
+    return SAME(refusal) && SAME(verdict) && SAME(fault_at) && SAME(user.from) && SAME(user.to) && SAME(options.from) &&
+           SAME(options.to) && SAME(count) && SAME(fill) && SAME(apc);
 }
 
 static int same_listing(wuraketozo_listing a, wuraketozo_listing b)
 {
     return SAME(refusal) && SAME(size) && SAME(fill);
+}
+
+static int same_option(wuraketozo_option a, wuraketozo_option b)
+{
+    return SAME(found) && SAME(kind) && SAME(offset) && SAME(body.from) && SAME(body.to);
+}
+
+static int same_original_option(wuraketozo_original_option a, wuraketozo_original_option b)
+{
+    return SAME(found) && SAME(kind) && SAME(offset) && SAME(body.from) && SAME(body.to);
 }
 
 static int same_written(wuraketozo_written a, wuraketozo_written b)
@@ -84,15 +95,22 @@ static const uint8_t piece_behind_eol[] = {HEAD(8), 0, 0, 3, 10, 0, 21, 0, 0, 0,
 #define REREAD_AS(payload, strictness) wuraketozo_reread((payload) + 8, sizeof(payload) - 8, 0, strictness)
 #define REREAD(payload) REREAD_AS(payload, WURAKETOZO_PLAIN)
 
-static void verdicts_and_apc(void)
+/* 33 options of two bytes each */
+static uint8_t crowded[10 + 33 * 2] = {HEAD(8), 0, 0};
+
+static void fill_crowded(void)
 {
-    uint8_t summed[64], crowded[10 + 33 * 2] = {HEAD(8), 0, 0};
-    const uint8_t no_options[] = {0};
-    wuraketozo_written written = wuraketozo_write(here, there, 4660, 53, none, 0, no_options, 1, 0, summed, sizeof summed);
     for (size_t i = 10; i < sizeof crowded; i += 2) {
         crowded[i] = 9;
         crowded[i + 1] = 2;
     }
+}
+
+static void verdicts_and_apc(void)
+{
+    uint8_t summed[64];
+    const uint8_t no_options[] = {0};
+    wuraketozo_written written = wuraketozo_write(here, there, 4660, 53, none, 0, no_options, 1, 0, summed, sizeof summed);
     CHECK(written.refusal == 0 && written.size == 10);
     CHECK(wuraketozo_read(summed, 10, here, there, WURAKETOZO_STRICT).verdict == WURAKETOZO_READ);
     summed[9] ^= 1;
@@ -141,6 +159,109 @@ static void verdicts_and_apc(void)
     CHECK(REREAD(apc_right).user.from == 0 && REREAD(apc_right).options.from == 2);
 }
 
+/* ---- offsets ---- */
+
+/* Behind an odd UDP length, an option and a NOP; a fragment's option behind another option; behind a NOP. */
+static const uint8_t malformed_behind[] = {HEAD(9), 'x', 0, 0, 0, 6, 6, 0, 0, 1, 44, 1, 9, 1};
+static const uint8_t frag_late[] = {HEAD(8), 0, 0, 4, 4, 5, 220, 3, 10, 0, 24, 0, 0, 0, 7, 0, 8};
+static const uint8_t unsafe_behind[] = {HEAD(8), 0, 0, 4, 4, 5, 220, 1, 192, 0};
+static const uint8_t fragdata_behind[] = {HEAD(10), 'x', 'y', 0, 0, 1, 1, 3, 10, 0, 24, 0, 0, 0, 7, 0, 8};
+
+/* Each fault has its offset, and what is none has 0. In an original, whose bytes are a payload's behind the header, it is the same. */
+static void fault_offsets(void)
+{
+    CHECK(READ(malformed).fault_at == 10 && REREAD(malformed).fault_at == 10);
+    CHECK(READ(malformed_behind).verdict == WURAKETOZO_MALFORMED && READ(malformed_behind).fault_at == 19);
+    CHECK(READ(frag_late).verdict == WURAKETOZO_MALFORMED && READ(frag_late).fault_at == 14);
+    CHECK(READ(unsafe_kind).fault_at == 10);
+    CHECK(READ(unsafe_behind).verdict == WURAKETOZO_UNSAFE && READ(unsafe_behind).fault_at == 15);
+    CHECK(READ(fragdata).fault_at == 12);
+    CHECK(READ(fragdata_behind).verdict == WURAKETOZO_FRAGDATA && READ(fragdata_behind).fault_at == 14);
+    CHECK(READ(crowded).fault_at == 74 && REREAD(crowded).verdict == WURAKETOZO_CROWDED && REREAD(crowded).fault_at == 74);
+    CHECK(READ(tail).fault_at == 18 && REREAD(tail).fault_at == 18);
+    CHECK(READ(tail_in_piece).fault_at == 21);
+    CHECK(READ_AS(padded, WURAKETOZO_STRICT).fault_at == 23 && REREAD_AS(padded, WURAKETOZO_STRICT).fault_at == 23);
+    CHECK(READ_AS(padded_piece, WURAKETOZO_STRICT).fault_at == 17);
+    /* one byte of user data: option_start 1 */
+    wuraketozo_rereading again = wuraketozo_reread(malformed_behind + 8, sizeof malformed_behind - 8, 1, WURAKETOZO_PLAIN);
+    CHECK(again.verdict == WURAKETOZO_MALFORMED && again.fault_at == 19);
+    again = wuraketozo_reread(frag_late + 8, sizeof frag_late - 8, 0, WURAKETOZO_PLAIN);
+    CHECK(again.verdict == WURAKETOZO_MALFORMED && again.fault_at == 14);
+    CHECK(READ(none).fault_at == 0 && READ(short_area).fault_at == 0 && READ(pad).fault_at == 0 && READ(read_list).fault_at == 0);
+    CHECK(READ(apc_wrong).fault_at == 0 && READ(piece).fault_at == 0 && READ(padded).fault_at == 0);
+    CHECK(REREAD(unsafe_kind).fault_at == 0 && REREAD(read_list).fault_at == 0);
+    const uint8_t badsum[] = {HEAD(8), 0, 1};
+    CHECK(READ(badsum).verdict == WURAKETOZO_BADSUM && READ(badsum).fault_at == 0);
+    CHECK(wuraketozo_read(malformed, 7, here, there, WURAKETOZO_PLAIN).fault_at == 0);
+}
+
+/* A NOP, REQ at 11, kind 9 without a body at 17, MRDS at 19, EOL at 24. */
+static const uint8_t options[] = {HEAD(8), 0, 0, 1, 6, 6, 0, 0, 1, 44, 9, 2, 5, 5, 0, 1, 2, 0, 0};
+
+static wuraketozo_option next_in(const uint8_t *payload, size_t length, uint32_t verdict, size_t from, size_t to)
+{
+    const wuraketozo_extent rest = {from, to};
+    return wuraketozo_next(payload, length, verdict, rest);
+}
+
+static wuraketozo_original_option renext_in(const uint8_t *original, size_t length, uint32_t verdict, size_t from, size_t to)
+{
+    const wuraketozo_original_extent rest = {from, to};
+    return wuraketozo_renext(original, length, verdict, rest);
+}
+
+/* Whether there is no option in these bytes of `options` from either call, with a verdict. */
+static int nothing_in(uint32_t verdict, size_t from, size_t to)
+{
+    const wuraketozo_option no_option = {0, 0, 0, {0, 0}};
+    const wuraketozo_original_option no_original_option = {0, 0, 0, {0, 0}};
+    return same_option(next_in(options, sizeof options, verdict, from, to), no_option) &&
+           same_original_option(renext_in(options, sizeof options, verdict, from, to), no_original_option);
+}
+
+static void one_by_one(void)
+{
+    const wuraketozo_option found[] = {{1, 6, 11, {13, 17}}, {1, 9, 17, {19, 19}}, {1, 5, 19, {21, 24}}, {0, 0, 0, {0, 0}}};
+    const wuraketozo_original_option refound[] = {{1, 6, 11, {5, 9}}, {1, 9, 17, {11, 11}}, {1, 5, 19, {13, 16}}, {0, 0, 0, {0, 0}}};
+    wuraketozo_reading reading = READ(options);
+    wuraketozo_rereading rereading = REREAD(options);
+    CHECK(reading.count == 3 && reading.options.from == 10 && rereading.count == 3 && rereading.options.from == 2);
+    for (size_t i = 0; i < 4; i++) {
+        wuraketozo_option option = wuraketozo_next(options, sizeof options, reading.verdict, reading.options);
+        wuraketozo_original_option again =
+            wuraketozo_renext(options + 8, sizeof options - 8, rereading.verdict, rereading.options);
+        CHECK(same_option(option, found[i]));
+        CHECK(same_original_option(again, refound[i]));
+        reading.options.from = option.body.to;
+        rereading.options.from = again.body.to;
+    }
+    /* an extended option, and one behind it */
+    uint8_t extended[10 + 255 + 2] = {HEAD(8), 0, 0, 10, 255, 0, 255};
+    extended[265] = 9;
+    extended[266] = 2;
+    const wuraketozo_option first = {1, 10, 10, {14, 265}}, second = {1, 9, 265, {267, 267}};
+    CHECK(same_option(next_in(extended, sizeof extended, WURAKETOZO_READ, 10, 267), first));
+    CHECK(same_option(next_in(extended, sizeof extended, WURAKETOZO_READ, 265, 267), second));
+    CHECK(next_in(extended, sizeof extended, WURAKETOZO_READ, 10, 264).found == 0);
+    /* what no reading gave: FRAG has the form of an option, a fragment's list too */
+    const wuraketozo_option frag = {1, 3, 10, {12, 20}};
+    CHECK(same_option(next_in(piece, sizeof piece, WURAKETOZO_READ, 10, 20), frag));
+    CHECK(next_in(piece, sizeof piece, WURAKETOZO_PIECE, 10, 20).found == 0);
+    CHECK(next_in(malformed, sizeof malformed, WURAKETOZO_READ, 10, sizeof malformed).found == 0);
+    CHECK(next_in(unsafe_behind, sizeof unsafe_behind, WURAKETOZO_READ, 14, 17).found == 0);
+    CHECK(next_in(unsafe_behind, sizeof unsafe_behind, WURAKETOZO_READ, 15, 17).found == 0);
+    CHECK(next_in(unsafe_behind, sizeof unsafe_behind, WURAKETOZO_READ, 10, 17).offset == 10);
+    /* other verdicts, and extents that are empty, cut an option, end at EOL, are turned round or lie past the end */
+    for (uint32_t verdict = 0; verdict < 300; verdict++)
+        CHECK(nothing_in(verdict, 10, sizeof options) == (verdict != WURAKETOZO_READ));
+    CHECK(nothing_in(UINT32_MAX, 10, sizeof options) && nothing_in(0x80000009, 10, sizeof options));
+    CHECK(nothing_in(WURAKETOZO_READ, 10, 10) && nothing_in(WURAKETOZO_READ, 10, 11) && nothing_in(WURAKETOZO_READ, 10, 16));
+    CHECK(!nothing_in(WURAKETOZO_READ, 10, 17) && nothing_in(WURAKETOZO_READ, 24, sizeof options));
+    CHECK(nothing_in(WURAKETOZO_READ, 17, 11) && nothing_in(WURAKETOZO_READ, 11, sizeof options + 1));
+    CHECK(nothing_in(WURAKETOZO_READ, 11, SIZE_MAX) && nothing_in(WURAKETOZO_READ, SIZE_MAX, SIZE_MAX));
+    CHECK(nothing_in(WURAKETOZO_READ, SIZE_MAX, 0) && nothing_in(WURAKETOZO_READ, sizeof options, sizeof options));
+}
+
 /* ---- the table ---- */
 
 static wuraketozo_client records[1];
@@ -161,7 +282,7 @@ static wuraketozo_fragment fragment(size_t place, uint32_t last)
 
 static void outcomes(void)
 {
-    CHECK(wuraketozo_record_size() == sizeof records[0] && wuraketozo_layout_3() == sizeof records[0]);
+    CHECK(wuraketozo_record_size() == sizeof records[0] && wuraketozo_layout_4() == sizeof records[0]);
     CHECK(wuraketozo_share_size() == sizeof store && wuraketozo_out_size() == sizeof out && wuraketozo_client_limit() == 12);
     CHECK(wuraketozo_reset(records, 1, store, sizeof store).outcome == WURAKETOZO_RESET);
     CHECK(OFFER(0, "ab", 0).outcome == WURAKETOZO_STORED);
@@ -178,6 +299,7 @@ static void outcomes(void)
     CHECK(RECEIVE(apc_right).what == WURAKETOZO_DATAGRAM);
     CHECK(RECEIVE(piece).what == WURAKETOZO_FRAGMENT);
     CHECK(RECEIVE(tail_in_piece).what == WURAKETOZO_DATAGRAM && RECEIVE(tail_in_piece).reading.verdict == WURAKETOZO_TAIL);
+    CHECK(RECEIVE(tail_in_piece).reading.fault_at == 21 && RECEIVE(malformed_behind).reading.fault_at == 19);
     CHECK(RECEIVE(piece_behind_eol).what == WURAKETOZO_FRAGMENT);
     CHECK(wuraketozo_account(records, 1, store, sizeof store, 0).figures.offered == 5);
     CHECK(RECEIVE_AS(padded_piece, WURAKETOZO_STRICT).what == WURAKETOZO_DATAGRAM);
@@ -223,6 +345,16 @@ static void nothing_at_all(void)
         CHECK(same_listing(wuraketozo_relist(NULL, 0, verdict, whole_original, NULL, 0),
                            wuraketozo_relist(some, 0, verdict, whole_original, left, 0)));
     }
+    for (uint32_t verdict = WURAKETOZO_NONE; verdict <= WURAKETOZO_PADDED; verdict++) {
+        for (size_t from = 0; from < 3; from++) {
+            for (size_t to = 0; to < 3; to++) {
+                CHECK(same_option(next_in(NULL, 0, verdict, from, to), next_in(some, 0, verdict, from, to)));
+                CHECK(next_in(NULL, 0, verdict, from, to).found == 0);
+                CHECK(same_original_option(renext_in(NULL, 0, verdict, from, to), renext_in(some, 0, verdict, from, to)));
+                CHECK(renext_in(NULL, 0, verdict, from, to).found == 0);
+            }
+        }
+    }
     CHECK(wuraketozo_list(NULL, 0, WURAKETOZO_READ, whole, buffer, sizeof buffer).size == 1 && buffer[0] == 0);
     CHECK(wuraketozo_list(NULL, 0, WURAKETOZO_READ, whole, NULL, 0).refusal == 8);
 
@@ -263,7 +395,10 @@ static void nothing_at_all(void)
 
 int main(void)
 {
+    fill_crowded();
     verdicts_and_apc();
+    fault_offsets();
+    one_by_one();
     outcomes();
     nothing_at_all();
     printf("%u checks, %u failed\n", checks, failures);

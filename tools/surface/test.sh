@@ -15,10 +15,15 @@ gcc $sanitize "$room/probe.c" -o "$room/probe" 2>/dev/null && "$room/probe" || s
 gcc $flags $sanitize -Iinclude tools/surface/surface.c "$library" -o "$room/surface"
 "$room/surface"
 
-# A host that only lists, and one that has a table: each links with the header's number and not with another one, whatever the linker drops.
+# A host that only lists, one that only walks, and one that has a table: each links with the header's number and not with another one,
+# whatever the linker drops.
 cat >"$room/lists.c" <<'C'
 #include "wuraketozo.h"
 int main(void) { uint8_t list[1]; wuraketozo_extent none = {0, 0}; return (int)wuraketozo_list(0, 0, 0, none, list, 1).refusal; }
+C
+cat >"$room/walks.c" <<'C'
+#include "wuraketozo.h"
+int main(void) { wuraketozo_original_extent none = {0, 0}; return (int)wuraketozo_renext(0, 0, WURAKETOZO_READ, none).found; }
 C
 cat >"$room/table.c" <<'C'
 #include "wuraketozo.h"
@@ -29,7 +34,7 @@ C
 number=$(sed -n 's/^size_t wuraketozo_layout_\([0-9]*\)(void);$/\1/p' include/wuraketozo.h)
 mkdir "$room/include"
 sed "s/wuraketozo_layout_$number/wuraketozo_layout_$((number + 1))/g" include/wuraketozo.h >"$room/include/wuraketozo.h"
-for host in lists table; do
+for host in lists walks table; do
     for how in -O0 "-O2 -ffunction-sections -fdata-sections -Wl,--gc-sections"; do
         gcc $flags $how -Iinclude "$room/$host.c" "$library" -o "$room/$host"
         "$room/$host"

@@ -118,6 +118,14 @@ class Packet:
         source, destination = self.addresses or (SOURCE, DESTINATION)
         return reader.read(self.payload(), source, destination, setting == "strict")
 
+    ways = SETTINGS
+
+    def brief(self, setting):
+        return reader.brief(self.answer(setting))
+
+    def line(self, setting):
+        return reader.line(f"{self.name} {setting}", self.answer(setting))
+
 
 class Original:
     """A reassembled original: user data, then an area whose parity is that of 8 + r."""
@@ -134,9 +142,39 @@ class Original:
             self.parts += area(flat(options), len(data) % 2, ocs, pad, fill, len(data))
 
     front, payload = Packet.front, Packet.payload
+    ways, brief, line = SETTINGS, Packet.brief, Packet.line
 
     def answer(self, setting):
         return reader.reread(self.payload(), self.r, setting == "strict")
+
+
+class Walk:
+    """Options one by one in `rest` of some bytes, taken for a packet's and for an original's, under any verdict. `want` has kind and index
+    of each."""
+
+    ways = ("packet", "original")
+
+    def __init__(self, name, want, parts, rest, verdict="read", note="", fill=None):
+        self.name, self.parts, self.rest, self.verdict, self.note, self.fill = name, flat(parts), rest, verdict, note, fill
+        self.want = {way: stand([(kind, origin + at) for kind, at in want]) for way, origin in zip(self.ways, (0, 8))}
+
+    front, payload = Packet.front, Packet.payload
+
+    def options(self, way):
+        if self.verdict != "read":
+            return []
+        return reader.steps(self.payload(), *self.rest, 8 if way == "original" else 0)
+
+    def brief(self, way):
+        return stand([option[:2] for option in self.options(way)])
+
+    def line(self, way):
+        return f"{self.name} {way}" + reader.option_words(self.options(way))
+
+
+def stand(options):
+    """Kinds and offsets in words."""
+    return ", ".join(f"{kind} at {offset}" for kind, offset in options) or "nothing"
 
 
 def shown(data):

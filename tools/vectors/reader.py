@@ -1,4 +1,4 @@
-"""A reader of UDP payloads with RFC 9868 options, written from document 01, R-2 and R-6 of document 02 and the RFC alone."""
+"""A reader of UDP payloads with RFC 9868 options, written from document 01, R-2, R-6 and R-7 of document 02 and the RFC alone."""
 
 FIXED = {2: (6,), 3: (10, 12), 4: (4,), 5: (5,), 6: (6,), 7: (6,), 8: (10,)}
 
@@ -61,47 +61,53 @@ def decode(data, at):
 
 
 class Verdict(Exception):
-    pass
+    """A fault: its word, and the index of the byte where it is met."""
+
+    def __init__(self, word, at):
+        super().__init__(word)
+        self.word, self.at = word, at
 
 
 def header(b, at, end):
     """The whole length and header size of the option at `at`, whose kind has a length."""
+    malformed = Verdict("malformed", at)
     if at + 2 > end:
-        raise Verdict("malformed")
+        raise malformed
     size, whole = 2, b[at + 1]
     if whole == 255:
         if at + 4 > end:
-            raise Verdict("malformed")
+            raise malformed
         size, whole = 4, b[at + 2] << 8 | b[at + 3]
         if whole < 255:
-            raise Verdict("malformed")
+            raise malformed
     if whole < 2 or at + whole > end:
-        raise Verdict("malformed")
+        raise malformed
     if b[at] in FIXED and whole not in FIXED[b[at]]:
-        raise Verdict("malformed")
+        raise malformed
     return whole, size
 
 
 def walk(b, at, frag_allowed, user_empty, strict):
-    """Walks b[at:]. (count, fill, APC values, piece)."""
-    end, count, apcs, piece = len(b), 0, [], None
+    """Walks b[at:]. (the options as (kind, index, body), fill, piece)."""
+    end, found, piece = len(b), [], None
     nops = 0
     while at < end:
         kind = b[at]
         nops = nops + 1 if kind == 1 else 0
         if strict and nops == 8:
-            raise Verdict("padded")
+            raise Verdict("padded", at)
         if kind == 0:
-            if any(b[at + 1:end]):
-                raise Verdict("tail")
-            return count, end - at, apcs, piece
+            for behind in range(at + 1, end):
+                if b[behind]:
+                    raise Verdict("tail", behind)
+            return found, end - at, piece
         if kind == 1:
             at += 1
             continue
         if kind >= 192:
-            raise Verdict("unsafe")
-        if kind == 3 and (not frag_allowed or count > 0):
-            raise Verdict("malformed")
+            raise Verdict("unsafe", at)
+        if kind == 3 and (not frag_allowed or found):
+            raise Verdict("malformed", at)
         whole, size = header(b, at, end)
         if kind == 3:
             start = int.from_bytes(b[at + 2:at + 4], "big")
@@ -110,23 +116,21 @@ def walk(b, at, frag_allowed, user_empty, strict):
             last = whole == 12
             rdos = int.from_bytes(b[at + 10:at + 12], "big") if last else 8
             if start < at + whole or start > len(b) or offset < 8 or rdos < 8:
-                raise Verdict("malformed")
+                raise Verdict("malformed", at)
             if not user_empty:
-                raise Verdict("fragdata")
+                raise Verdict("fragdata", at)
             piece = dict(id=ident, place=offset - 8, start=start, end=len(b), last=int(last), options=rdos - 8)
             end = start
-        if count == 32:
-            raise Verdict("crowded")
-        count += 1
-        if kind == 2:
-            apcs.append(int.from_bytes(b[at + size:at + whole], "big"))
+        if len(found) == 32:
+            raise Verdict("crowded", at)
+        found.append((kind, at, b[at + size:at + whole]))
         at += whole
-    return count, 0, apcs, piece
+    return found, 0, piece
 
 
 def area(b, size, origin, udp_zero, frag_allowed, data, strict):
-    """The verdict on b[size:], whose parity is that of origin + size, and what goes with it."""
-    quiet = dict(count=0, fill=0, apc="none", list=(0, 0), piece=None)
+    """The verdict on b[size:], whose parity is that of origin + size, and what goes with it. An offset is origin plus the index."""
+    quiet = dict(at=None, options=[], fill=0, apc="none", list=(0, 0), piece=None)
     surplus = b[size:]
     odd = (origin + size) % 2
     if not surplus:
@@ -141,13 +145,40 @@ def area(b, size, origin, udp_zero, frag_allowed, data, strict):
     if ocs != 0 and fold(len(surplus) + words(surplus, bool(odd))) != 0xFFFF:
         return "badsum", quiet
     try:
-        count, fill, apcs, piece = walk(b, size + odd + 2, frag_allowed, len(data) == 0, strict)
+        found, fill, piece = walk(b, size + odd + 2, frag_allowed, len(data) == 0, strict)
     except Verdict as v:
-        return str(v), quiet
+        return v.word, dict(quiet, at=origin + v.at)
     if piece:
         return "piece", dict(quiet, piece=piece)
-    apc = "none" if not apcs else "right" if all(x == crc32c(data) for x in apcs) else "wrong"
-    return "read", dict(count=count, fill=fill, apc=apc, list=(size + odd + 2, len(b)), piece=None)
+    apcs = [body for kind, _, body in found if kind == 2]
+    apc = "none" if not apcs else "right" if all(x == crc32c(data).to_bytes(4, "big") for x in apcs) else "wrong"
+    return "read", dict(quiet, options=located(found, origin), fill=fill, apc=apc, list=(size + odd + 2, len(b)))
+
+
+def located(found, origin):
+    """Options with their offsets: of a packet's byte its index, of an original's 8 plus the place."""
+    return [(kind, origin + at, body) for kind, at, body in found]
+
+
+def steps(b, start, end, origin):
+    """The options from `start` up to `end` one by one, as long as what stands there has the form of one: kind, offset, body."""
+    found = []
+    if end > len(b):
+        return found
+    while start < end:
+        kind = b[start]
+        if kind == 1:
+            start += 1
+            continue
+        if kind == 0 or kind >= 192:
+            break
+        try:
+            whole, size = header(b, start, end)
+        except Verdict:
+            break
+        found.append((kind, start, b[start + size:start + whole]))
+        start += whole
+    return located(found, origin)
 
 
 def read(b, source, destination, strict=False):
@@ -177,15 +208,32 @@ def reread(b, r, strict=False):
     return (0, r), verdict, rest
 
 
+def option_words(options):
+    """Each option as ` kind KIND at OFFSET BODY`, a long body by its length and CRC32c."""
+    text = ""
+    for kind, offset, body in options:
+        text += f" kind {kind} at {offset}"
+        if len(body) > 16:
+            text += f" {len(body)} bytes crc {crc32c(body):08x}"
+        elif body:
+            text += " " + body.hex()
+    return text
+
+
+def said(verdict, rest):
+    """The verdict's word, with the offset if it is a fault of the walk."""
+    return verdict if rest["at"] is None else f"{verdict} at {rest['at']}"
+
+
 def line(name, answer):
     if isinstance(answer, int):
         return f"{name} refused {answer}"
     (a, z), verdict, rest = answer
-    text = f"{name} user {a} {z} verdict {verdict} count {rest['count']} fill {rest['fill']} apc {rest['apc']}"
+    text = f"{name} user {a} {z} verdict {said(verdict, rest)} count {len(rest['options'])} fill {rest['fill']} apc {rest['apc']}"
     text += " list %d %d" % rest["list"]
     if rest["piece"]:
         text += "".join(f" {k} {v}" for k, v in rest["piece"].items())
-    return text
+    return text + option_words(rest["options"])
 
 
 def brief(answer):
@@ -194,7 +242,7 @@ def brief(answer):
         return f"refused {answer}"
     _, verdict, rest = answer
     if verdict == "read":
-        text = f"read {rest['count']}"
+        text = f"read {len(rest['options'])}"
         if rest["fill"]:
             text += f" fill {rest['fill']}"
         if rest["apc"] != "none":
@@ -204,4 +252,4 @@ def brief(answer):
         p = rest["piece"]
         text = f"piece {p['place']} {p['start']}-{p['end']}"
         return text + f" last {p['options']}" if p["last"] else text
-    return verdict
+    return said(verdict, rest)

@@ -5,7 +5,7 @@ use reference as plain;
 use std::cell::RefCell;
 use std::hint::black_box;
 use std::rc::Rc;
-use wuraketozo::{Flow, Strictness};
+use wuraketozo::{Flow, Located, PacketOffset, Strictness};
 
 /// One side of a case. `prepare` is not timed; `run` does `calls` calls.
 pub trait Side {
@@ -297,6 +297,7 @@ impl Payload {
         };
         one.verdict.word() == verdict
             && two.verdict.word() == verdict
+            && one.verdict.fault_at().map(|at| at.0) == two.verdict.fault_at().map(|at| at.0)
             && one.user == (two.user.from..two.user.to)
             && one.options == (two.options_from..two.options_to)
             && (one.count, one.fill) == (two.count, two.fill)
@@ -436,6 +437,77 @@ fn list(payload: Payload) -> Case {
     )
 }
 
+/// A payload as either side read it, whose options are taken one by one.
+struct Walked {
+    payload: Payload,
+    library: wuraketozo::Reading,
+    reference: plain::Reading,
+}
+
+impl Walked {
+    fn walk<'a>(&'a self, mut take: impl FnMut(Located<'a>)) {
+        let bytes = black_box(&self.payload.bytes);
+        for option in wuraketozo::walk(bytes, &self.library) {
+            take(option);
+        }
+    }
+
+    fn walk_plain<'a>(&'a self, mut take: impl FnMut(Located<'a>)) {
+        let bytes = black_box(&self.payload.bytes);
+        let read = self.reference.verdict == plain::Verdict::Read;
+        let mut rest = plain::Range {
+            from: self.reference.options_from,
+            to: self.reference.options_to,
+        };
+        while let Some(found) = plain::next_option(bytes, read, rest) {
+            rest.from = found.body.to;
+            take(Located {
+                kind: found.kind,
+                offset: PacketOffset(found.offset.0),
+                body: &bytes[found.body.from..found.body.to],
+            });
+        }
+    }
+
+    /// Whether both find so many options, and the same ones.
+    fn alike(&self, count: usize) -> bool {
+        let (mut one, mut two) = (Vec::new(), Vec::new());
+        self.walk(|option| one.push(option));
+        self.walk_plain(|option| two.push(option));
+        one.len() == count && one == two
+    }
+}
+
+/// A case of taking the options of what was read plainly one by one.
+fn walk(payload: Payload, count: usize) -> Case {
+    let (Ok(library), Ok(reference)) = (
+        payload.read(PLAIN.library),
+        payload.read_plain(PLAIN.reference),
+    ) else {
+        unreachable!("{} is read", payload.words)
+    };
+    case(
+        format!("walk {}", payload.words),
+        payload.bytes.len(),
+        Walked {
+            payload,
+            library,
+            reference,
+        },
+        |walked| {
+            walked.walk(|option| {
+                black_box(option);
+            })
+        },
+        |walked| {
+            walked.walk_plain(|option| {
+                black_box(option);
+            })
+        },
+        move |walked| walked.alike(count),
+    )
+}
+
 fn listings() -> Vec<Case> {
     vec![
         list(Payload::short_list(64, false, false)),
@@ -488,6 +560,7 @@ pub fn all() -> Vec<Case> {
     cases.extend(FILLS.map(|fill| read(Payload::filled(fill))));
     cases.extend(runs_of_nops());
     cases.extend(listings());
+    cases.push(walk(Payload::full_list(), 32));
     cases.extend(payloads().into_iter().map(write));
     cases.extend(tables::all());
     cases

@@ -559,10 +559,7 @@ fn receive(
 /// Counts a payload that is no fragment.
 fn count_datagram(counts: &mut Counts, payload: &[u8], reading: &plain::Reading) {
     counts.add("receive", "datagram");
-    if matches!(
-        reading.verdict,
-        plain::Verdict::Tail | plain::Verdict::Padded
-    ) {
+    if reading.verdict.fault_at().is_some() {
         counts.add("receive", reading.verdict.word());
     }
     if let Some(word) = generate::fault_led_by_frag(payload, reading) {

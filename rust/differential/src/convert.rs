@@ -2,7 +2,7 @@
 
 use reference as plain;
 use reference::generate::Random;
-use wuraketozo::{raw, Account, Flow, Place};
+use wuraketozo::{raw, Account, Flow, PacketOffset, Place};
 
 /// Bytes in hex. Of long ones the front: the seed gives the rest.
 pub fn hex(bytes: &[u8]) -> String {
@@ -14,6 +14,9 @@ pub fn hex(bytes: &[u8]) -> String {
     text
 }
 
+/// The number of "read".
+pub const READ: u32 = 9;
+
 /// The number of "padded".
 pub const PADDED: u32 = 12;
 
@@ -24,15 +27,24 @@ fn verdict_number(verdict: &plain::Verdict) -> u32 {
         plain::Verdict::Pad => 2,
         plain::Verdict::Unsummed => 3,
         plain::Verdict::BadSum => 4,
-        plain::Verdict::Malformed => 5,
-        plain::Verdict::Unsafe => 6,
-        plain::Verdict::FragData => 7,
-        plain::Verdict::Crowded => 8,
-        plain::Verdict::Read => 9,
+        plain::Verdict::Malformed(_) => 5,
+        plain::Verdict::Unsafe(_) => 6,
+        plain::Verdict::FragData(_) => 7,
+        plain::Verdict::Crowded(_) => 8,
+        plain::Verdict::Read => READ,
         plain::Verdict::Piece(_) => 10,
-        plain::Verdict::Tail => 11,
-        plain::Verdict::Padded => PADDED,
+        plain::Verdict::Tail(_) => 11,
+        plain::Verdict::Padded(_) => PADDED,
     }
+}
+
+fn offset(offset: plain::PacketOffset) -> PacketOffset {
+    PacketOffset(offset.0)
+}
+
+/// Where the fault was met; 0 of a verdict that is none.
+fn fault_at(verdict: &plain::Verdict) -> PacketOffset {
+    verdict.fault_at().map(offset).unwrap_or_default()
 }
 
 /// The wrapper's word for a setting.
@@ -59,6 +71,55 @@ fn apc_number(apc: plain::Apc) -> u32 {
     }
 }
 
+pub fn extent(range: plain::Range) -> raw::Extent {
+    raw::Extent {
+        from: range.from,
+        to: range.to,
+    }
+}
+
+pub fn original_extent(range: plain::Range) -> raw::OriginalExtent {
+    raw::OriginalExtent {
+        from: Place(range.from),
+        to: Place(range.to),
+    }
+}
+
+/// The C struct of an option of a payload; all 0 where there is none.
+pub fn packet_option(found: &Option<plain::Standing>) -> raw::PacketOption {
+    match found {
+        None => raw::PacketOption::default(),
+        Some(standing) => raw::PacketOption {
+            found: 1,
+            kind: u32::from(standing.kind),
+            offset: offset(standing.offset),
+            body: extent(standing.body),
+        },
+    }
+}
+
+/// And of an original.
+pub fn original_option(found: &Option<plain::Standing>) -> raw::OriginalOption {
+    match found {
+        None => raw::OriginalOption::default(),
+        Some(standing) => raw::OriginalOption {
+            found: 1,
+            kind: u32::from(standing.kind),
+            offset: offset(standing.offset),
+            body: original_extent(standing.body),
+        },
+    }
+}
+
+/// The wrapper's value of it.
+pub fn located<'a>(bytes: &'a [u8], standing: &plain::Standing) -> wuraketozo::Located<'a> {
+    wuraketozo::Located {
+        kind: standing.kind,
+        offset: offset(standing.offset),
+        body: &bytes[standing.body.from..standing.body.to],
+    }
+}
+
 /// The C struct of a reading; all 0 but the number where it is refused.
 pub fn reading(result: &Result<plain::Reading, u32>) -> raw::Reading {
     let reading = match result {
@@ -72,10 +133,8 @@ pub fn reading(result: &Result<plain::Reading, u32>) -> raw::Reading {
     };
     let mut expected = raw::Reading {
         verdict: verdict_number(&reading.verdict),
-        user: raw::Extent {
-            from: reading.user.from,
-            to: reading.user.to,
-        },
+        fault_at: fault_at(&reading.verdict),
+        user: extent(reading.user),
         options: raw::Extent {
             from: reading.options_from,
             to: reading.options_to,
@@ -108,10 +167,8 @@ pub fn rereading(result: &Result<plain::Rereading, u32>) -> raw::Rereading {
         Ok(rereading) => raw::Rereading {
             refusal: 0,
             verdict: verdict_number(&rereading.verdict),
-            user: raw::OriginalExtent {
-                from: Place(rereading.user.from),
-                to: Place(rereading.user.to),
-            },
+            fault_at: fault_at(&rereading.verdict),
+            user: original_extent(rereading.user),
             options: raw::OriginalExtent {
                 from: Place(rereading.options_from),
                 to: Place(rereading.options_to),
@@ -162,10 +219,10 @@ fn wrapped_verdict(verdict: plain::Verdict) -> wuraketozo::Verdict {
         plain::Verdict::Pad => wuraketozo::Verdict::Pad,
         plain::Verdict::Unsummed => wuraketozo::Verdict::Unsummed,
         plain::Verdict::BadSum => wuraketozo::Verdict::BadSum,
-        plain::Verdict::Malformed => wuraketozo::Verdict::Malformed,
-        plain::Verdict::Unsafe => wuraketozo::Verdict::Unsafe,
-        plain::Verdict::FragData => wuraketozo::Verdict::FragData,
-        plain::Verdict::Crowded => wuraketozo::Verdict::Crowded,
+        plain::Verdict::Malformed(at) => wuraketozo::Verdict::Malformed(offset(at)),
+        plain::Verdict::Unsafe(at) => wuraketozo::Verdict::Unsafe(offset(at)),
+        plain::Verdict::FragData(at) => wuraketozo::Verdict::FragData(offset(at)),
+        plain::Verdict::Crowded(at) => wuraketozo::Verdict::Crowded(offset(at)),
         plain::Verdict::Read => wuraketozo::Verdict::Read,
         plain::Verdict::Piece(fragment) => wuraketozo::Verdict::Piece(wuraketozo::Fragment {
             identification: fragment.identification,
@@ -174,8 +231,8 @@ fn wrapped_verdict(verdict: plain::Verdict) -> wuraketozo::Verdict {
             last: fragment.last,
             option_start: Place(fragment.option_start),
         }),
-        plain::Verdict::Tail => wuraketozo::Verdict::Tail,
-        plain::Verdict::Padded => wuraketozo::Verdict::Padded,
+        plain::Verdict::Tail(at) => wuraketozo::Verdict::Tail(offset(at)),
+        plain::Verdict::Padded(at) => wuraketozo::Verdict::Padded(offset(at)),
     }
 }
 

@@ -1,5 +1,6 @@
 //! How often each verdict, refusal and answer came.
 
+use reference::generate;
 use std::collections::BTreeMap;
 
 /// What must be reached, in the order of the table that is printed.
@@ -15,11 +16,28 @@ fn wanted() -> Vec<String> {
     add("read", &["tail", "tail led by FRAG", "padded"]);
     add("read", &["padded before FRAG", "padded behind FRAG"]);
     add("read", &["APC none", "APC right", "APC wrong"]);
+    for name in generate::fault_names(false) {
+        add("read", &[&name]);
+    }
     add("reread", &["2", "5", "6"]);
     add("reread", &["none", "short", "pad", "badsum", "malformed"]);
     add("reread", &["crowded", "read", "read with fill", "tail"]);
     add("reread", &["padded"]);
     add("reread", &["APC none", "APC right", "APC wrong"]);
+    for name in generate::fault_names(true) {
+        add("reread", &[&name]);
+    }
+    for call in ["walk", "rewalk"] {
+        add(call, &["no option", "options", "32 options"]);
+        add(call, &["an empty body", "an option behind NOPs"]);
+        add(call, &["an option behind an extended one"]);
+        add(call, &["from the middle of an option"]);
+    }
+    for call in ["step", "step in an original"] {
+        add(call, &["option", "extended option", "FRAG", "behind NOPs"]);
+        add(call, &["another verdict", "turned round", "past the end"]);
+        add(call, &["end", "EOL", "unsafe", "malformed"]);
+    }
     add("list", &["taken", "8"]);
     let word = "list of a made-up reading";
     add(word, &["no option", "tail", "options", "8"]);
@@ -33,6 +51,7 @@ fn wanted() -> Vec<String> {
     add("advance", &["taken", "20", "21", "22", "27"]);
     add("account", &["taken", "20", "21", "22"]);
     add("receive", &["datagram", "1", "2", "3", "4"]);
+    add("receive", &["malformed", "unsafe", "fragdata", "crowded"]);
     add("receive", &["tail", "tail led by FRAG", "padded"]);
     add("receive", &["padded before FRAG", "padded behind FRAG"]);
     add("receive", &["stored", "repeated", "conflict", "delivered"]);

@@ -14,6 +14,7 @@ mod convert;
 mod counts;
 mod payloads;
 mod records;
+mod steps;
 
 use counts::Counts;
 use reference::generate::Random;

@@ -5,6 +5,7 @@ use crate::convert::{
     entry, hex, reading, rereading, rewrapped, setting, setting_number, wrapped, PADDED,
 };
 use crate::counts::Counts;
+use crate::steps::{self, Sort};
 use reference as plain;
 use reference::generate::{self, Datagram, Random};
 use reference::Strictness;
@@ -20,6 +21,8 @@ pub fn round(random: &mut Random, counts: &mut Counts) -> Check {
     let (original, option_start) = generate::original(random);
     reread(random, counts, &original, option_start)?;
     made_up(random, counts, &datagram.payload)?;
+    steps::made_up(random, counts, &datagram.payload)?;
+    steps::made_up(random, counts, &original)?;
     write(random, counts)
 }
 
@@ -194,6 +197,9 @@ fn read_as(
         Err(number) => counts.add("read", &number.to_string()),
         Ok(found) => {
             count_said(counts, "read", &found.verdict, found.fill, found.apc);
+            for name in generate::fault_sorts(payload, found.user.to, 0, &found.verdict) {
+                counts.add("read", &name);
+            }
             if let Some(word) = generate::fault_led_by_frag(payload, found) {
                 counts.add("read", word);
             }
@@ -212,8 +218,8 @@ fn read_as(
     let Ok(found) = expected else {
         return Ok(answer);
     };
-    if strictness == Strictness::Strict && found.verdict != plain::Verdict::Padded {
-        // Listed in plain reading.
+    if strictness == Strictness::Strict && answer.verdict != PADDED {
+        // Listed and walked in plain reading.
         return Ok(answer);
     }
     let options = raw::Extent {
@@ -227,11 +233,23 @@ fn read_as(
         wrapper: &|buffer| wuraketozo::list(payload, &wrapped(&found), buffer),
         options: found
             .options(payload)
-            .map(|option| entry(&option))
+            .map(|located| entry(&located.option))
             .collect(),
         most: payload.len() + 200,
     };
     listed(random, counts, &ways, &shown)?;
+    let rest = plain::Range {
+        from: found.options_from,
+        to: found.options_to,
+    };
+    let walk = steps::walk(random, counts, Sort::Packet, payload, number, rest, &shown)?;
+    same(&found.count, &walk.len(), &shown)?;
+    same(
+        &walk,
+        &wuraketozo::walk(payload, &wrapped(&found)).collect(),
+        &shown,
+    )?;
+    steps::forged_read(counts, payload, found.user.to, &shown)?;
     Ok(answer)
 }
 
@@ -260,7 +278,12 @@ fn reread_as(
     let expected = plain::reread(original, option_start, strictness);
     match &expected {
         Err(number) => counts.add("reread", &number.to_string()),
-        Ok(found) => count_said(counts, "reread", &found.verdict, found.fill, found.apc),
+        Ok(found) => {
+            count_said(counts, "reread", &found.verdict, found.fill, found.apc);
+            for name in generate::fault_sorts(original, found.user.to, 8, &found.verdict) {
+                counts.add("reread", &name);
+            }
+        }
     }
     let number = setting_number(random, strictness);
     let shown = || {
@@ -278,8 +301,8 @@ fn reread_as(
     let Ok(found) = expected else {
         return Ok(answer);
     };
-    if strictness == Strictness::Strict && found.verdict != plain::Verdict::Padded {
-        // Listed in plain reading.
+    if strictness == Strictness::Strict && answer.verdict != PADDED {
+        // Listed and walked in plain reading.
         return Ok(answer);
     }
     let options = raw::OriginalExtent {
@@ -293,11 +316,31 @@ fn reread_as(
         wrapper: &|buffer| wuraketozo::relist(original, &rewrapped(&found), buffer),
         options: found
             .options(original)
-            .map(|option| entry(&option))
+            .map(|located| entry(&located.option))
             .collect(),
         most: original.len() + 200,
     };
     listed(random, counts, &ways, &shown)?;
+    let rest = plain::Range {
+        from: found.options_from,
+        to: found.options_to,
+    };
+    let walk = steps::walk(
+        random,
+        counts,
+        Sort::Original,
+        original,
+        number,
+        rest,
+        &shown,
+    )?;
+    same(&found.count, &walk.len(), &shown)?;
+    same(
+        &walk,
+        &wuraketozo::rewalk(original, &rewrapped(&found)).collect(),
+        &shown,
+    )?;
+    steps::forged_read(counts, original, found.user.to, &shown)?;
     Ok(answer)
 }
 
@@ -402,14 +445,10 @@ fn as_raw(result: Result<wuraketozo::Listing, wuraketozo::Refusal>) -> raw::List
     }
 }
 
-/// The list of a reading that no reader gave: the options of the range if
-/// the verdict is "read" and the range lies in the bytes and holds a sound
-/// list; else none. A sound list is what an original may have in plain reading,
-/// so the reference reads the range as one behind an option checksum of 0.
-fn made_up(random: &mut Random, counts: &mut Counts, bytes: &[u8]) -> Check {
-    // Longer ones would be too long for an original.
-    let bytes = bytes.get(..65_505).unwrap_or(bytes);
-    let length = bytes.len();
+/// What a host may say of a list that no reader gave: a verdict's number, mostly
+/// that of "read", and a range, which may start in an option's middle, be turned
+/// round or go past the end.
+pub fn said(random: &mut Random, length: usize) -> (u32, plain::Range) {
     let verdict = random.pick(&[9, 9, 9, 9, 0, 5, 8, 10, 11, 12, 13, u32::MAX]);
     let mut ends = [random.below(length + 1), random.below(length + 1)];
     ends.sort_unstable();
@@ -423,6 +462,18 @@ fn made_up(random: &mut Random, counts: &mut Counts, bytes: &[u8]) -> Check {
         5..=8 => (from, to) = (length.min(10), length),
         _ => {}
     }
+    (verdict, plain::Range { from, to })
+}
+
+/// The list of a reading that no reader gave: the options of the range if
+/// the verdict is "read" and the range lies in the bytes and holds a sound
+/// list; else none. A sound list is what an original may have in plain reading,
+/// so the reference reads the range as one behind an option checksum of 0.
+fn made_up(random: &mut Random, counts: &mut Counts, bytes: &[u8]) -> Check {
+    // Longer ones would be too long for an original.
+    let bytes = bytes.get(..65_505).unwrap_or(bytes);
+    let length = bytes.len();
+    let (verdict, plain::Range { from, to }) = said(random, length);
     let mut original = vec![0, 0];
     if verdict == 9 && from <= to {
         original.extend(bytes.get(from..to).unwrap_or(&[]));
@@ -440,7 +491,7 @@ fn made_up(random: &mut Random, counts: &mut Counts, bytes: &[u8]) -> Check {
     let found = match plain::reread(&original, 0, Strictness::Plain) {
         Ok(found) if found.verdict == plain::Verdict::Read => found,
         other => {
-            if other.is_ok_and(|found| found.verdict == plain::Verdict::Tail) {
+            if other.is_ok_and(|found| matches!(found.verdict, plain::Verdict::Tail(_))) {
                 counts.add(call, "tail");
             }
             none

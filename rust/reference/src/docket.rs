@@ -191,19 +191,20 @@ pub fn list_reread(
 }
 
 fn list(options: Options, fill: usize, buffer: &mut [u8]) -> Result<Listing, u32> {
+    // A docket says nothing of where an option stood.
     let options = options.take(OPTIONS_MOST);
     let mut count = 0;
     let mut length = 1; // a count of at most 32
-    for option in options.clone() {
+    for located in options.clone() {
         count += 1;
-        length += entry_length(&option);
+        length += entry_length(&located.option);
     }
     if length > buffer.len() {
         return Err(8);
     }
     let mut at = put_number(buffer, 0, count);
-    for option in options {
-        at = put_entry(buffer, at, &option);
+    for located in options {
+        at = put_entry(buffer, at, &located.option);
     }
     Ok(Listing { length, fill })
 }

@@ -6,7 +6,8 @@ use crate::checksum;
 use crate::crc::crc32c;
 use crate::docket::{encode, list_options, list_reread};
 use crate::reader::{
-    read, reread, Apc, Fields, ReadOption, Reading, Rereading, Strictness, Verdict,
+    next_option, read, reread, Apc, Fields, PacketOffset, Range, ReadOption, Reading, Rereading,
+    Strictness, Verdict,
 };
 use crate::table::{
     bill, clock, fresh, piece, record_test, set_up, Answer, Assembly, Flow, PieceCall, Record,
@@ -318,9 +319,12 @@ fn crowded_list(random: &mut Random, user: &[u8]) -> Vec<u8> {
     list
 }
 
-/// Appends something that ends the walk with a fault, and behind it now and
-/// then an end of the list that the walk does not come to.
+/// Appends something that ends the walk with a fault, before it now and then
+/// NOPs, and behind it an end of the list that the walk does not come to.
 fn fault_and_end(random: &mut Random, list: &mut Vec<u8>) {
+    if random.one_in(3) {
+        list.extend(vec![1; 1 + random.below(3)]);
+    }
     fault(random, list);
     if random.one_in(3) {
         end_list(random, list);
@@ -525,7 +529,12 @@ pub fn original(random: &mut Random) -> (Vec<u8>, usize) {
             let from = user.len() + area.len();
             area.extend(fragment_list(random, from));
         }
-        5 => fault_and_end(random, &mut area),
+        5 => {
+            for _ in 0..random.below(3) {
+                sound_option(random, &mut area, &user);
+            }
+            fault_and_end(random, &mut area);
+        }
         _ => area.extend(sound_list(random, &user)),
     }
     let pad = user.len() % 2;
@@ -1557,11 +1566,76 @@ pub fn fault_led_by_frag(payload: &[u8], reading: &Reading) -> Option<&'static s
         return None;
     }
     match reading.verdict {
-        Verdict::Tail => Some("tail led by FRAG"),
-        Verdict::Padded if nops > 7 => Some("padded before FRAG"),
-        Verdict::Padded => Some("padded behind FRAG"),
+        Verdict::Tail(_) => Some("tail led by FRAG"),
+        Verdict::Padded(_) if nops > 7 => Some("padded before FRAG"),
+        Verdict::Padded(_) => Some("padded behind FRAG"),
         _ => None,
     }
+}
+
+/// Behind what a fault of the walk was met, and at which parity of L (of 8 + r in
+/// an original): names of [`fault_names`]. `user_end` is the index where the
+/// area starts, `origin` the offset of the first byte: 0, or 8 of an original.
+pub fn fault_sorts(bytes: &[u8], user_end: usize, origin: usize, verdict: &Verdict) -> Vec<String> {
+    let Some(PacketOffset(offset)) = verdict.fault_at() else {
+        return Vec::new();
+    };
+    let (list, at) = (user_end + user_end % 2 + 2, offset - origin);
+    let before = &bytes[list..at];
+    let nops = before.iter().take_while(|byte| **byte == 1).count();
+    let behind_frag = origin == 0 && before.get(nops) == Some(&3);
+    let place = match verdict {
+        Verdict::Tail(_) if at == end_of_list(bytes, list, at) + 1 => "right behind EOL",
+        Verdict::Tail(_) => "behind zeros",
+        Verdict::Padded(_) if nops == before.len() => "at the front",
+        Verdict::Padded(_) => "behind an option",
+        _ if behind_frag => "in a fragment's list",
+        _ if before.is_empty() => "at the front",
+        _ if nops == before.len() => "behind NOPs",
+        _ => "behind an option",
+    };
+    let word = match verdict {
+        Verdict::Malformed(_) if bytes[at] == 3 => "malformed FRAG",
+        other => other.word(),
+    };
+    let parity = if user_end % 2 == 1 { "odd" } else { "even" };
+    vec![format!("{word} {place}"), format!("{word} at {parity} L")]
+}
+
+/// The index of the EOL that stands before `to`, in a list from `from` on.
+fn end_of_list(bytes: &[u8], from: usize, to: usize) -> usize {
+    let mut rest = Range { from, to };
+    while let Some(found) = next_option(bytes, true, rest) {
+        rest.from = found.body.to;
+    }
+    let nops = bytes[rest.from..to].iter().take_while(|byte| **byte == 1);
+    rest.from + nops.count()
+}
+
+/// Every name that [`fault_sorts`] has for packets, or for originals.
+pub fn fault_names(originals: bool) -> Vec<String> {
+    let anywhere = ["at the front", "behind NOPs", "behind an option"];
+    let mut sorts = vec![
+        ("malformed", &anywhere[..]),
+        ("malformed FRAG", &anywhere),
+        ("crowded", &["behind an option"]),
+        ("tail", &["right behind EOL", "behind zeros"]),
+        ("padded", &["at the front", "behind an option"]),
+    ];
+    if !originals {
+        sorts.push(("unsafe", &anywhere));
+        sorts.push(("fragdata", &["at the front", "behind NOPs"]));
+    }
+    let mut names = Vec::new();
+    for (word, places) in sorts {
+        let places = places.iter().chain(&["at even L", "at odd L"]);
+        names.extend(places.map(|place| format!("{word} {place}")));
+    }
+    if !originals {
+        let words = ["malformed", "malformed FRAG", "unsafe", "crowded"];
+        names.extend(words.map(|word| format!("{word} in a fragment's list")));
+    }
+    names
 }
 
 /// Counts a reading.
@@ -1570,6 +1644,9 @@ fn count_reading(coverage: &mut Coverage, payload: &[u8], result: &Result<Readin
         Err(number) => count(coverage, format!("read: refused {number}")),
         Ok(reading) => {
             count_result(coverage, "read", &reading.verdict, reading.apc);
+            for name in fault_sorts(payload, reading.user.to, 0, &reading.verdict) {
+                count(coverage, format!("read: {name}"));
+            }
             if let Some(word) = fault_led_by_frag(payload, reading) {
                 count(coverage, format!("read: {word}"));
             }
@@ -1578,10 +1655,15 @@ fn count_reading(coverage: &mut Coverage, payload: &[u8], result: &Result<Readin
 }
 
 /// Counts a rereading.
-fn count_rereading(coverage: &mut Coverage, result: &Result<Rereading, u32>) {
+fn count_rereading(coverage: &mut Coverage, original: &[u8], result: &Result<Rereading, u32>) {
     match result {
         Err(number) => count(coverage, format!("reread: refused {number}")),
-        Ok(reading) => count_result(coverage, "reread", &reading.verdict, reading.apc),
+        Ok(reading) => {
+            count_result(coverage, "reread", &reading.verdict, reading.apc);
+            for name in fault_sorts(original, reading.user.to, 8, &reading.verdict) {
+                count(coverage, format!("reread: {name}"));
+            }
+        }
     }
 }
 
@@ -1607,7 +1689,7 @@ pub fn coverage(seed: u64, rounds: usize) -> Coverage {
                 }
             }
             let result = reread(&whole, r, strictness);
-            count_rereading(&mut seen, &result);
+            count_rereading(&mut seen, &whole, &result);
             if let Ok(reading) = result {
                 let mut buffer = vec![0; random.below(200)];
                 match list_reread(&whole, &reading, &mut buffer) {
@@ -1681,6 +1763,12 @@ pub fn wanted() -> Vec<String> {
     }
     add("read", &["tail led by FRAG"]);
     add("read", &["padded before FRAG", "padded behind FRAG"]);
+    for name in fault_names(false) {
+        add("read", &[&name]);
+    }
+    for name in fault_names(true) {
+        add("reread", &[&name]);
+    }
     add("list", &["taken", "refused 8"]);
     add("list reread", &["taken", "refused 8"]);
     add("write", &["taken", "refused 7", "refused 8", "refused 9"]);

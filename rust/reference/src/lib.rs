@@ -1,4 +1,4 @@
-//! A plain reference for document 01 with requests of document
+//! A plain reference for document 01 with requests of document
 //! 02: the reader of IPv4 UDP payloads with RFC 9868 options, the writer, the
 //! reassembly table, a client's plain book and the program's text. Section
 //! names in comments are document 01's; "RFC" is RFC 9868.
@@ -18,8 +18,8 @@ pub use book::Book;
 pub use docket::{decode, encode, list_options, list_reread, Listing};
 pub use program::report;
 pub use reader::{
-    read, reread, Apc, Fields, Fragment, Options, Range, ReadOption, Reading, Rereading,
-    Strictness, Verdict,
+    next_option, next_reread_option, read, reread, Apc, Fields, Fragment, Located, Options,
+    PacketOffset, Range, ReadOption, Reading, Rereading, Standing, Strictness, Verdict,
 };
 pub use table::{
     bill, clock, fresh, piece, record_test, set_up, Account, Answer, Assembly, Flow, PieceCall,

@@ -1,6 +1,6 @@
 //! "The program": its text for given input bytes.
 
-use crate::reader::{read, Fields, Strictness, Verdict};
+use crate::reader::{read, Fields, Located, PacketOffset, Strictness, Verdict};
 use std::fmt::Write;
 
 /// The payload bytes that the program reads at most.
@@ -33,11 +33,15 @@ fn describe(
         Err(number) => return writeln!(text, "refused {number}"),
     };
     writeln!(text, "user {}", reading.user.to - reading.user.from)?;
-    writeln!(text, "verdict {}", reading.verdict.word())?;
+    write!(text, "verdict {}", reading.verdict.word())?;
+    if let Some(PacketOffset(at)) = reading.verdict.fault_at() {
+        write!(text, " at {at}")?;
+    }
+    text.push('\n');
     if reading.verdict != Verdict::Read {
         return Ok(());
     }
-    for option in reading.options(payload) {
+    for Located { offset, option } in reading.options(payload) {
         write!(text, "kind {}", option.kind)?;
         match option.fields {
             Fields::None => {}
@@ -52,7 +56,7 @@ fn describe(
                 }
             }
         }
-        text.push('\n');
+        writeln!(text, " at {}", offset.0)?;
     }
     writeln!(text, "fill {}", reading.fill)
 }

@@ -20,6 +20,11 @@ pub enum Strictness {
     Strict,
 }
 
+/// A count of bytes from the UDP header, of a byte that is named by itself. In
+/// an original, which has none, it is 8 plus the place (document 02, R-7).
+#[derive(Clone, Copy, Debug, PartialEq, Eq, PartialOrd, Ord)]
+pub struct PacketOffset(pub usize);
+
 /// From `from` up to, not including, `to`.
 #[derive(Clone, Copy, Debug, PartialEq, Eq)]
 pub struct Range {
@@ -41,7 +46,7 @@ pub struct Fragment {
     pub option_start: usize,
 }
 
-/// The verdict on the area.
+/// The verdict on the area. A fault of the walk has the offset where it was met.
 #[derive(Clone, Copy, Debug, PartialEq, Eq)]
 pub enum Verdict {
     None,
@@ -49,13 +54,18 @@ pub enum Verdict {
     Pad,
     Unsummed,
     BadSum,
-    Malformed,
-    Unsafe,
-    FragData,
-    Crowded,
-    Tail,
-    /// In strict reading alone.
-    Padded,
+    /// The faulty option's kind byte.
+    Malformed(PacketOffset),
+    /// That kind byte.
+    Unsafe(PacketOffset),
+    /// FRAG's kind byte.
+    FragData(PacketOffset),
+    /// The 33rd option's kind byte.
+    Crowded(PacketOffset),
+    /// The first byte behind EOL that is not zero.
+    Tail(PacketOffset),
+    /// In strict reading alone. The eighth NOP.
+    Padded(PacketOffset),
     Read,
     Piece(Fragment),
 }
@@ -69,14 +79,27 @@ impl Verdict {
             Verdict::Pad => "pad",
             Verdict::Unsummed => "unsummed",
             Verdict::BadSum => "badsum",
-            Verdict::Malformed => "malformed",
-            Verdict::Unsafe => "unsafe",
-            Verdict::FragData => "fragdata",
-            Verdict::Crowded => "crowded",
-            Verdict::Tail => "tail",
-            Verdict::Padded => "padded",
+            Verdict::Malformed(_) => "malformed",
+            Verdict::Unsafe(_) => "unsafe",
+            Verdict::FragData(_) => "fragdata",
+            Verdict::Crowded(_) => "crowded",
+            Verdict::Tail(_) => "tail",
+            Verdict::Padded(_) => "padded",
             Verdict::Read => "read",
             Verdict::Piece(_) => "piece",
+        }
+    }
+
+    /// Where the fault was met, if it is one of the walk.
+    pub fn fault_at(&self) -> Option<PacketOffset> {
+        match *self {
+            Verdict::Malformed(at)
+            | Verdict::Unsafe(at)
+            | Verdict::FragData(at)
+            | Verdict::Crowded(at)
+            | Verdict::Tail(at)
+            | Verdict::Padded(at) => Some(at),
+            _ => None,
         }
     }
 }
@@ -105,6 +128,13 @@ pub struct ReadOption<'a> {
     pub fields: Fields<'a>,
 }
 
+/// An option that was read, and where its kind byte stands.
+#[derive(Clone, Copy, Debug, PartialEq, Eq)]
+pub struct Located<'a> {
+    pub offset: PacketOffset,
+    pub option: ReadOption<'a>,
+}
+
 /// A payload that was not refused. All numbers are packet offsets.
 #[derive(Clone, Copy, Debug, PartialEq, Eq)]
 pub struct Reading {
@@ -122,7 +152,8 @@ pub struct Reading {
     pub apc: Apc,
 }
 
-/// A reassembled original that was not refused. All numbers are places.
+/// A reassembled original that was not refused. All numbers are places, but
+/// for the verdict's offset.
 #[derive(Clone, Copy, Debug, PartialEq, Eq)]
 pub struct Rereading {
     /// 0 to r.
@@ -139,14 +170,19 @@ pub struct Rereading {
 impl Reading {
     /// The options to report, in order. `payload` is the one that was read.
     pub fn options<'a>(&self, payload: &'a [u8]) -> Options<'a> {
-        Options::over(payload, self.options_from, self.options_to)
+        Options::over(payload, self.options_from, self.options_to, Carrier::Packet)
     }
 }
 
 impl Rereading {
     /// The options to report, in order. `original` is the one that was read.
     pub fn options<'a>(&self, original: &'a [u8]) -> Options<'a> {
-        Options::over(original, self.options_from, self.options_to)
+        Options::over(
+            original,
+            self.options_from,
+            self.options_to,
+            Carrier::Original,
+        )
     }
 }
 
@@ -199,7 +235,7 @@ pub fn reread(original: &[u8], r: usize, strictness: Strictness) -> Result<Rerea
     let user = Range { from: 0, to: r };
     // The UDP checksum is taken as zero.
     let examined = examine(original, user, false, Carrier::Original, strictness);
-    if examined.verdict == Verdict::Unsafe {
+    if let Verdict::Unsafe(_) = examined.verdict {
         return Err(5);
     }
     Ok(Rereading {
@@ -214,10 +250,21 @@ pub fn reread(original: &[u8], r: usize, strictness: Strictness) -> Result<Rerea
 }
 
 /// What the area stands in: FRAG may stand in a packet's alone.
-#[derive(Clone, Copy, PartialEq, Eq)]
+#[derive(Clone, Copy, Debug, PartialEq, Eq)]
 enum Carrier {
     Packet,
     Original,
+}
+
+impl Carrier {
+    /// The offset of the byte with this index: in an original that is a place.
+    #[inline]
+    fn offset(self, index: usize) -> PacketOffset {
+        match self {
+            Carrier::Packet => PacketOffset(index),
+            Carrier::Original => PacketOffset(8 + index),
+        }
+    }
 }
 
 /// What is found out about an area.
@@ -286,12 +333,13 @@ fn walk(
     carrier: Carrier,
     strictness: Strictness,
 ) -> Result<Examined, Verdict> {
-    let first = skip_nops(bytes, from, strictness)?;
+    let padded = |index| Verdict::Padded(carrier.offset(index));
+    let first = skip_nops(bytes, from, strictness).map_err(padded)?;
     // FRAG must be first, and never stands in an original.
     if carrier == Carrier::Packet && bytes.get(first) == Some(&3) {
         return Err(walk_piece(bytes, user, first, strictness));
     }
-    let list = walk_list(bytes, first, 0, strictness)?;
+    let list = walk_list(bytes, first, 0, carrier, strictness)?;
     let apc = match list.crc {
         None => Apc::None,
         // Two different fields can't both be right.
@@ -309,19 +357,20 @@ fn walk(
     })
 }
 
-/// The verdict on a list that starts with FRAG, at `at`.
+/// The verdict on a packet's list that starts with FRAG, at `at`.
 fn walk_piece(bytes: &[u8], user: Range, at: usize, strictness: Strictness) -> Verdict {
     let Step::Sound { next, .. } = step(bytes, at) else {
-        return Verdict::Malformed;
+        return Verdict::Malformed(PacketOffset(at));
     };
     let Some(found) = frag(bytes, at, next) else {
-        return Verdict::Malformed;
+        return Verdict::Malformed(PacketOffset(at));
     };
     if user.to > user.from {
-        return Verdict::FragData;
+        return Verdict::FragData(PacketOffset(at));
     }
     // The list ends at Frag. Start.
-    match walk_list(&bytes[..found.from], next, 1, strictness) {
+    let list = &bytes[..found.from];
+    match walk_list(list, next, 1, Carrier::Packet, strictness) {
         Ok(_) => Verdict::Piece(found),
         Err(verdict) => verdict,
     }
@@ -343,6 +392,7 @@ fn walk_list(
     list: &[u8],
     mut at: usize,
     mut count: usize,
+    carrier: Carrier,
     strictness: Strictness,
 ) -> Result<List, Verdict> {
     let mut fill = 0;
@@ -353,18 +403,25 @@ fn walk_list(
             Step::End => break,
             Step::Eol => {
                 // Document 02, R-2: what stands behind EOL must be zero.
-                if !all_zero(&list[at + 1..]) {
-                    return Err(Verdict::Tail);
+                let behind = &list[at + 1..];
+                if !all_zero(behind) {
+                    let bad = at + 1 + leading_zeros(behind);
+                    return Err(Verdict::Tail(carrier.offset(bad)));
                 }
                 fill = list.len() - at;
                 break;
             }
-            Step::Nop => at = skip_nops(list, at, strictness)?,
-            Step::Unsafe => return Err(Verdict::Unsafe),
-            Step::Malformed | Step::Sound { kind: 3, .. } => return Err(Verdict::Malformed),
+            Step::Nop => {
+                let padded = |index| Verdict::Padded(carrier.offset(index));
+                at = skip_nops(list, at, strictness).map_err(padded)?;
+            }
+            Step::Unsafe => return Err(Verdict::Unsafe(carrier.offset(at))),
+            Step::Malformed | Step::Sound { kind: 3, .. } => {
+                return Err(Verdict::Malformed(carrier.offset(at)))
+            }
             Step::Sound { kind, body, next } => {
                 if count == OPTIONS_MOST {
-                    return Err(Verdict::Crowded);
+                    return Err(Verdict::Crowded(carrier.offset(at)));
                 }
                 if kind == 2 {
                     let field = number32(list, body);
@@ -386,16 +443,16 @@ fn walk_list(
 /// Eight NOPs, one more than strict reading takes in a row.
 const NOPS: u64 = u64::from_ne_bytes([1; 8]);
 
-/// Behind the run of NOPs at `at`, which may be empty; or "padded" (document
-/// 02, R-6). The byte before is no NOP of the list.
+/// Behind the run of NOPs at `at`, which may be empty; or the eighth of them,
+/// which is "padded" (document 02, R-6). The byte before is no NOP of the list.
 #[inline(always)]
-fn skip_nops(list: &[u8], at: usize, strictness: Strictness) -> Result<usize, Verdict> {
+fn skip_nops(list: &[u8], at: usize, strictness: Strictness) -> Result<usize, usize> {
     let rest = &list[at..];
     let run = match rest.first_chunk() {
         Some(eight) if u64::from_ne_bytes(*eight) != NOPS => leading_nops(*eight),
         // Fewer than eight are left, so the run is short enough.
         None => rest.iter().take_while(|byte| **byte == 1).count(),
-        Some(_) if strictness == Strictness::Strict => return Err(Verdict::Padded),
+        Some(_) if strictness == Strictness::Strict => return Err(at + 7),
         Some(_) => long_run(rest),
     };
     Ok(at + run)
@@ -443,6 +500,15 @@ fn all_zero(bytes: &[u8]) -> bool {
     let words = eights.iter().map(|eight| u64::from_ne_bytes(*eight));
     let words = words.chain(lanes);
     words.fold(u64::from_ne_bytes(*last), |any, word| any | word) == 0
+}
+
+/// How many zeros stand at the front: 64 bytes at a step, then one.
+#[inline(never)]
+fn leading_zeros(bytes: &[u8]) -> usize {
+    let whole = bytes.chunks_exact(64).take_while(|block| all_zero(block));
+    let whole = whole.count() * 64;
+    let rest = bytes[whole..].iter().take_while(|byte| **byte == 0);
+    whole + rest.count()
 }
 
 /// FRAG's fields (RFC section 11.4) at `at`, ending at `end`; none where one
@@ -527,30 +593,34 @@ fn step(list: &[u8], at: usize) -> Step {
     }
 }
 
-/// The options of a reading, NOPs left out.
+/// The options of a reading, NOPs left out, each where it stands.
 #[derive(Clone, Debug)]
 pub struct Options<'a> {
     list: &'a [u8],
     at: usize,
+    /// The offset of the list's first byte.
+    from: PacketOffset,
 }
 
 impl<'a> Options<'a> {
-    fn over(bytes: &'a [u8], from: usize, to: usize) -> Self {
+    fn over(bytes: &'a [u8], from: usize, to: usize, carrier: Carrier) -> Self {
         Options {
             list: bytes.get(from..to).unwrap_or(&[]),
             at: 0,
+            from: carrier.offset(from),
         }
     }
 }
 
 impl<'a> Iterator for Options<'a> {
-    type Item = ReadOption<'a>;
+    type Item = Located<'a>;
 
-    fn next(&mut self) -> Option<ReadOption<'a>> {
+    fn next(&mut self) -> Option<Located<'a>> {
         loop {
             match step(self.list, self.at) {
                 Step::Nop => self.at = skip_nops(self.list, self.at, Strictness::Plain).ok()?,
                 Step::Sound { kind, body, next } => {
+                    let offset = PacketOffset(self.from.0 + self.at);
                     self.at = next;
                     let list = self.list;
                     let fields = match kind {
@@ -560,11 +630,62 @@ impl<'a> Iterator for Options<'a> {
                         8 => Fields::Two(number32(list, body), number32(list, body + 4)),
                         _ => Fields::Body(&list[body..next]),
                     };
-                    return Some(ReadOption { kind, fields });
+                    let option = ReadOption { kind, fields };
+                    return Some(Located { offset, option });
                 }
                 // A list that was read has no fault.
                 Step::End | Step::Eol | Step::Unsafe | Step::Malformed => return None,
             }
+        }
+    }
+}
+
+/// One step of a host that takes a reading's options one by one.
+#[derive(Clone, Copy, Debug, PartialEq, Eq)]
+pub struct Standing {
+    pub kind: u8,
+    /// Its kind byte.
+    pub offset: PacketOffset,
+    /// Behind its header to its end, counted as `rest` is.
+    pub body: Range,
+}
+
+/// The first option of `rest`, which is the range of a reading's options or what
+/// remains of it behind an option's body. `read` says that the verdict is
+/// "read". With anything else that a host may say: none, or what stands there if
+/// it has the form of an option, FRAG too.
+#[inline]
+pub fn next_option(payload: &[u8], read: bool, rest: Range) -> Option<Standing> {
+    standing(payload, read, rest, Carrier::Packet)
+}
+
+/// The same of an original, where `rest` and the body are places.
+#[inline]
+pub fn next_reread_option(original: &[u8], read: bool, rest: Range) -> Option<Standing> {
+    standing(original, read, rest, Carrier::Original)
+}
+
+#[inline(always)]
+fn standing(bytes: &[u8], read: bool, rest: Range, carrier: Carrier) -> Option<Standing> {
+    if !read || rest.from > rest.to {
+        return None;
+    }
+    let list = bytes.get(..rest.to)?;
+    let mut at = rest.from;
+    loop {
+        match step(list, at) {
+            Step::Nop => at = skip_nops(list, at, Strictness::Plain).ok()?,
+            Step::Sound { kind, body, next } => {
+                return Some(Standing {
+                    kind,
+                    offset: carrier.offset(at),
+                    body: Range {
+                        from: body,
+                        to: next,
+                    },
+                })
+            }
+            Step::End | Step::Eol | Step::Unsafe | Step::Malformed => return None,
         }
     }
 }

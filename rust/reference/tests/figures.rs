@@ -83,7 +83,9 @@ fn figure_01_program_text() {
     let docket = [1, 6, 0xAC, 2];
     let length = write(SOURCE, DESTINATION, 1, 2, &[], &docket, 0, &mut buffer).unwrap();
     input.extend(&buffer[..length]);
-    assert_eq!(report(&input), "user 0\nverdict read\nkind 6 300\nfill 0\n");
+    // As document 02 has it.
+    let text = "user 0\nverdict read\nkind 6 300 at 10\nfill 0\n";
+    assert_eq!(report(&input), text);
 }
 
 #[test]
@@ -120,7 +122,8 @@ fn figure_06_pad() {
 
 #[test]
 fn figure_07_malformed() {
-    assert_eq!(verdict(&[], &[0, 0, 6, 5, 0, 0, 0]), Verdict::Malformed);
+    let malformed = Verdict::Malformed(PacketOffset(10));
+    assert_eq!(verdict(&[], &[0, 0, 6, 5, 0, 0, 0]), malformed);
 }
 
 #[test]
@@ -214,5 +217,6 @@ fn figure_13_limits() {
     area.extend([9, 2].repeat(32));
     assert_eq!(verdict(&[], &area), Verdict::Read);
     area.extend([9, 2]);
-    assert_eq!(verdict(&[], &area), Verdict::Crowded);
+    let crowded = Verdict::Crowded(PacketOffset(10 + 2 * 32));
+    assert_eq!(verdict(&[], &area), crowded);
 }

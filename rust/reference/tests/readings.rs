@@ -22,12 +22,13 @@ fn verdicts(user: &[u8], area: &[u8]) -> (Verdict, Verdict) {
     let packet = payload(user, area);
     let [plain, strict] = by_setting(|strictness| read(&packet, [0; 4], [0; 4], strictness));
     if plain != strict {
+        let verdict = strict.unwrap().verdict;
         let padded = Reading {
             user: Range {
                 from: 8,
                 to: 8 + user.len(),
             },
-            verdict: Verdict::Padded,
+            verdict: padded(eighth(&packet, verdict)),
             options_from: 0,
             options_to: 0,
             count: 0,
@@ -37,6 +38,13 @@ fn verdicts(user: &[u8], area: &[u8]) -> (Verdict, Verdict) {
         assert_eq!(strict, Ok(padded));
     }
     (plain.unwrap().verdict, strict.unwrap().verdict)
+}
+
+/// The index of the byte that a verdict names, which ends eight NOPs.
+fn eighth(packet: &[u8], verdict: Verdict) -> usize {
+    let at = verdict.fault_at().unwrap().0;
+    assert_eq!(packet[at - 7..=at], [1; 8]);
+    at
 }
 
 /// What comes of both settings. Any strict answer but "padded" is the plain
@@ -56,14 +64,39 @@ trait Answered: PartialEq + std::fmt::Debug {
 
 impl Answered for Reading {
     fn is_padded(&self) -> bool {
-        self.verdict == Verdict::Padded
+        matches!(self.verdict, Verdict::Padded(_))
     }
 }
 
 impl Answered for Rereading {
     fn is_padded(&self) -> bool {
-        self.verdict == Verdict::Padded
+        matches!(self.verdict, Verdict::Padded(_))
     }
+}
+
+/// "malformed", met at this offset; and so on.
+fn malformed(at: usize) -> Verdict {
+    Verdict::Malformed(PacketOffset(at))
+}
+
+fn unsafe_kind(at: usize) -> Verdict {
+    Verdict::Unsafe(PacketOffset(at))
+}
+
+fn fragdata(at: usize) -> Verdict {
+    Verdict::FragData(PacketOffset(at))
+}
+
+fn crowded(at: usize) -> Verdict {
+    Verdict::Crowded(PacketOffset(at))
+}
+
+fn tail(at: usize) -> Verdict {
+    Verdict::Tail(PacketOffset(at))
+}
+
+fn padded(at: usize) -> Verdict {
+    Verdict::Padded(PacketOffset(at))
 }
 
 /// The verdict in plain reading.
@@ -71,7 +104,8 @@ fn verdict(user: &[u8], area: &[u8]) -> Verdict {
     verdicts(user, area).0
 }
 
-/// The verdict on a list of an even datagram without checksums.
+/// The verdict on a list of an even datagram without checksums. The list starts
+/// at offset 10.
 fn of_list(list: &[u8]) -> Verdict {
     verdict(&[], &[&[0, 0], list].concat())
 }
@@ -120,8 +154,8 @@ fn last_kind_byte() {
     for kind in 0..=255u8 {
         let expected = match kind {
             0 | 1 => Verdict::Read,
-            2..=191 => Verdict::Malformed,
-            192..=255 => Verdict::Unsafe,
+            2..=191 => malformed(10),
+            192..=255 => unsafe_kind(10),
         };
         assert_eq!(of_list(&[kind]), expected, "{kind}");
     }
@@ -142,7 +176,7 @@ fn lengths() {
             };
             if kind == 3 {
                 // All its fields are 0, before their origins.
-                assert_eq!(of_list(&list), Verdict::Malformed);
+                assert_eq!(of_list(&list), malformed(10));
                 continue;
             }
             let sound = if kind < 9 {
@@ -150,15 +184,11 @@ fn lengths() {
             } else {
                 length >= 2
             };
-            let expected = if sound {
-                Verdict::Read
-            } else {
-                Verdict::Malformed
-            };
+            let expected = if sound { Verdict::Read } else { malformed(10) };
             assert_eq!(of_list(&list), expected, "{kind} {length}");
             list.pop();
             if length > 2 {
-                assert_eq!(of_list(&list), Verdict::Malformed, "{kind} {length}");
+                assert_eq!(of_list(&list), malformed(10), "{kind} {length}");
             }
         }
     }
@@ -168,11 +198,7 @@ fn lengths() {
             list.extend(whole.to_be_bytes());
             list.resize(700, 0);
             let sound = kind >= 9 && (255..=700).contains(&whole);
-            let expected = if sound {
-                Verdict::Read
-            } else {
-                Verdict::Malformed
-            };
+            let expected = if sound { Verdict::Read } else { malformed(10) };
             assert_eq!(of_list(&list), expected, "{kind} {whole}");
         }
     }
@@ -184,15 +210,15 @@ fn the_33rd() {
     let with = |more: &[u8]| of_list(&[&full, more].concat());
     assert_eq!(with(&[]), Verdict::Read);
     assert_eq!(with(&[1, 1, 0, 0, 0]), Verdict::Read);
-    assert_eq!(with(&[1, 1, 0, 9, 2]), Verdict::Tail);
-    assert_eq!(with(&[9, 2]), Verdict::Crowded);
-    assert_eq!(with(&[9, 2, 0, 5]), Verdict::Crowded);
-    assert_eq!(with(&[9, 2, 192]), Verdict::Crowded);
-    assert_eq!(with(&[9, 3]), Verdict::Malformed);
-    assert_eq!(with(&[192]), Verdict::Unsafe);
-    assert_eq!(with(&[3]), Verdict::Malformed);
+    assert_eq!(with(&[1, 1, 0, 9, 2]), tail(77));
+    assert_eq!(with(&[9, 2]), crowded(74));
+    assert_eq!(with(&[9, 2, 0, 5]), crowded(74));
+    assert_eq!(with(&[9, 2, 192]), crowded(74));
+    assert_eq!(with(&[9, 3]), malformed(74));
+    assert_eq!(with(&[192]), unsafe_kind(74));
+    assert_eq!(with(&[3]), malformed(74));
     let frag = [3, 10, 0, 0, 0, 0, 0, 0, 0, 8];
-    assert_eq!(with(&frag), Verdict::Malformed);
+    assert_eq!(with(&frag), malformed(74));
 }
 
 /// FRAG at packet offset 10, with bytes behind it.
@@ -226,17 +252,17 @@ fn pieces() {
         of_list(&frag(22, 30, Some(9), &[5])),
         piece(22, 22, 23, Some(1))
     );
-    assert_eq!(of_list(&frag(19, 8, None, &[5])), Verdict::Malformed);
-    assert_eq!(of_list(&frag(22, 8, None, &[5])), Verdict::Malformed);
-    assert_eq!(of_list(&frag(20, 7, None, &[5])), Verdict::Malformed);
-    assert_eq!(of_list(&frag(20, 0, None, &[5])), Verdict::Malformed);
-    assert_eq!(of_list(&frag(22, 8, Some(7), &[5])), Verdict::Malformed);
+    assert_eq!(of_list(&frag(19, 8, None, &[5])), malformed(10));
+    assert_eq!(of_list(&frag(22, 8, None, &[5])), malformed(10));
+    assert_eq!(of_list(&frag(20, 7, None, &[5])), malformed(10));
+    assert_eq!(of_list(&frag(20, 0, None, &[5])), malformed(10));
+    assert_eq!(of_list(&frag(22, 8, Some(7), &[5])), malformed(10));
     assert_eq!(
         of_list(&frag(20, 65_535, None, &[5])),
         piece(65_527, 20, 21, None)
     );
     // Options on a piece: faults, EOL, one that crosses Frag. Start.
-    assert_eq!(of_list(&frag(21, 8, None, &[192])), Verdict::Unsafe);
+    assert_eq!(of_list(&frag(21, 8, None, &[192])), unsafe_kind(20));
     assert_eq!(
         of_list(&frag(22, 8, None, &[0, 0, 7])),
         piece(0, 22, 23, None)
@@ -245,34 +271,34 @@ fn pieces() {
         of_list(&frag(21, 8, None, &[0, 192, 7])),
         piece(0, 21, 23, None)
     );
-    assert_eq!(of_list(&frag(22, 8, None, &[0, 192, 7])), Verdict::Tail);
-    assert_eq!(of_list(&frag(21, 8, None, &[9, 2])), Verdict::Malformed);
+    assert_eq!(of_list(&frag(22, 8, None, &[0, 192, 7])), tail(21));
+    assert_eq!(of_list(&frag(21, 8, None, &[9, 2])), malformed(20));
     assert_eq!(
         of_list(&frag(22, 8, None, &[9, 2, 9])),
         piece(0, 22, 23, None)
     );
     let second = frag(50, 8, None, &[]);
-    assert_eq!(of_list(&frag(30, 8, None, &second)), Verdict::Malformed);
+    assert_eq!(of_list(&frag(30, 8, None, &second)), malformed(20));
     // FRAG counts.
     let start = |count: u16| 20 + 2 * count;
     let many = frag(start(31), 8, None, &[9, 2].repeat(31));
     assert_eq!(of_list(&many), piece(0, 82, 82, None));
     let many = frag(start(32), 8, None, &[9, 2].repeat(32));
-    assert_eq!(of_list(&many), Verdict::Crowded);
+    assert_eq!(of_list(&many), crowded(82));
     // What stands before it.
     let after_nop = [&[1][..], &frag(21, 8, None, &[5])].concat();
     assert_eq!(of_list(&after_nop), piece(0, 21, 22, None));
     let after_eol = [&[0][..], &frag(21, 8, None, &[5])].concat();
-    assert_eq!(of_list(&after_eol), Verdict::Tail);
+    assert_eq!(of_list(&after_eol), tail(11));
     let after_other = [&[9, 2][..], &frag(22, 8, None, &[5])].concat();
-    assert_eq!(of_list(&after_other), Verdict::Malformed);
+    assert_eq!(of_list(&after_other), malformed(12));
     // With user data: at once, whatever follows, if it is sound.
     let area = [&[0, 0][..], &frag(22, 8, None, &[192, 3])].concat();
-    assert_eq!(verdict(&[1, 2], &area), Verdict::FragData);
+    assert_eq!(verdict(&[1, 2], &area), fragdata(12));
     let area = [&[0, 0][..], &frag(25, 8, None, &[0, 0, 9])].concat();
-    assert_eq!(verdict(&[1, 2], &area), Verdict::FragData);
+    assert_eq!(verdict(&[1, 2], &area), fragdata(12));
     let area = [&[0, 0][..], &frag(21, 8, None, &[192, 3])].concat();
-    assert_eq!(verdict(&[1, 2], &area), Verdict::Malformed);
+    assert_eq!(verdict(&[1, 2], &area), malformed(12));
     let whole = payload(&[], &[&[0, 0][..], &frag(20, 8, None, &[5])].concat());
     let reading = read(&whole, [0; 4], [0; 4], Plain).unwrap();
     assert_eq!(reading.user, Range { from: 8, to: 8 });
@@ -284,17 +310,17 @@ fn pieces() {
 fn tails() {
     assert_eq!(of_list(&[0]), Verdict::Read);
     assert_eq!(of_list(&[0, 0, 0]), Verdict::Read);
-    assert_eq!(of_list(&[0, 1, 0]), Verdict::Tail);
-    assert_eq!(of_list(&[0, 0, 128]), Verdict::Tail);
-    assert_eq!(of_list(&[1, 9, 2, 0, 0, 1]), Verdict::Tail);
+    assert_eq!(of_list(&[0, 1, 0]), tail(11));
+    assert_eq!(of_list(&[0, 0, 128]), tail(12));
+    assert_eq!(of_list(&[1, 9, 2, 0, 0, 1]), tail(15));
     // What would be a fault in front of EOL is none behind it.
-    assert_eq!(of_list(&[0, 192]), Verdict::Tail);
-    assert_eq!(of_list(&[0, 9, 1]), Verdict::Tail);
-    assert_eq!(of_list(&[0, 3, 10]), Verdict::Tail);
+    assert_eq!(of_list(&[0, 192]), tail(11));
+    assert_eq!(of_list(&[0, 9, 1]), tail(11));
+    assert_eq!(of_list(&[0, 3, 10]), tail(11));
     // A fault in front of EOL is met first.
-    assert_eq!(of_list(&[192, 0, 1]), Verdict::Unsafe);
-    assert_eq!(of_list(&[9, 1, 0, 1]), Verdict::Malformed);
-    assert_eq!(of_list(&[9, 2, 3, 10, 0, 1]), Verdict::Malformed);
+    assert_eq!(of_list(&[192, 0, 1]), unsafe_kind(10));
+    assert_eq!(of_list(&[9, 1, 0, 1]), malformed(10));
+    assert_eq!(of_list(&[9, 2, 3, 10, 0, 1]), malformed(12));
     // User data is delivered, and no option: the APC would be right.
     let mut area = vec![0, 0, 2, 6];
     area.extend(crc32c(b"ab").to_be_bytes());
@@ -307,7 +333,7 @@ fn tails() {
     assert_eq!(reading.apc, Apc::Right);
     let nothing = Reading {
         user: Range { from: 8, to: 10 },
-        verdict: Verdict::Tail,
+        verdict: tail(20),
         options_from: 0,
         options_to: 0,
         count: 0,
@@ -318,7 +344,7 @@ fn tails() {
     assert_eq!(nothing.options(&bad).count(), 0);
     let rereading = reread(&bad[8..], 2, Plain).unwrap();
     assert_eq!(rereading.user, Range { from: 0, to: 2 });
-    assert_eq!(rereading.verdict, Verdict::Tail);
+    assert_eq!(rereading.verdict, tail(20));
     assert_eq!((rereading.options_from, rereading.options_to), (0, 0));
     assert_eq!((rereading.count, rereading.fill), (0, 0));
     assert_eq!(rereading.apc, Apc::None);
@@ -344,12 +370,14 @@ fn fills() {
             let bit = 1 << (at % 8);
             let mut area = area.clone();
             area[3 + at] = bit;
-            assert_eq!(verdict(b"ab", &area), Verdict::Tail, "{at} of {count}");
+            // One more at the end changes nothing: the first one is named.
+            area[2 + count] |= bit;
+            assert_eq!(verdict(b"ab", &area), tail(13 + at), "{at} of {count}");
             let again = reread(&area, 0, Plain).unwrap().verdict;
-            assert_eq!(again, Verdict::Tail, "{at} of {count}");
+            assert_eq!(again, tail(11 + at), "{at} of {count}");
             let mut list = list.clone();
             list[frag_end - 10 + 1 + at] = bit;
-            assert_eq!(of_list(&list), Verdict::Tail, "{at} of {count}");
+            assert_eq!(of_list(&list), tail(21 + at), "{at} of {count}");
         }
     }
 }
@@ -364,9 +392,10 @@ fn nops(count: usize) -> Vec<u8> {
     vec![1; count]
 }
 
-/// What strict reading makes of a run of NOPs that gives this in plain reading.
-fn strictly(count: usize, plain: Verdict) -> (Verdict, Verdict) {
-    let strict = if count > 7 { Verdict::Padded } else { plain };
+/// What strict reading makes of a run of NOPs from `at` on that gives this in
+/// plain reading.
+fn strictly(at: usize, count: usize, plain: Verdict) -> (Verdict, Verdict) {
+    let strict = if count > 7 { padded(at + 7) } else { plain };
     (plain, strict)
 }
 
@@ -380,21 +409,24 @@ const REQ: [u8; 6] = [6, 6, 0, 0, 1, 44];
 /// Document 02, R-6: NOPs before, between and behind options, alone, and
 /// before EOL, in a datagram and in an original, at either parity.
 #[test]
-fn padded() {
+fn padded_everywhere() {
     for count in runs() {
         let run = nops(count);
-        for (list, options, fill) in [
-            (run.clone(), 0, 0),
-            ([&run[..], &REQ].concat(), 1, 0),
-            ([&REQ, &run[..]].concat(), 1, 0),
-            ([&REQ, &run[..], &REQ].concat(), 2, 0),
-            ([&[9, 2], &run[..], &[9, 3, 1]].concat(), 2, 0),
-            ([&run[..], &[0]].concat(), 0, 1),
-            ([&REQ, &run[..], &[0, 0, 0]].concat(), 1, 3),
+        // What stands before the run and behind it, options and fill.
+        for (before, behind, options, fill) in [
+            (&[][..], &[][..], 0, 0),
+            (&[], &REQ, 1, 0),
+            (&REQ, &[], 1, 0),
+            (&REQ, &REQ, 2, 0),
+            (&[9, 2], &[9, 3, 1], 2, 0),
+            (&[], &[0], 0, 1),
+            (&REQ, &[0, 0, 0], 1, 3),
         ] {
             for user in [&[][..], &[7], &[7, 7]] {
-                let area = [&[0; 3][..user.len() % 2 + 2], &list].concat();
-                let expected = strictly(count, Verdict::Read);
+                let head = user.len() % 2 + 2;
+                let area = [&[0; 3][..head], before, &run, behind].concat();
+                let at = 8 + user.len() + head + before.len();
+                let expected = strictly(at, count, Verdict::Read);
                 assert_eq!(verdicts(user, &area), expected, "{count} {user:?}");
                 let packet = payload(user, &area);
                 let reading = read(&packet, [0; 4], [0; 4], Plain).unwrap();
@@ -425,7 +457,7 @@ fn padded_reports_nothing() {
     let packet = payload(b"ab", &area);
     let plain = read(&packet, [0; 4], [0; 4], Plain).unwrap();
     assert_eq!((plain.count, plain.apc), (1, Apc::Right));
-    assert_eq!(verdicts(b"ab", &area), (Verdict::Read, Verdict::Padded));
+    assert_eq!(verdicts(b"ab", &area), (Verdict::Read, padded(25)));
     let strict = read(&packet, [0; 4], [0; 4], Strict).unwrap();
     assert_eq!(strict.options(&packet).count(), 0);
     let mut buffer = [9; 4];
@@ -439,34 +471,32 @@ fn padded_among_others() {
     for count in runs() {
         let run = nops(count);
         let with = |parts: &[&[u8]]| of_both(&parts.concat());
-        let expected = |plain| strictly(count, plain);
+        let expected = |plain| strictly(10, count, plain);
         // A run in front is met first.
-        assert_eq!(with(&[&run, &[192]]), expected(Verdict::Unsafe));
-        assert_eq!(with(&[&run, &[9, 1]]), expected(Verdict::Malformed));
-        assert_eq!(with(&[&run, &[9]]), expected(Verdict::Malformed));
-        assert_eq!(with(&[&run, &[0, 1]]), expected(Verdict::Tail));
+        let next = 10 + count;
+        assert_eq!(with(&[&run, &[192]]), expected(unsafe_kind(next)));
+        assert_eq!(with(&[&run, &[9, 1]]), expected(malformed(next)));
+        assert_eq!(with(&[&run, &[9]]), expected(malformed(next)));
+        assert_eq!(with(&[&run, &[0, 1]]), expected(tail(next + 1)));
         let late = frag(40, 8, None, &[]);
         let late = with(&[&REQ, &run, &late]);
-        assert_eq!(late, expected(Verdict::Malformed));
+        assert_eq!(late, strictly(16, count, malformed(16 + count)));
         // A fault in front of the run is met first, or takes its bytes.
         let same = |verdict: Verdict| (verdict, verdict);
-        assert_eq!(with(&[&[192], &run]), same(Verdict::Unsafe));
-        assert_eq!(with(&[&[9, 0], &run]), same(Verdict::Malformed));
-        let behind_eol = if count == 0 {
-            Verdict::Read
-        } else {
-            Verdict::Tail
-        };
+        assert_eq!(with(&[&[192], &run]), same(unsafe_kind(10)));
+        assert_eq!(with(&[&[9, 0], &run]), same(malformed(10)));
+        let behind_eol = if count == 0 { Verdict::Read } else { tail(11) };
         assert_eq!(with(&[&[0], &run]), same(behind_eol));
         // The run at each place among 32 options and 33, and behind 33.
         let options = |count: usize| [9, 2].repeat(count);
         for place in 0..=32 {
+            let expected = |plain| strictly(10 + 2 * place, count, plain);
             let all = with(&[&options(place), &run, &options(32 - place)]);
             assert_eq!(all, expected(Verdict::Read), "{place} {count}");
             let more = with(&[&options(place), &run, &options(33 - place)]);
-            assert_eq!(more, expected(Verdict::Crowded), "{place} {count}");
+            assert_eq!(more, expected(crowded(74 + count)), "{place} {count}");
         }
-        assert_eq!(with(&[&options(33), &run]), same(Verdict::Crowded));
+        assert_eq!(with(&[&options(33), &run]), same(crowded(74)));
     }
     // Seven before, between and behind 32 options.
     let seven = nops(7);
@@ -474,11 +504,11 @@ fn padded_among_others() {
     let all = [&between[..], &seven].concat();
     assert_eq!(of_both(&all), (Verdict::Read, Verdict::Read));
     let eight = [&all[..], &[1]].concat();
-    assert_eq!(of_both(&eight), (Verdict::Read, Verdict::Padded));
+    assert_eq!(of_both(&eight), (Verdict::Read, padded(305)));
     let eight = [&[1], &all[..]].concat();
-    assert_eq!(of_both(&eight), (Verdict::Read, Verdict::Padded));
+    assert_eq!(of_both(&eight), (Verdict::Read, padded(17)));
     let another = [&all[..], &[9, 2]].concat();
-    assert_eq!(of_both(&another), (Verdict::Crowded, Verdict::Crowded));
+    assert_eq!(of_both(&another), (crowded(305), crowded(305)));
     // The shortest of other options between two runs.
     for option in [&[9, 2][..], &[191, 2], &[4, 4, 1, 1], &REQ] {
         let list = [&seven[..], option, &seven].concat();
@@ -497,22 +527,19 @@ fn ones_that_are_no_nops() {
         let seven = [&nops(7)[..], &option, &nops(7)].concat();
         assert_eq!(of_both(&seven), same(Verdict::Read));
         let eight = [&option[..], &nops(8)].concat();
-        assert_eq!(of_both(&eight), (Verdict::Read, Verdict::Padded));
+        assert_eq!(of_both(&eight), (Verdict::Read, padded(19 + count)));
     }
     let extended = [&[9, 255, 1, 1][..], &nops(253)].concat();
     assert_eq!(of_both(&extended), same(Verdict::Read));
     let time = [&[8, 10][..], &nops(8)].concat();
     assert_eq!(of_both(&time), same(Verdict::Read));
-    assert_eq!(
-        of_both(&[&[0][..], &nops(20)].concat()),
-        same(Verdict::Tail)
-    );
+    assert_eq!(of_both(&[&[0][..], &nops(20)].concat()), same(tail(11)));
     let piece = of_both(&frag(20, 8, None, &nops(20)));
     assert_eq!(piece.0.word(), "piece");
     assert_eq!(piece.0, piece.1);
     // Behind EOL up to Frag. Start: tail.
     let list = [&[0][..], &nops(20)].concat();
-    assert_eq!(of_both(&frag(30, 8, None, &list)), same(Verdict::Tail));
+    assert_eq!(of_both(&frag(30, 8, None, &list)), same(tail(21)));
 }
 
 /// FRAG of the last piece or another one behind so many NOPs, with this Frag.
@@ -532,36 +559,42 @@ fn padded_before_and_behind_frag() {
             let list = frag_behind(before, last, 0, 8, &[5, 5]);
             let (plain, strict) = of_both(&list);
             assert_eq!(plain.word(), "piece");
-            assert_eq!((plain, strict), strictly(before, plain));
+            assert_eq!((plain, strict), strictly(10, before, plain));
             let list = frag_behind(before + 2, last, 0, 8, &[5, 5]);
             let area = [&[0, 0], &list[2..]].concat();
-            let expected = strictly(before, Verdict::FragData);
+            let expected = strictly(12, before, fragdata(12 + before));
             assert_eq!(verdicts(b"ab", &area), expected);
             let area = [&[0, 0, 0], &list[2..]].concat();
             assert_eq!(verdicts(b"a", &area), expected);
             // Bad ones.
             for (start, offset) in [(-1, 8), (3, 8), (0, 7)] {
                 let list = frag_behind(before, last, start, offset, &[5, 5]);
-                assert_eq!(of_both(&list), strictly(before, Verdict::Malformed));
+                let expected = strictly(10, before, malformed(10 + before));
+                assert_eq!(of_both(&list), expected);
                 let list = frag_behind(before + 2, last, start, offset, &[5, 5]);
                 let area = [&[0, 0], &list[2..]].concat();
-                let expected = strictly(before, Verdict::Malformed);
+                let expected = strictly(12, before, malformed(12 + before));
                 assert_eq!(verdicts(b"ab", &area), expected);
             }
+            let expected = strictly(10, before, malformed(10 + before));
             let cut = [&nops(before)[..], &[3]].concat();
-            assert_eq!(of_both(&cut), strictly(before, Verdict::Malformed));
+            assert_eq!(of_both(&cut), expected);
             let length = [&nops(before)[..], &[3, 11], &[0; 20]].concat();
-            assert_eq!(of_both(&length), strictly(before, Verdict::Malformed));
+            assert_eq!(of_both(&length), expected);
             // In its list the count starts again.
+            let end = 10 + before + if last { 12 } else { 10 };
             for behind in 0..=20 {
                 let run = nops(behind);
+                let next = end + behind;
                 for (rest, plain) in [
                     (vec![], None),
                     (vec![0], None),
                     (vec![9, 2], None),
-                    (vec![192], Some(Verdict::Unsafe)),
-                    (vec![9, 1], Some(Verdict::Malformed)),
-                    (vec![0, 1], Some(Verdict::Tail)),
+                    (vec![192], Some(unsafe_kind(next))),
+                    (vec![9, 1], Some(malformed(next))),
+                    (vec![9, 2, 9, 1], Some(malformed(next + 2))),
+                    (vec![0, 1], Some(tail(next + 1))),
+                    (vec![0, 0, 0, 1, 1], Some(tail(next + 3))),
                 ] {
                     let list = [&run[..], &rest].concat();
                     let start = list.len() as isize;
@@ -572,8 +605,12 @@ fn padded_before_and_behind_frag() {
                         Some(plain) => assert_eq!(found, plain),
                         None => assert_eq!(found.word(), "piece"),
                     }
-                    let most = before.max(behind);
-                    assert_eq!((found, strict), strictly(most, found));
+                    let expected = if before > 7 {
+                        strictly(10, before, found)
+                    } else {
+                        strictly(end, behind, found)
+                    };
+                    assert_eq!((found, strict), expected);
                 }
             }
         }
@@ -581,15 +618,12 @@ fn padded_before_and_behind_frag() {
     // With user data a good FRAG ends the walk before the NOPs behind it.
     let list = frag(30, 8, None, &nops(8));
     let area = [&[0, 0], &list[..]].concat();
-    assert_eq!(
-        verdicts(b"ab", &area),
-        (Verdict::FragData, Verdict::FragData)
-    );
+    assert_eq!(verdicts(b"ab", &area), (fragdata(12), fragdata(12)));
     // Frag. Start within the run: eight before it, or seven.
-    for (start, strict) in [(28, "padded"), (27, "piece")] {
-        let (plain, found) = of_both(&frag(start, 8, None, &nops(12)));
-        assert_eq!((plain.word(), found.word()), ("piece", strict));
-    }
+    let (plain, strict) = of_both(&frag(28, 8, None, &nops(12)));
+    assert_eq!((plain.word(), strict), ("piece", padded(27)));
+    let (plain, strict) = of_both(&frag(27, 8, None, &nops(12)));
+    assert_eq!((plain.word(), strict), ("piece", plain));
     // FRAG and 31 options with seven NOPs around each.
     let list = [&nops(7)[..], &[9, 2]].concat().repeat(31);
     let list = [&list[..], &nops(7)].concat();
@@ -609,25 +643,21 @@ fn padded_originals() {
         };
         let run = nops(count);
         let expected = |plain: Verdict| {
-            let (plain, strict) = strictly(count, plain);
+            let (plain, strict) = strictly(10, count, plain);
             [Ok(plain), Ok(strict)]
         };
         let first = frag(40, 8, None, &[5; 30]);
-        assert_eq!(of(&[&run, &first]), expected(Verdict::Malformed));
-        let strict = if count > 7 {
-            Ok(Verdict::Padded)
-        } else {
-            Err(5)
-        };
+        assert_eq!(of(&[&run, &first]), expected(malformed(10 + count)));
+        let strict = if count > 7 { Ok(padded(17)) } else { Err(5) };
         assert_eq!(of(&[&run, &[192]]), [Err(5), strict]);
         assert_eq!(of(&[&[192], &run]), [Err(5), Err(5)]);
-        assert_eq!(of(&[&run, &[0, 7]]), expected(Verdict::Tail));
+        assert_eq!(of(&[&run, &[0, 7]]), expected(tail(11 + count)));
     }
     // The longest original: NOPs alone.
     let original = [&[0, 0], &nops(65_505)[..]].concat();
     let verdict = |strictness| reread(&original, 0, strictness).unwrap().verdict;
     assert_eq!(verdict(Plain), Verdict::Read);
-    assert_eq!(verdict(Strict), Verdict::Padded);
+    assert_eq!(verdict(Strict), padded(17));
     let longer = [&original[..], &[1]].concat();
     assert_eq!(reread(&longer, 0, Strict), Err(2));
     assert_eq!(reread(&original, 65_508, Strict), Err(6));
@@ -651,13 +681,13 @@ fn rereadings() {
     assert_eq!(of(&[1, 0, 0, 0], 1), Ok(Verdict::Read));
     assert_eq!(of(&[0, 1, 255], 0), Ok(Verdict::BadSum));
     assert_eq!(of(&[0, 0, 192], 0), Err(5));
-    assert_eq!(of(&[0, 0, 0, 192], 0), Ok(Verdict::Tail));
-    assert_eq!(of(&[7, 0, 0, 0, 0, 0, 192], 1), Ok(Verdict::Tail));
+    assert_eq!(of(&[0, 0, 0, 192], 0), Ok(tail(11)));
+    assert_eq!(of(&[7, 0, 0, 0, 0, 0, 192], 1), Ok(tail(14)));
     assert_eq!(of(&[0, 0, 192, 0, 1], 0), Err(5));
-    assert_eq!(of(&[0, 0, 9, 192], 0), Ok(Verdict::Malformed));
-    assert_eq!(of(&[0, 0, 3], 0), Ok(Verdict::Malformed));
+    assert_eq!(of(&[0, 0, 9, 192], 0), Ok(malformed(10)));
+    assert_eq!(of(&[0, 0, 3], 0), Ok(malformed(10)));
     let first = [&[0, 0][..], &frag(12, 8, None, &[5])].concat();
-    assert_eq!(of(&first, 0), Ok(Verdict::Malformed));
+    assert_eq!(of(&first, 0), Ok(malformed(10)));
     let mut whole = vec![0; 32];
     whole.extend([0, 0, 2, 6, 0xAA, 0x36, 0x91, 0x8A, 0, 0]);
     let reading = reread(&whole, 32, Plain).unwrap();
@@ -685,39 +715,51 @@ fn program_texts() {
     ]);
     assert_eq!(
         text(&[0; 32], &area),
-        "user 32\nverdict read\nkind 2 2855702922\nkind 4 65535\nkind 5 256 9\n\
-         kind 7 4294967295\nkind 8 1 256\nkind 9\nkind 191 0aff\nfill 2\n"
+        "user 32\nverdict read\nkind 2 2855702922 at 42\nkind 4 65535 at 48\nkind 5 256 9 at 52\n\
+         kind 7 4294967295 at 58\nkind 8 1 256 at 64\nkind 9 at 74\nkind 191 0aff at 76\nfill 2\n"
     );
     area.push(1);
-    assert_eq!(text(&[0; 32], &area), "user 32\nverdict tail\n");
+    assert_eq!(text(&[0; 32], &area), "user 32\nverdict tail at 82\n");
     let piece = [&[0, 0][..], &frag(20, 8, None, &[5])].concat();
     assert_eq!(text(&[], &piece), "user 0\nverdict piece\n");
 }
 
-/// One word of a list.
+/// One word of a list, and where it starts.
 #[derive(Debug, PartialEq)]
-enum Word {
+struct Word {
+    at: usize,
+    sort: Sort,
+}
+
+#[derive(Debug, PartialEq)]
+enum Sort {
     Nop,
     Eol { behind: Vec<u8> },
     Unsafe,
     Broken,
-    Sound { kind: u8, at: usize, body: Vec<u8> },
+    Sound { kind: u8, body: Vec<u8> },
+}
+
+impl Word {
+    fn is_nop(&self) -> bool {
+        self.sort == Sort::Nop
+    }
 }
 
 /// Splits bytes `at` to `end` into words, up to the first that ends a walk.
 fn words(bytes: &[u8], mut at: usize, end: usize) -> Vec<Word> {
     let mut words = Vec::new();
     while at < end {
-        let kind = bytes[at];
+        let (start, kind) = (at, bytes[at]);
         let rest = &bytes[at..end];
-        let word = if kind == 0 {
-            Word::Eol {
+        let sort = if kind == 0 {
+            Sort::Eol {
                 behind: rest[1..].to_vec(),
             }
         } else if kind == 1 {
-            Word::Nop
+            Sort::Nop
         } else if kind >= 192 {
-            Word::Unsafe
+            Sort::Unsafe
         } else {
             let (header, length) = if rest.len() >= 4 && rest[1] == 255 {
                 (4, usize::from(rest[2]) * 256 + usize::from(rest[3]))
@@ -736,16 +778,15 @@ fn words(bytes: &[u8], mut at: usize, end: usize) -> Vec<Word> {
             };
             if fits && length <= rest.len() {
                 let body = rest[header..length].to_vec();
-                let word = Word::Sound { kind, at, body };
                 at += length - 1;
-                word
+                Sort::Sound { kind, body }
             } else {
-                Word::Broken
+                Sort::Broken
             }
         };
         at += 1;
-        let over = matches!(word, Word::Eol { .. } | Word::Unsafe | Word::Broken);
-        words.push(word);
+        let over = matches!(sort, Sort::Eol { .. } | Sort::Unsafe | Sort::Broken);
+        words.push(Word { at: start, sort });
         if over {
             break;
         }
@@ -759,9 +800,10 @@ fn number(bytes: &[u8]) -> u64 {
         .fold(0, |value, &byte| value * 256 + u64::from(byte))
 }
 
-fn options_of(words: &[Word]) -> Vec<(u8, Vec<u8>)> {
-    let sound = words.iter().filter_map(|word| match word {
-        Word::Sound { kind, body, .. } => Some((*kind, body.clone())),
+/// The sound options: where they start, kind and body.
+fn options_of(words: &[Word]) -> Vec<(usize, u8, Vec<u8>)> {
+    let sound = words.iter().filter_map(|word| match &word.sort {
+        Sort::Sound { kind, body } => Some((word.at, *kind, body.clone())),
         _ => None,
     });
     sound.collect()
@@ -771,18 +813,20 @@ fn options_of(words: &[Word]) -> Vec<(u8, Vec<u8>)> {
 fn judge(words: &[Word], sound_before: usize, strictness: Strictness) -> Verdict {
     let mut count = sound_before;
     let mut nops = 0;
-    for word in words {
-        nops = if *word == Word::Nop { nops + 1 } else { 0 };
-        match word {
-            Word::Nop if nops == 8 && strictness == Strict => return Verdict::Padded,
-            Word::Nop => {}
-            Word::Eol { behind } if *behind != vec![0; behind.len()] => return Verdict::Tail,
-            Word::Eol { .. } => {}
-            Word::Unsafe => return Verdict::Unsafe,
-            Word::Broken => return Verdict::Malformed,
-            Word::Sound { kind: 3, .. } => return Verdict::Malformed,
-            Word::Sound { .. } if count == 32 => return Verdict::Crowded,
-            Word::Sound { .. } => count += 1,
+    for Word { at, sort } in words {
+        nops = if *sort == Sort::Nop { nops + 1 } else { 0 };
+        match sort {
+            Sort::Nop if nops == 8 && strictness == Strict => return padded(*at),
+            Sort::Nop => {}
+            Sort::Eol { behind } => {
+                if let Some(bad) = behind.iter().position(|byte| *byte != 0) {
+                    return tail(at + 1 + bad);
+                }
+            }
+            Sort::Unsafe => return unsafe_kind(*at),
+            Sort::Broken | Sort::Sound { kind: 3, .. } => return malformed(*at),
+            Sort::Sound { .. } if count == 32 => return crowded(*at),
+            Sort::Sound { .. } => count += 1,
         }
     }
     Verdict::Read
@@ -790,13 +834,13 @@ fn judge(words: &[Word], sound_before: usize, strictness: Strictness) -> Verdict
 
 /// The length of the longest run of NOPs.
 fn longest_run(words: &[Word]) -> usize {
-    let runs = words.split(|word| *word != Word::Nop);
+    let runs = words.split(|word| !word.is_nop());
     runs.map(<[Word]>::len).max().unwrap_or(0)
 }
 
 /// What stands behind EOL, told in words.
 fn ending(words: &[Word]) -> String {
-    let Some(Word::Eol { behind }) = words.last() else {
+    let Some(Sort::Eol { behind }) = words.last().map(|word| &word.sort) else {
         return "no EOL".into();
     };
     let bad: Vec<usize> = (0..behind.len()).filter(|&at| behind[at] != 0).collect();
@@ -843,7 +887,7 @@ impl Sorts {
 
 struct Second {
     verdict: Verdict,
-    options: Vec<(u8, Vec<u8>)>,
+    options: Vec<(usize, u8, Vec<u8>)>,
     fill: usize,
     apc: Apc,
     ending: String,
@@ -851,7 +895,8 @@ struct Second {
     run: usize,
 }
 
-/// The second reader, of an area at `start` (a packet offset).
+/// The second reader, of an area at `start` (a packet offset). An original has
+/// eight bytes put before it, so that all indices are packet offsets.
 fn second(packet: &[u8], start: usize, again: bool, strictness: Strictness) -> Second {
     let only = |verdict| Second {
         verdict,
@@ -889,10 +934,11 @@ fn second(packet: &[u8], start: usize, again: bool, strictness: Strictness) -> S
     let from = start + pad + 2;
     let list = words(packet, from, packet.len());
     let run = longest_run(&list);
-    let first = list.iter().position(|word| *word != Word::Nop);
+    let first = list.iter().position(|word| !word.is_nop());
     let padded = first.is_some_and(|first| first > 7) && strictness == Strict;
     if let (Some(first), false, false) = (first, again, padded) {
-        if let Word::Sound { kind: 3, at, body } = &list[first] {
+        let at = list[first].at;
+        if let Sort::Sound { kind: 3, body } = &list[first].sort {
             let frag_start = number(&body[0..2]) as usize;
             let end = at + 2 + body.len();
             let offset = number(&body[6..8]) as usize;
@@ -903,12 +949,12 @@ fn second(packet: &[u8], start: usize, again: bool, strictness: Strictness) -> S
                 8
             };
             if frag_start < end || frag_start > packet.len() || offset < 8 || option_start < 8 {
-                return only(Verdict::Malformed);
+                return only(malformed(at));
             }
             if start > 8 {
                 return Second {
                     run: first,
-                    ..only(Verdict::FragData)
+                    ..only(fragdata(at))
                 };
             }
             let others = words(packet, end, frag_start);
@@ -935,22 +981,12 @@ fn second(packet: &[u8], start: usize, again: bool, strictness: Strictness) -> S
     match judge(&list, 0, strictness) {
         Verdict::Read => {
             let options = options_of(&list);
-            let used: usize = list
-                .iter()
-                .filter(|word| !matches!(word, Word::Eol { .. }))
-                .map(|word| match word {
-                    Word::Sound { body, .. } if body.len() > 252 => body.len() + 4,
-                    // 251 and 252 fit both forms: look at the length byte.
-                    Word::Sound { at, body, .. } if packet[at + 1] == 255 => body.len() + 4,
-                    Word::Sound { body, .. } => body.len() + 2,
-                    _ => 1,
-                })
-                .sum();
+            let eol = list.last().filter(|word| packet[word.at] == 0);
             let crc = crc32c(&packet[8..start]).to_be_bytes();
-            let mut apcs = options.iter().filter(|(kind, _)| *kind == 2);
-            let apc = if !options.iter().any(|(kind, _)| *kind == 2) {
+            let mut apcs = options.iter().filter(|(_, kind, _)| *kind == 2);
+            let apc = if !options.iter().any(|(_, kind, _)| *kind == 2) {
                 Apc::None
-            } else if apcs.all(|(_, body)| *body == crc) {
+            } else if apcs.all(|(_, _, body)| *body == crc) {
                 Apc::Right
             } else {
                 Apc::Wrong
@@ -958,7 +994,7 @@ fn second(packet: &[u8], start: usize, again: bool, strictness: Strictness) -> S
             Second {
                 verdict: Verdict::Read,
                 options,
-                fill: packet.len() - from - used,
+                fill: eol.map_or(0, |eol| packet.len() - eol.at),
                 apc,
                 ending: ending(&list),
                 run,
@@ -972,8 +1008,8 @@ fn second(packet: &[u8], start: usize, again: bool, strictness: Strictness) -> S
     }
 }
 
-/// An option's body on the wire.
-fn wire(option: &ReadOption) -> (u8, Vec<u8>) {
+/// An option as the second reader has it: its offset, kind and body.
+fn wire(Located { offset, option }: &Located) -> (usize, u8, Vec<u8>) {
     let body = match (option.kind, option.fields) {
         (_, Fields::Body(body)) => body.to_vec(),
         (4, Fields::One(a)) => (a as u16).to_be_bytes().to_vec(),
@@ -982,7 +1018,7 @@ fn wire(option: &ReadOption) -> (u8, Vec<u8>) {
         (_, Fields::Two(a, b)) => [a.to_be_bytes(), b.to_be_bytes()].concat(),
         (_, Fields::None) => panic!("{option:?}"),
     };
-    (option.kind, body)
+    (offset.0, option.kind, body)
 }
 
 /// Compares a reading with the second reader's.
@@ -1079,7 +1115,7 @@ fn rereadings_against_the_second_reader() {
             } else {
                 let second = second(&packet, 8 + r, true, strictness);
                 match second.verdict {
-                    Verdict::Unsafe => Err(5),
+                    Verdict::Unsafe(_) => Err(5),
                     _ => Ok(second),
                 }
             };

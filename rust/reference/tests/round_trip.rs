@@ -183,7 +183,8 @@ fn listings_of_any_reading() {
         let strictness = random.pick(&[Strictness::Plain, Strictness::Strict]);
         if let Ok(reading) = read(&input.payload, input.source, input.destination, strictness) {
             let listing = list_options(&input.payload, &reading, &mut buffer).unwrap();
-            let options = reading.options(&input.payload).collect();
+            let options = reading.options(&input.payload);
+            let options = options.map(|located| located.option).collect();
             check(&buffer[..listing.length], options);
             assert_eq!(listing.fill, reading.fill);
             if reading.verdict != Verdict::Read {
@@ -194,7 +195,9 @@ fn listings_of_any_reading() {
         let (whole, r) = original(&mut random);
         if let Ok(reading) = reread(&whole, r, strictness) {
             let listing = list_reread(&whole, &reading, &mut buffer).unwrap();
-            check(&buffer[..listing.length], reading.options(&whole).collect());
+            let options = reading.options(&whole);
+            let options = options.map(|located| located.option).collect();
+            check(&buffer[..listing.length], options);
             assert_eq!(listing.fill, reading.fill);
         }
     }

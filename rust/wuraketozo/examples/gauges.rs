@@ -1,8 +1,9 @@
-//! Reads a datagram, puts a fragmented one together, and shows an account.
+//! Reads datagrams, puts a fragmented one together, and shows an account. Options
+//! and faults are shown with their offsets, as in a packet trace.
 
 use wuraketozo::{
-    entries, list, relist, reread, write, Answer, Apc, Client, Entry, Flow, Listing, Received,
-    Refusal, Strictness, Table, Value, Verdict, ORIGINAL_LIMIT, SHARE,
+    entries, list, relist, reread, rewalk, walk, write, Answer, Apc, Client, Entry, Flow, Located,
+    Received, Refusal, Strictness, Table, Value, Verdict, ORIGINAL_LIMIT, SHARE,
 };
 
 const GAUGE: Flow = Flow {
@@ -15,21 +16,32 @@ const GAUGE: Flow = Flow {
 /// More than seven NOPs in a row would be the verdict `Padded`.
 const STRICTNESS: Strictness = Strictness::Strict;
 
-fn show_option(option: &Entry) {
+/// An option as the list has it, and where it stands.
+fn show_option(option: &Entry, at: &Located) {
+    let offset = at.offset;
     match option.value {
-        Value::None => println!("  kind {}", option.kind),
-        Value::One(a) => println!("  kind {} {a}", option.kind),
-        Value::Two(a, b) => println!("  kind {} {a} {b}", option.kind),
-        Value::Body(body) => println!("  kind {} {body:02x?}", option.kind),
+        Value::None => println!("  kind {} at {offset}", option.kind),
+        Value::One(a) => println!("  kind {} {a} at {offset}", option.kind),
+        Value::Two(a, b) => println!("  kind {} {a} {b} at {offset}", option.kind),
+        Value::Body(body) => println!("  kind {} {body:02x?} at {offset}", option.kind),
     }
 }
 
-/// Shows the user data of what was read, and the options in the buffer.
-fn show(user: &[u8], verdict: &Verdict, apc: Apc, buffer: &[u8], listing: Listing) {
+/// Shows the user data of what was read, and the options of the list.
+fn show<'a>(
+    user: &[u8],
+    verdict: &Verdict,
+    apc: Apc,
+    list: &[u8],
+    walk: impl Iterator<Item = Located<'a>>,
+) {
     let user = String::from_utf8_lossy(user);
-    println!("\"{user}\", verdict {}, APC {apc:?}", verdict.word());
-    for option in entries(&buffer[..listing.size]) {
-        show_option(&option);
+    match verdict.fault_at() {
+        Some(at) => println!("\"{user}\", verdict {} at {at}", verdict.word()),
+        None => println!("\"{user}\", verdict {}, APC {apc:?}", verdict.word()),
+    }
+    for (option, at) in entries(list).zip(walk) {
+        show_option(&option, &at);
     }
 }
 
@@ -47,6 +59,14 @@ fn fragment(place: u16, bytes: &[u8], option_start: Option<u16>) -> Vec<u8> {
     payload
 }
 
+/// A datagram without checksums whose REQ is cut short.
+fn faulty() -> Vec<u8> {
+    let mut payload = vec![0x12, 0x34, 0, 53, 0, 20, 0, 0];
+    payload.extend(b"level 412 cm");
+    payload.extend([0, 0, 1, 6, 6, 0, 0]);
+    payload
+}
+
 fn main() -> Result<(), Refusal> {
     let mut records = [Client::default(); 3];
     let mut store = vec![0; 3 * SHARE];
@@ -54,12 +74,14 @@ fn main() -> Result<(), Refusal> {
     let mut table = Table::new(&mut records, &mut store);
     table.reset()?;
 
-    // A datagram with an APC and a REQ with token 300, then a fragmented
-    // original, its last fragment first: 12 bytes of data, then its options.
+    // A datagram with an APC and a REQ with token 300, one with a fault, then a
+    // fragmented original, its last fragment first: 12 bytes of data, then its
+    // options.
     let mut whole = [0; 64];
     let length = write(&GAUGE, b"level 412 cm", &[2, 2, 6, 0xAC, 2], 0, &mut whole)?;
     let arrivals = [
         whole[..length].to_vec(),
+        faulty(),
         fragment(6, b"413 cm\0\0\x06\x06\0\0\x01\x2d", Some(12)),
         fragment(0, b"level ", None),
     ];
@@ -72,7 +94,9 @@ fn main() -> Result<(), Refusal> {
             Received::Datagram(reading) => {
                 let listing = list(payload, &reading, &mut buffer)?;
                 let user = reading.user_data(payload);
-                show(user, &reading.verdict, reading.apc, &buffer, listing);
+                let listed = &buffer[..listing.size];
+                let walk = walk(payload, &reading);
+                show(user, &reading.verdict, reading.apc, listed, walk);
             }
             Received::Fragment(Ok(Answer::Delivered {
                 length,
@@ -82,7 +106,9 @@ fn main() -> Result<(), Refusal> {
                 let rereading = reread(original, option_start, STRICTNESS)?;
                 let listing = relist(original, &rereading, &mut buffer)?;
                 let user = rereading.user_data(original);
-                show(user, &rereading.verdict, rereading.apc, &buffer, listing);
+                let listed = &buffer[..listing.size];
+                let walk = rewalk(original, &rereading);
+                show(user, &rereading.verdict, rereading.apc, listed, walk);
             }
             Received::Fragment(other) => println!("fragment: {other:?}"),
         }

@@ -7,6 +7,7 @@
 //! - what may be written does not overlap anything else that is lent, and no
 //!   other thread uses it: it comes from a `&mut`.
 
+use crate::reading::PacketOffset;
 use crate::record::{Account, Client, Flow, Place};
 use core::mem::{align_of, offset_of, size_of};
 
@@ -44,6 +45,7 @@ pub struct OriginalExtent {
 pub struct Reading {
     pub refusal: u32,
     pub verdict: u32,
+    pub fault_at: PacketOffset,
     pub user: Extent,
     pub options: Extent,
     pub count: usize,
@@ -62,6 +64,7 @@ pub struct Reading {
 pub struct Rereading {
     pub refusal: u32,
     pub verdict: u32,
+    pub fault_at: PacketOffset,
     pub user: OriginalExtent,
     pub options: OriginalExtent,
     pub count: usize,
@@ -76,6 +79,26 @@ pub struct Listing {
     pub refusal: u32,
     pub size: usize,
     pub fill: usize,
+}
+
+/// `wuraketozo_option`
+#[repr(C)]
+#[derive(Clone, Copy, Debug, Default, PartialEq, Eq)]
+pub struct PacketOption {
+    pub found: u32,
+    pub kind: u32,
+    pub offset: PacketOffset,
+    pub body: Extent,
+}
+
+/// `wuraketozo_original_option`
+#[repr(C)]
+#[derive(Clone, Copy, Debug, Default, PartialEq, Eq)]
+pub struct OriginalOption {
+    pub found: u32,
+    pub kind: u32,
+    pub offset: PacketOffset,
+    pub body: OriginalExtent,
 }
 
 /// `wuraketozo_written`
@@ -120,8 +143,8 @@ pub struct Received {
 
 mod c {
     use super::{
-        Address, Answer, Client, Extent, Fragment, Listing, OriginalExtent, Place, Reading,
-        Received, Rereading, Written,
+        Address, Answer, Client, Extent, Fragment, Listing, OriginalExtent, OriginalOption,
+        PacketOption, Place, Reading, Received, Rereading, Written,
     };
 
     extern "C" {
@@ -154,6 +177,18 @@ mod c {
             buffer: *mut u8,
             room: usize,
         ) -> Listing;
+        pub fn wuraketozo_next(
+            payload: *const u8,
+            length: usize,
+            verdict: u32,
+            rest: Extent,
+        ) -> PacketOption;
+        pub fn wuraketozo_renext(
+            original: *const u8,
+            length: usize,
+            verdict: u32,
+            rest: OriginalExtent,
+        ) -> OriginalOption;
         pub fn wuraketozo_write(
             source: Address,
             destination: Address,
@@ -167,7 +202,7 @@ mod c {
             buffer: *mut u8,
             room: usize,
         ) -> Written;
-        pub fn wuraketozo_layout_3() -> usize;
+        pub fn wuraketozo_layout_4() -> usize;
         pub fn wuraketozo_share_size() -> usize;
         pub fn wuraketozo_out_size() -> usize;
         pub fn wuraketozo_client_limit() -> usize;
@@ -225,7 +260,7 @@ mod c {
 /// A library of another layout has no symbol of this name, so that nothing
 /// that uses this crate links against it.
 #[used]
-static LAYOUT: unsafe extern "C" fn() -> usize = c::wuraketozo_layout_3;
+static LAYOUT: unsafe extern "C" fn() -> usize = c::wuraketozo_layout_4;
 
 #[inline]
 pub fn read(payload: &[u8], source: [u8; 4], destination: [u8; 4], strictness: u32) -> Reading {
@@ -280,6 +315,18 @@ pub fn relist(
     }
 }
 
+#[inline]
+pub fn next(payload: &[u8], verdict: u32, rest: Extent) -> PacketOption {
+    // SAFETY: see the head of this file.
+    unsafe { c::wuraketozo_next(payload.as_ptr(), payload.len(), verdict, rest) }
+}
+
+#[inline]
+pub fn renext(original: &[u8], verdict: u32, rest: OriginalExtent) -> OriginalOption {
+    // SAFETY: see the head of this file.
+    unsafe { c::wuraketozo_renext(original.as_ptr(), original.len(), verdict, rest) }
+}
+
 #[allow(clippy::too_many_arguments)]
 #[inline]
 pub fn write(
@@ -316,7 +363,7 @@ pub fn sizes() -> [usize; 4] {
     // SAFETY: these take nothing and touch nothing.
     unsafe {
         [
-            c::wuraketozo_layout_3(),
+            c::wuraketozo_layout_4(),
             c::wuraketozo_share_size(),
             c::wuraketozo_out_size(),
             c::wuraketozo_client_limit(),
@@ -477,18 +524,20 @@ layouts! {
         offered 0, held 8, delivered 16, expired 24, conflicted 32, repeated 40, rejected 48;
     Extent "wuraketozo_extent" 16 8: from 0, to 8;
     OriginalExtent "wuraketozo_original_extent" 16 8: from 0, to 8;
-    Reading "wuraketozo_reading" 104 8:
-        refusal 0, verdict 4, user 8, options 24, count 40, fill 48, apc 56, identification 60,
-        place 64, part 72, option_start 88, last 96;
-    Rereading "wuraketozo_rereading" 64 8:
-        refusal 0, verdict 4, user 8, options 24, count 40, fill 48, apc 56;
+    Reading "wuraketozo_reading" 112 8:
+        refusal 0, verdict 4, fault_at 8, user 16, options 32, count 48, fill 56, apc 64,
+        identification 68, place 72, part 80, option_start 96, last 104;
+    Rereading "wuraketozo_rereading" 72 8:
+        refusal 0, verdict 4, fault_at 8, user 16, options 32, count 48, fill 56, apc 64;
     Listing "wuraketozo_listing" 24 8: refusal 0, size 8, fill 16;
+    PacketOption "wuraketozo_option" 32 8: found 0, kind 4, offset 8, body 16;
+    OriginalOption "wuraketozo_original_option" 32 8: found 0, kind 4, offset 8, body 16;
     Written "wuraketozo_written" 16 8: refusal 0, size 8;
     Answer "wuraketozo_answer" 80 8:
         refusal 0, outcome 4, length 8, option_start 16, figures 24;
     Fragment "wuraketozo_fragment" 48 8:
         time 0, flow 8, identification 20, place 24, option_start 32, last 40;
-    Received "wuraketozo_received" 192 8: what 0, reading 8, answer 112;
+    Received "wuraketozo_received" 200 8: what 0, reading 8, answer 120;
 }
 
 #[cfg(test)]

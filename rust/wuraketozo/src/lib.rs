@@ -15,15 +15,19 @@ mod reading;
 mod record;
 mod refusal;
 mod table;
+mod walk;
 mod writing;
 
 pub use options::{entries, list, relist, Entries, Entry, Listing, Value};
-pub use reading::{read, reread, Apc, Fragment, Reading, Rereading, Strictness, Verdict};
+pub use reading::{
+    read, reread, Apc, Fragment, PacketOffset, Reading, Rereading, Strictness, Verdict,
+};
 pub use record::{
     Account, Assembly, Client, Flow, Held, Place, CLIENT_LIMIT, ORIGINAL_LIMIT, SHARE,
 };
 pub use refusal::Refusal;
 pub use table::{Answer, Arrival, Received, Table};
+pub use walk::{rewalk, walk, Located, Rewalk, Walk};
 pub use writing::write;
 
 /// Whether the library linked has the sizes that this crate was written for.
@@ -41,7 +45,8 @@ pub fn fits() -> bool {
 #[cfg(feature = "raw")]
 pub mod raw {
     pub use crate::ffi::{
-        account, advance, list, offer, read, receive, relist, reread, reset, write, Answer, Extent,
-        Fragment, Listing, OriginalExtent, Reading, Received, Rereading, Written,
+        account, advance, list, next, offer, read, receive, relist, renext, reread, reset, write,
+        Answer, Extent, Fragment, Listing, OriginalExtent, OriginalOption, PacketOption, Reading,
+        Received, Rereading, Written,
     };
 }

@@ -3,7 +3,21 @@
 use crate::ffi;
 use crate::record::Place;
 use crate::refusal::Refusal;
+use core::fmt;
 use core::ops::Range;
+
+/// A count of bytes from the UDP header: where an option or a fault stands. In
+/// an original, which was put together from fragments, it is 8 plus the
+/// [`Place`], as in a datagram of one piece.
+#[repr(transparent)]
+#[derive(Clone, Copy, Debug, Default, PartialEq, Eq, PartialOrd, Ord, Hash)]
+pub struct PacketOffset(pub usize);
+
+impl fmt::Display for PacketOffset {
+    fn fmt(&self, f: &mut fmt::Formatter<'_>) -> fmt::Result {
+        self.0.fmt(f)
+    }
+}
 
 /// How NOPs are read, chosen for each call that reads. An answer of strict
 /// reading that is not [`Verdict::Padded`] is the answer of plain reading too.
@@ -14,15 +28,16 @@ use core::ops::Range;
 /// `Padded`.
 ///
 /// ```
-/// use wuraketozo::{read, Strictness, Verdict};
-/// // UDP length 8, no checksums, eight NOPs.
+/// use wuraketozo::{read, PacketOffset, Strictness, Verdict};
+/// // UDP length 8, no checksums, eight NOPs from offset 10 on.
 /// let payload = [0x12, 0x34, 0, 53, 0, 8, 0, 0, 0, 0, 1, 1, 1, 1, 1, 1, 1, 1];
 /// let verdict = |payload: &[u8], strictness| {
 ///     let reading = read(payload, [192, 0, 2, 1], [198, 51, 100, 7], strictness)?;
 ///     Ok(reading.verdict)
 /// };
 /// assert_eq!(verdict(&payload, Strictness::Plain)?, Verdict::Read);
-/// assert_eq!(verdict(&payload, Strictness::Strict)?, Verdict::Padded);
+/// let eighth = PacketOffset(17);
+/// assert_eq!(verdict(&payload, Strictness::Strict)?, Verdict::Padded(eighth));
 /// assert_eq!(verdict(&payload[..17], Strictness::Strict)?, Verdict::Read);
 /// # Ok::<(), wuraketozo::Refusal>(())
 /// ```
@@ -63,6 +78,23 @@ pub struct Fragment {
 
 /// The verdict on the surplus area, which is what stands behind the user
 /// data. With every verdict but `Piece` the user data is to be delivered.
+///
+/// A fault in the option list has the offset where it was met, to be looked up in
+/// a packet trace.
+///
+/// ```
+/// use wuraketozo::{read, PacketOffset, Strictness, Verdict};
+/// // UDP length 8, no checksums; REQ 300 at 10, then a REQ of 5 bytes at 16.
+/// let payload = [
+///     0x12, 0x34, 0, 53, 0, 8, 0, 0, 0, 0, //
+///     6, 6, 0, 0, 1, 0x2C, 6, 5, 0, 0, 0,
+/// ];
+/// let (source, destination) = ([192, 0, 2, 1], [198, 51, 100, 7]);
+/// let verdict = read(&payload, source, destination, Strictness::Plain)?.verdict;
+/// assert_eq!(verdict, Verdict::Malformed(PacketOffset(16)));
+/// assert_eq!(verdict.fault_at(), Some(PacketOffset(16)));
+/// # Ok::<(), wuraketozo::Refusal>(())
+/// ```
 #[derive(Clone, Debug, PartialEq, Eq)]
 pub enum Verdict {
     /// "none": there is no surplus area.
@@ -75,24 +107,25 @@ pub enum Verdict {
     Unsummed,
     /// The option checksum is wrong.
     BadSum,
-    /// An option breaks the rules of the format.
-    Malformed,
-    /// There is an option of kind 192 to 255.
-    Unsafe,
-    /// A fragment's option beside user data.
-    FragData,
-    /// More than 32 options.
-    Crowded,
+    /// An option breaks the rules of the format: at its kind byte. So does a
+    /// fragment's option in a wrong place.
+    Malformed(PacketOffset),
+    /// There is an option of kind 192 to 255: at its kind byte.
+    Unsafe(PacketOffset),
+    /// A fragment's option beside user data: at its kind byte.
+    FragData(PacketOffset),
+    /// More than 32 options: at the 33rd one's kind byte.
+    Crowded(PacketOffset),
     /// The options are read.
     Read,
     /// A fragment of a larger original.
     Piece(Fragment),
-    /// A byte behind EOL is not zero. A datagram led by a fragment's option is
-    /// no fragment then.
-    Tail,
-    /// In strict reading only: eight NOPs in a row. A datagram led by a
+    /// A byte behind EOL is not zero: at the first one. A datagram led by a
     /// fragment's option is no fragment then.
-    Padded,
+    Tail(PacketOffset),
+    /// In strict reading only: eight NOPs in a row, at the eighth. A datagram
+    /// led by a fragment's option is no fragment then.
+    Padded(PacketOffset),
 }
 
 impl Verdict {
@@ -104,14 +137,14 @@ impl Verdict {
             Verdict::Pad => "pad",
             Verdict::Unsummed => "unsummed",
             Verdict::BadSum => "badsum",
-            Verdict::Malformed => "malformed",
-            Verdict::Unsafe => "unsafe",
-            Verdict::FragData => "fragdata",
-            Verdict::Crowded => "crowded",
+            Verdict::Malformed(_) => "malformed",
+            Verdict::Unsafe(_) => "unsafe",
+            Verdict::FragData(_) => "fragdata",
+            Verdict::Crowded(_) => "crowded",
             Verdict::Read => "read",
             Verdict::Piece(_) => "piece",
-            Verdict::Tail => "tail",
-            Verdict::Padded => "padded",
+            Verdict::Tail(_) => "tail",
+            Verdict::Padded(_) => "padded",
         }
     }
 
@@ -123,34 +156,57 @@ impl Verdict {
             Verdict::Pad => 2,
             Verdict::Unsummed => 3,
             Verdict::BadSum => 4,
-            Verdict::Malformed => 5,
-            Verdict::Unsafe => 6,
-            Verdict::FragData => 7,
-            Verdict::Crowded => 8,
+            Verdict::Malformed(_) => 5,
+            Verdict::Unsafe(_) => 6,
+            Verdict::FragData(_) => 7,
+            Verdict::Crowded(_) => 8,
             Verdict::Read => 9,
             Verdict::Piece(_) => 10,
-            Verdict::Tail => 11,
-            Verdict::Padded => 12,
+            Verdict::Tail(_) => 11,
+            Verdict::Padded(_) => 12,
         }
     }
 
-    /// The verdict of a number; a piece has the fragment.
+    /// Where the fault was met, if it is one in the option list.
+    pub const fn fault_at(&self) -> Option<PacketOffset> {
+        match self {
+            Verdict::Malformed(at)
+            | Verdict::Unsafe(at)
+            | Verdict::FragData(at)
+            | Verdict::Crowded(at)
+            | Verdict::Tail(at)
+            | Verdict::Padded(at) => Some(*at),
+            Verdict::Bare
+            | Verdict::Short
+            | Verdict::Pad
+            | Verdict::Unsummed
+            | Verdict::BadSum
+            | Verdict::Read
+            | Verdict::Piece(_) => None,
+        }
+    }
+
+    /// The verdict of a number; a fault has the offset, a piece the fragment.
     #[inline]
-    fn of(number: u32, fragment: impl FnOnce() -> Option<Fragment>) -> Result<Verdict, Refusal> {
+    fn of(
+        number: u32,
+        at: PacketOffset,
+        fragment: impl FnOnce() -> Option<Fragment>,
+    ) -> Result<Verdict, Refusal> {
         Ok(match number {
             0 => Verdict::Bare,
             1 => Verdict::Short,
             2 => Verdict::Pad,
             3 => Verdict::Unsummed,
             4 => Verdict::BadSum,
-            5 => Verdict::Malformed,
-            6 => Verdict::Unsafe,
-            7 => Verdict::FragData,
-            8 => Verdict::Crowded,
+            5 => Verdict::Malformed(at),
+            6 => Verdict::Unsafe(at),
+            7 => Verdict::FragData(at),
+            8 => Verdict::Crowded(at),
             9 => Verdict::Read,
             10 => Verdict::Piece(fragment().ok_or(Refusal::Unknown)?),
-            11 => Verdict::Tail,
-            12 => Verdict::Padded,
+            11 => Verdict::Tail(at),
+            12 => Verdict::Padded(at),
             _ => return Err(Refusal::Unknown),
         })
     }
@@ -218,7 +274,7 @@ impl Reading {
         };
         Ok(Reading {
             user: raw.user.from..raw.user.to,
-            verdict: Verdict::of(raw.verdict, fragment)?,
+            verdict: Verdict::of(raw.verdict, raw.fault_at, fragment)?,
             options: raw.options.from..raw.options.to,
             count: raw.count,
             fill: raw.fill,
@@ -227,8 +283,8 @@ impl Reading {
     }
 }
 
-/// An original that was not refused. The ranges are places in the original;
-/// its verdict is never `Piece`.
+/// An original that was not refused. The ranges are places in the original; the
+/// offset of a fault is 8 plus the place. Its verdict is never `Piece`.
 #[derive(Clone, Debug, PartialEq, Eq)]
 pub struct Rereading {
     /// The user data.
@@ -259,7 +315,7 @@ impl Rereading {
         }
         Ok(Rereading {
             user: raw.user.from..raw.user.to,
-            verdict: Verdict::of(raw.verdict, || None)?,
+            verdict: Verdict::of(raw.verdict, raw.fault_at, || None)?,
             options: raw.options.from..raw.options.to,
             count: raw.count,
             fill: raw.fill,
@@ -299,7 +355,7 @@ pub fn read(
 /// unsafe option behind eight NOPs in a row is not met: that is `Padded`.
 ///
 /// ```
-/// use wuraketozo::{reread, Place, Refusal, Strictness, Verdict};
+/// use wuraketozo::{reread, PacketOffset, Place, Refusal, Strictness, Verdict};
 /// // "ok", then the option checksum 0 (none) and REQ 300.
 /// let original = [b'o', b'k', 0, 0, 6, 6, 0, 0, 1, 0x2C];
 /// let rereading = reread(&original, Place(2), Strictness::Plain)?;
@@ -307,6 +363,9 @@ pub fn read(
 /// assert_eq!(rereading.verdict, Verdict::Read);
 /// let past = reread(&original, Place(11), Strictness::Plain);
 /// assert_eq!(past, Err(Refusal::OptionStartPastOriginal));
+/// // Without the token's last byte REQ is malformed. Its place is 4.
+/// let cut = reread(&original[..9], Place(2), Strictness::Plain)?;
+/// assert_eq!(cut.verdict, Verdict::Malformed(PacketOffset(12)));
 /// # Ok::<(), Refusal>(())
 /// ```
 #[inline]
@@ -320,7 +379,7 @@ pub fn reread(
 
 #[cfg(test)]
 pub(crate) mod tests {
-    use super::{Fragment, Verdict};
+    use super::{Fragment, PacketOffset, Verdict};
     use crate::{Place, Refusal};
 
     /// The verdict of each number, from 0 on until there is none.
@@ -334,7 +393,7 @@ pub(crate) mod tests {
                 option_start: Place(0),
             })
         };
-        let verdict = |number| Verdict::of(number, fragment).ok();
+        let verdict = |number| Verdict::of(number, PacketOffset(12), fragment).ok();
         (0..).map_while(verdict).collect()
     }
 
@@ -348,6 +407,18 @@ pub(crate) mod tests {
             words.join(" "),
             "none short pad unsummed badsum malformed unsafe fragdata crowded read piece tail padded"
         );
-        assert_eq!(Verdict::of(10, || None), Err(Refusal::Unknown));
+        let at = PacketOffset(12);
+        assert_eq!(Verdict::of(10, at, || None), Err(Refusal::Unknown));
+    }
+
+    #[test]
+    fn faults_have_the_offset() {
+        let with = |verdict: &Verdict| verdict.fault_at() == Some(PacketOffset(12));
+        let verdicts = verdicts();
+        let (faults, others): (Vec<_>, Vec<_>) = verdicts.into_iter().partition(with);
+        let numbers: Vec<u32> = faults.iter().map(Verdict::number).collect();
+        assert_eq!(numbers, [5, 6, 7, 8, 11, 12]);
+        assert!(others.iter().all(|verdict| verdict.fault_at().is_none()));
+        assert_eq!(PacketOffset(12).to_string(), "12");
     }
 }

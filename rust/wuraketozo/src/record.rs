@@ -8,8 +8,10 @@ pub const SHARE: usize = 16_384;
 /// The most clients of a table.
 pub const CLIENT_LIMIT: usize = 12;
 
-/// A place in an original: a count from its first user byte. An offset in a
-/// payload, which counts from the UDP header, is a plain number.
+/// A place in an original: a count from its first user byte. An offset counts
+/// from the UDP header: by itself it is a
+/// [`PacketOffset`](crate::PacketOffset), and in the range of a payload's bytes a
+/// plain number.
 #[repr(transparent)]
 #[derive(Clone, Copy, Debug, Default, PartialEq, Eq, PartialOrd, Ord, Hash)]
 pub struct Place(pub usize);

@@ -1,4 +1,5 @@
-//! Document 01, "Figures to check by hand", on the proved library.
+//! Document 01, "Figures to check by hand", and cases of document 02's requests,
+//! on the proved library.
 
 use wuraketozo::*;
 
@@ -33,8 +34,33 @@ fn verdicts(user: &[u8], area: &[u8]) -> (Verdict, Verdict) {
     payload.extend(area);
     let read = |strictness| read(&payload, FLOW.source, FLOW.destination, strictness).unwrap();
     let (plain, strict) = (read(Strictness::Plain), read(Strictness::Strict));
-    assert!(strict == plain || strict.verdict == Verdict::Padded);
+    assert!(strict == plain || matches!(strict.verdict, Verdict::Padded(_)));
     (plain.verdict, strict.verdict)
+}
+
+/// Faults with the offset where they are met.
+fn malformed(at: usize) -> Verdict {
+    Verdict::Malformed(PacketOffset(at))
+}
+
+fn unsafe_kind(at: usize) -> Verdict {
+    Verdict::Unsafe(PacketOffset(at))
+}
+
+fn fragdata(at: usize) -> Verdict {
+    Verdict::FragData(PacketOffset(at))
+}
+
+fn crowded(at: usize) -> Verdict {
+    Verdict::Crowded(PacketOffset(at))
+}
+
+fn tail(at: usize) -> Verdict {
+    Verdict::Tail(PacketOffset(at))
+}
+
+fn padded(at: usize) -> Verdict {
+    Verdict::Padded(PacketOffset(at))
 }
 
 /// A table of one client, and calls with fewer words.
@@ -100,8 +126,7 @@ fn figures_1_to_4_areas_written() {
 fn figures_5_to_7_verdicts() {
     assert_eq!(verdict(&[], &[0]), Verdict::Short);
     assert_eq!(verdict(&[7], &[1, 0xFF, 0xFD]), Verdict::Pad);
-    let malformed = [0, 0, 6, 5, 0, 0, 0];
-    assert_eq!(verdict(&[], &malformed), Verdict::Malformed);
+    assert_eq!(verdict(&[], &[0, 0, 6, 5, 0, 0, 0]), malformed(10));
 }
 
 /// Document 02, R-2: bytes behind EOL.
@@ -109,20 +134,21 @@ fn figures_5_to_7_verdicts() {
 fn tails() {
     assert_eq!(verdict(&[], &[0, 0, 0]), Verdict::Read);
     assert_eq!(verdict(&[7], &[0, 0, 0, 0, 0, 0]), Verdict::Read);
-    assert_eq!(verdict(&[], &[0, 0, 0, 1]), Verdict::Tail);
-    assert_eq!(verdict(&[7], &[0, 0, 0, 0, 0, 1]), Verdict::Tail);
+    assert_eq!(verdict(&[], &[0, 0, 0, 1]), tail(11));
+    assert_eq!(verdict(&[7], &[0, 0, 0, 0, 0, 1, 1]), tail(14));
     // A fault in front of EOL is met first; one behind it is none.
-    assert_eq!(verdict(&[], &[0, 0, 192, 0, 1]), Verdict::Unsafe);
-    assert_eq!(verdict(&[], &[0, 0, 0, 192]), Verdict::Tail);
+    assert_eq!(verdict(&[], &[0, 0, 192, 0, 1]), unsafe_kind(10));
+    assert_eq!(verdict(&[], &[0, 0, 0, 192]), tail(11));
     // User data and REQ 300, a byte of fill and a bad one: no option is listed.
     let payload = [
         0, 1, 0, 2, 0, 10, 0, 0, b'o', b'k', 0, 0, 6, 6, 0, 0, 1, 0x2C, 0, 0, 5,
     ];
-    delivers_alone(&payload, Strictness::Plain, Verdict::Tail);
+    delivers_alone(&payload, Strictness::Plain, tail(20));
 }
 
 /// A payload with L = 10 whose two bytes of user data are delivered with a
-/// fault, and as an original too: nothing is reported, and no option is listed.
+/// fault, and as an original too, where the fault has the same offset: nothing is
+/// reported, and no option is listed or walked.
 fn delivers_alone(payload: &[u8], strictness: Strictness, verdict: Verdict) {
     let reading = read(payload, FLOW.source, FLOW.destination, strictness).unwrap();
     assert_eq!(reading.user_data(payload), b"ok");
@@ -133,6 +159,7 @@ fn delivers_alone(payload: &[u8], strictness: Strictness, verdict: Verdict) {
     let mut buffer = [0xEE; 8];
     let listing = list(payload, &reading, &mut buffer).unwrap();
     assert_eq!((listing.size, listing.fill, buffer[0]), (1, 0, 0));
+    assert_eq!(walk(payload, &reading).next(), None);
     // The same as an original: delivered, and no refusal.
     let original = &payload[8..];
     let rereading = reread(original, Place(2), strictness).unwrap();
@@ -143,33 +170,36 @@ fn delivers_alone(payload: &[u8], strictness: Strictness, verdict: Verdict) {
     let mut buffer = [0xEE; 8];
     let listing = relist(original, &rereading, &mut buffer).unwrap();
     assert_eq!((listing.size, listing.fill, buffer[0]), (1, 0, 0));
+    assert_eq!(rewalk(original, &rereading).next(), None);
 }
 
 /// Document 02, R-6: more than seven NOPs in a row.
 #[test]
-fn padded() {
+fn runs_of_nops() {
     let with = |parts: &[&[u8]]| verdicts(&[], &[&[0, 0], &parts.concat()[..]].concat());
     for count in 0..20 {
         let run = [1].repeat(count);
-        let strict = |plain: Verdict| if count < 8 { plain } else { Verdict::Padded };
-        for list in [
-            with(&[&run]),
-            with(&[&run, &[9, 2]]),
-            with(&[&[9, 2], &run, &[9, 2]]),
-            with(&[&[9, 2], &run, &[0, 0]]),
+        // Of a run from `at` on.
+        let strict = |at: usize, plain: Verdict| if count < 8 { plain } else { padded(at + 7) };
+        for (list, at) in [
+            (with(&[&run]), 10),
+            (with(&[&run, &[9, 2]]), 10),
+            (with(&[&[9, 2], &run, &[9, 2]]), 12),
+            (with(&[&[9, 2], &run, &[0, 0]]), 12),
         ] {
-            assert_eq!(list, (Verdict::Read, strict(Verdict::Read)));
+            assert_eq!(list, (Verdict::Read, strict(at, Verdict::Read)));
         }
         // What stands in front is met first.
         let run_first = with(&[&run, &[192]]);
-        assert_eq!(run_first, (Verdict::Unsafe, strict(Verdict::Unsafe)));
+        let found = unsafe_kind(10 + count);
+        assert_eq!(run_first, (found.clone(), strict(10, found)));
         let fault_first = with(&[&[192], &run]);
-        assert_eq!(fault_first, (Verdict::Unsafe, Verdict::Unsafe));
+        assert_eq!(fault_first, (unsafe_kind(10), unsafe_kind(10)));
         // Before a fragment's option, with user data.
         let start = 22 + count as u8;
         let area = [&[0, 0], &run[..], &[3, 10, 0, start, 0, 0, 0, 7, 0, 8]].concat();
-        let found = verdicts(b"ok", &area);
-        assert_eq!(found, (Verdict::FragData, strict(Verdict::FragData)));
+        let found = fragdata(12 + count);
+        assert_eq!(verdicts(b"ok", &area), (found.clone(), strict(12, found)));
     }
     let seven = [1; 7];
     let around = with(&[&seven, &[9, 2], &seven]);
@@ -178,7 +208,7 @@ fn padded() {
     let body = with(&[&[9, 12], &[1; 10]]);
     assert_eq!(body, (Verdict::Read, Verdict::Read));
     let behind_eol = with(&[&[0], &[1; 10]]);
-    assert_eq!(behind_eol, (Verdict::Tail, Verdict::Tail));
+    assert_eq!(behind_eol, (tail(11), tail(11)));
 }
 
 #[test]
@@ -186,7 +216,7 @@ fn padded_reports_nothing() {
     // User data and REQ 300, then eight NOPs.
     let mut payload = vec![0, 1, 0, 2, 0, 10, 0, 0, b'o', b'k', 0, 0];
     payload.extend([6, 6, 0, 0, 1, 0x2C, 1, 1, 1, 1, 1, 1, 1, 1]);
-    delivers_alone(&payload, Strictness::Strict, Verdict::Padded);
+    delivers_alone(&payload, Strictness::Strict, padded(25));
     // Plain reading reads and lists it.
     let original = &payload[8..];
     let mut buffer = [0xEE; 8];
@@ -224,11 +254,11 @@ fn padded_fragments() {
             &mut out,
         )
     };
-    for (before, behind) in [(8, 0), (0, 8), (20, 20)] {
+    for (before, behind, eighth) in [(8, 0, 17), (0, 8, 27), (7, 8, 34), (20, 20, 17)] {
         let Received::Datagram(reading) = receive(before, behind, 1, Strictness::Strict) else {
             panic!("no datagram");
         };
-        assert_eq!((reading.verdict, reading.user), (Verdict::Padded, 8..8));
+        assert_eq!((reading.verdict, reading.user), (padded(eighth), 8..8));
     }
     let stored = Received::Fragment(Ok(Answer::Stored));
     assert_eq!(receive(7, 7, 1, Strictness::Strict), stored);
@@ -321,7 +351,116 @@ fn figure_13_limits() {
     options.extend([9, 2].repeat(32));
     assert_eq!(verdict(&[], &options), Verdict::Read);
     options.extend([9, 2]);
-    assert_eq!(verdict(&[], &options), Verdict::Crowded);
+    assert_eq!(verdict(&[], &options), crowded(74));
+}
+
+/// Document 02, R-7: the offset where a fault was met, behind other options and
+/// NOPs, at an odd and an even UDP length, in a fragment's list.
+#[test]
+fn faults_where_they_were_met() {
+    const REQ: [u8; 6] = [6, 6, 0, 0, 1, 44];
+    let frag = |start: u8| [3, 10, 0, start, 0, 0, 0, 7, 0, 8];
+    // Behind no data the list starts at 10, behind one byte at 12.
+    let even = |parts: &[&[u8]]| verdict(&[], &[&[0, 0], &parts.concat()[..]].concat());
+    let odd = |parts: &[&[u8]]| verdict(&[7], &[&[0, 0, 0], &parts.concat()[..]].concat());
+    assert_eq!(even(&[&REQ, &[9, 1]]), malformed(16));
+    assert_eq!(odd(&[&[1, 1], &REQ, &[1], &[9]]), malformed(21));
+    // A fragment's option in a wrong place: its own kind byte.
+    assert_eq!(even(&[&REQ, &frag(26)]), malformed(16));
+    assert_eq!(odd(&[&[9, 2, 1], &frag(25)]), malformed(15));
+    // With a bad field, and a second one in the first one's list.
+    assert_eq!(even(&[&[1], &frag(20)]), malformed(11));
+    assert_eq!(even(&[&frag(31), &[1], &frag(31)]), malformed(21));
+    assert_eq!(even(&[&frag(24), &[9, 2, 9, 3], b"xy"]), malformed(22));
+    assert_eq!(even(&[&REQ, &[1, 1], &[192]]), unsafe_kind(18));
+    assert_eq!(odd(&[&REQ, &[200, 2]]), unsafe_kind(18));
+    assert_eq!(even(&[&frag(22), &[1, 192], b"xy"]), unsafe_kind(21));
+    assert_eq!(odd(&[&[1, 1, 1], &frag(25)]), fragdata(15));
+    assert_eq!(odd(&[&[9, 2].repeat(33)]), crowded(76));
+    let others = [&REQ, &[9, 2].repeat(31)[..]].concat();
+    assert_eq!(even(&[&others, &[1, 1], &REQ, &REQ]), crowded(80));
+    // The fragment's option is the first of 33.
+    assert_eq!(even(&[&frag(88), &REQ, &[9, 2].repeat(31)]), crowded(86));
+    assert_eq!(odd(&[&REQ, &[0, 0, 0, 5, 5]]), tail(21));
+    assert_eq!(even(&[&frag(25), &[9, 2, 0, 0, 8], b"xy"]), tail(24));
+}
+
+/// Where the options of a payload and of the same bytes as an original stand.
+#[test]
+fn options_where_they_stand() {
+    // Two NOPs, REQ 300, kind 9 without a body, an extended option of 255
+    // bytes, MDS, and a fill of two.
+    let mut area = vec![0, 0, 1, 1, 6, 6, 0, 0, 1, 44, 9, 2, 10, 255, 0, 255];
+    area.extend([192; 251]);
+    area.extend([4, 4, 5, 220, 0, 0]);
+    for user in [&b"ok"[..], b"odd"] {
+        let odd = user.len() % 2;
+        let mut payload = vec![0, 1, 0, 2, 0, 8 + user.len() as u8, 0, 0];
+        payload.extend(user);
+        payload.extend(vec![0; odd]);
+        payload.extend(&area);
+        // The list starts at 12, or behind the pad at 14.
+        let start = 12 + 2 * odd;
+        let at = |place: usize| PacketOffset(start + place);
+        let expected = [
+            (6, at(2), &[0, 0, 1, 44][..]),
+            (9, at(8), &[]),
+            (10, at(10), &[192; 251]),
+            (4, at(265), &[5, 220]),
+        ];
+        let expected = expected.map(|(kind, offset, body)| Located { kind, offset, body });
+        for strictness in [Strictness::Plain, Strictness::Strict] {
+            let reading = read(&payload, FLOW.source, FLOW.destination, strictness).unwrap();
+            let options: Vec<Located> = walk(&payload, &reading).collect();
+            assert_eq!(options, expected);
+            let original = &payload[8..];
+            let rereading = reread(original, Place(user.len()), strictness).unwrap();
+            let options: Vec<Located> = rewalk(original, &rereading).collect();
+            assert_eq!(options, expected);
+            // The listing has the same kinds.
+            let mut buffer = [0; 300];
+            let listing = list(&payload, &reading, &mut buffer).unwrap();
+            let kinds: Vec<u8> = entries(&buffer[..listing.size]).map(|e| e.kind).collect();
+            assert_eq!(kinds, [6, 9, 10, 4]);
+        }
+    }
+}
+
+/// A walk over a reading that was made up: what has the form of an option.
+#[test]
+fn made_up_walks() {
+    let payload = [
+        0x12, 0x34, 0, 53, 0, 8, 0, 0, 0, 0, //
+        3, 10, 0, 20, 0, 0, 0, 7, 0, 8, 9, 3, 200, 192,
+    ];
+    let plain = Strictness::Plain;
+    let piece = read(&payload, FLOW.source, FLOW.destination, plain).unwrap();
+    assert_eq!(piece.verdict.number(), 10);
+    assert_eq!(walk(&payload, &piece).next(), None);
+    let over = |options, verdict| Reading {
+        options,
+        verdict,
+        ..piece.clone()
+    };
+    let kinds = |reading: &Reading| -> Vec<(u8, usize)> {
+        walk(&payload, reading)
+            .map(|option| (option.kind, option.offset.0))
+            .collect()
+    };
+    // FRAG too; the walk ends before the unsafe kind.
+    assert_eq!(kinds(&over(10..24, Verdict::Read)), [(3, 10), (9, 20)]);
+    assert_eq!(kinds(&over(20..24, Verdict::Read)), [(9, 20)]);
+    assert_eq!(kinds(&over(20..24, malformed(20))), []);
+    assert_eq!(kinds(&over(20..22, Verdict::Read)), []);
+    assert_eq!(kinds(&over(20..25, Verdict::Read)), []);
+    assert_eq!(kinds(&over(usize::MAX..usize::MAX, Verdict::Read)), []);
+    let turned = core::ops::Range { start: 24, end: 20 };
+    assert_eq!(kinds(&over(turned, Verdict::Read)), []);
+    // A walk that has ended stays so.
+    let reading = over(20..24, Verdict::Read);
+    let mut options = walk(&payload, &reading);
+    assert_eq!((&mut options).count(), 1);
+    assert_eq!((options.next(), options.next()), (None, None));
 }
 
 #[test]
@@ -381,14 +520,14 @@ fn one_call_for_each_datagram() {
     assert_eq!(reading.verdict, Verdict::Bare);
     // FRAG, EOL and another byte before the part, which starts at 22: no
     // fragment. With the part right behind EOL, at 21, it is one.
-    let mut tail = [&head[..], &[3, 10, 0, 22, 0, 0, 0, 8, 0, 8], &[0, 5, 6]].concat();
-    let Received::Datagram(reading) = receive(&tail) else {
+    let mut behind_eol = [&head[..], &[3, 10, 0, 22, 0, 0, 0, 8, 0, 8], &[0, 5, 6]].concat();
+    let Received::Datagram(reading) = receive(&behind_eol) else {
         panic!("no datagram");
     };
-    assert_eq!(reading.verdict, Verdict::Tail);
+    assert_eq!(reading.verdict, tail(21));
     assert_eq!(reading.user, 8..8);
-    tail[13] = 21;
-    assert_eq!(receive(&tail), Received::Fragment(Ok(Answer::Stored)));
+    behind_eol[13] = 21;
+    assert_eq!(receive(&behind_eol), Received::Fragment(Ok(Answer::Stored)));
     assert_eq!(&out[..12], b"level 412 cm");
     let account = one.account();
     assert_eq!((account.offered, account.held), (20, 2));
@@ -402,6 +541,7 @@ fn empty_slices_and_misfits_are_refused() {
     );
     let rereading = reread(&[], Place(0), Strictness::Strict).unwrap();
     assert_eq!(rereading.verdict, Verdict::Bare);
+    assert_eq!(rewalk(&[], &rereading).next(), None);
     let empty = write(&FLOW, &[], &[], 0, &mut []);
     assert_eq!(empty, Err(Refusal::UnreadableList));
     let mut table = Table::new(&mut [], &mut []);
