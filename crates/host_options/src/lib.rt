@@ -63,13 +63,15 @@ fn packet_option(from: usize, next: Next) -> PacketOption
             size,
         } => {
             let place = from + at;
+            let body = place + header;
+            let end = place + size;
             PacketOption {
                 found: 1,
                 kind: kind as u32,
                 offset: PacketOffset(place),
                 body: Extent {
-                    from: PacketOffset(place + header),
-                    to: PacketOffset(place + size),
+                    from: PacketOffset(body),
+                    to: PacketOffset(end),
                 },
             }
         }
@@ -90,13 +92,15 @@ fn original_option(from: usize, next: Next) -> OriginalOption
             size,
         } => {
             let place = from + at;
+            let body = place + header;
+            let end = place + size;
             OriginalOption {
                 found: 1,
                 kind: kind as u32,
                 offset: number_offsets::offset_of(OriginalOffset(place)),
                 body: OriginalExtent {
-                    from: OriginalOffset(place + header),
-                    to: OriginalOffset(place + size),
+                    from: OriginalOffset(body),
+                    to: OriginalOffset(end),
                 },
             }
         }

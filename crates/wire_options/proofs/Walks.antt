@@ -10,13 +10,14 @@ use borrow.Author.Tests.{eq-eqb, ne-eqb, eqb-true, eqb-false}
 use lib.Dec.{eqb}
 use lib.ListN.{length, drop, length-drop}
 use lib.Seq.{drop-drop}
+use Rattle.number_octets.specs.Octets.{number}
 use Rattle.number_octets.specs.Zeros.{zerosOf}
 use Rattle.number_octets.proofs.ZeroBytes.{zeros-within}
 use Rattle.wire_nops.specs.Nops.{nopLimit, nopsOf, isPadding}
 use Rattle.wire_nops.specs.declared.Strictness.{Strictness}
 use Rattle.wire_nops.specs.declared.Strictness.the-variants.{Plain, Strict}
 use Rattle.wire_nops.proofs.Counts.{nops-some, nops-within, padding-limit}
-use Rattle.wire_step.specs.Kinds.{frag}
+use Rattle.wire_step.specs.Kinds.{apc, frag}
 use Rattle.wire_step.specs.Step.{stepOf}
 use Rattle.wire_step.specs.declared.Step.{Step}
 use Rattle.wire_step.specs.declared.Step.the-variants.{End, Eol, Nop, Found, Malformed as Unsound, Outlawed}
@@ -29,7 +30,7 @@ use Rattle.wire_options.specs.declared.walk.Fault.the-variants.{Malforme
 use Rattle.wire_options.specs.declared.walk.Apcs.{Apcs}
 use Rattle.wire_options.specs.declared.walk.Apcs.the-variants.{Absent, Same, Different}
 use Rattle.wire_options.specs.declared.walk.Progress.{Progress}
-use Rattle.wire_options.specs.declared.walk.Progress.the-variants.{On, Ended, Failed}
+use Rattle.wire_options.specs.declared.walk.Progress.the-variants.{On, Apc, Ended, Failed}
 use Rattle.wire_options.specs.declared.walk.Walk.{Walk}
 use Rattle.wire_options.specs.declared.walk.Walk.the-variants.{Listed, Faulty}
 use Rattle.wire_options.proofs.Stricts.{by-skip, walk-other}
@@ -106,7 +107,8 @@ pub record Goes (s : Strictness) (room : ℕ) (l : List ℕ) (left size : ℕ) (
 
 -- what the walk tells of a list, by how its first step goes on
 abbrev pub Tells : Strictness → ℕ → List ℕ → Progress → Type 0
-Tells s room l (On left size apcs) = Goes s room l left size apcs
+Tells s room l (On left size) = Goes s room l left size Absent
+Tells s room l (Apc left size value) = Goes s room l left size (Same value)
 Tells s room l (Ended fill) = walkBy s room 0 l ≡ listed [] fill
 Tells s room l (Failed fault ahead) = (ahead ≤ length l) × (walkBy s room 0 l ≡ faulty fault (length l - ahead))
 
@@ -128,7 +130,7 @@ module _ (s : Strictness) (b : ℕ) (bs : List ℕ) where
       behind-run : ℕ → Walk
       behind-run end = walkAnswer end (walkBy s room 0 (drop (nopsOf l) l))
 
-      go : (t : Bool) → isPadding s (nopsOf l) ≡ t → Tells s room l (cond t (Failed Padded nopLimit) (On room (nopsOf l) Absent))
+      go : (t : Bool) → isPadding s (nopsOf l) ≡ t → Tells s room l (cond t (Failed Padded nopLimit) (On room (nopsOf l)))
       go true e = (omega (arith, padding-limit s (nopsOf l) e), run-padded s room l e)
       go false e =
           let none : 0 ≡ room - room = omega arith in
@@ -156,12 +158,12 @@ module _ (s : Strictness) (b : ℕ) (bs : List ℕ) where
       option : Located
       option = locatedOf kind header size l
 
+      value : ℕ
+      value = number (option .item .body)
+
       -- an option that is taken: one less may come, and the rest starts behind it
-      go : (t : Bool) (r : ℕ) → walkBy s r 0 l ≡ cond t (faulty Malformed (length l)) (sound r option (λ left. rest left (size - 1)))
-          → Tells s r l (cond t (Failed Malformed 0) (roomProgress r size (apcOf (option .item))))
-      go true r w = fails-here s r l Malformed w
-      go false zero w = fails-here s 0 l Crowded w
-      go false (suc r) w =
+      taken : (r : ℕ) → walkBy s (suc r) 0 l ≡ before option (rest r (size - 1)) → Goes s (suc r) l r size (apcOf (option .item))
+      taken r w =
           let f = step-found l kind header size e .sized in
           let one : 1 ≡ suc r - r = omega arith in
           let down : suc (size - 1) ≡ size = omega (arith, f .least) in
@@ -175,14 +177,21 @@ module _ (s : Strictness) (b : ℕ) (bs : List ℕ) where
                 (by-skip s r (size - 1) bs ∙ ap (λ (k : ℕ). walkBy s r 0 (drop k l)) down);
           }
 
+      -- an APC, or another option
+      by-kind : (r : ℕ) (t : Bool) → Goes s (suc r) l r size (cond t (Same value) Absent) → Tells s (suc r) l (cond t (Apc r size value) (On r size))
+      by-kind r true g = g
+      by-kind r false g = g
+
+      go : (t : Bool) (r : ℕ) → walkBy s r 0 l ≡ cond t (faulty Malformed (length l)) (sound r option (λ left. rest left (size - 1)))
+          → Tells s r l (cond t (Failed Malformed 0) (roomProgress r size (option .item)))
+      go true r w = fails-here s r l Malformed w
+      go false zero w = fails-here s 0 l Crowded w
+      go false (suc r) w = by-kind r (eqb kind apc) (taken r w)
+
 pub tells : (s : Strictness) (room : ℕ) (l : List ℕ) (progress : Progress) → 0 < length l → progressOf s room l ≡ progress → Tells s room l progress
 unfolding progressOf
 tells s room [] progress h q = absurd (omega arith)
 tells s room (b ∷ bs) progress h q = subst (Tells s room (b ∷ bs)) q (tells-step s b bs room (stepOf (b ∷ bs)) refl)
-
-pub progress-goes : (s : Strictness) (room : ℕ) (l : List ℕ) (left size : ℕ) (apcs : Apcs) → 0 < length l → progressOf s room l ≡ On left size apcs
-    → Goes s room l left size apcs
-progress-goes s room l left size apcs h q = tells s room l (On left size apcs) h q
 
 pub answer-none : (s : Strictness) (end room skip : ℕ) → walkAnswer end (walkBy s room skip []) ≡ Listed 0 0 Absent
 unfolding walkFrom strictFrom apcsOf

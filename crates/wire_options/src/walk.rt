@@ -55,7 +55,12 @@ enum Progress {
     On {
         room: usize,
         size: usize,
-        apcs: Apcs,
+    },
+    // The same behind an APC. Most steps meet none, and the loop then has no APCs to join.
+    Apc {
+        room: usize,
+        size: usize,
+        value: u32,
     },
     Ended {
         fill: usize,
@@ -75,14 +80,18 @@ pub fn walk_list(list: &[u8], base: PacketOffset, room: usize, strictness: Stric
     while at < list.len() {
         let turn = progress_at(&list[at..], left, strictness);
         match turn {
-            Progress::On {
+            Progress::On { room: r, size } => {
+                at += size;
+                left = r;
+            }
+            Progress::Apc {
                 room: r,
                 size,
-                apcs: a,
+                value,
             } => {
                 at += size;
                 left = r;
-                apcs = join(apcs, a);
+                apcs = join(apcs, value);
             }
             Progress::Ended { fill } => {
                 return Walk::Listed {
@@ -121,9 +130,13 @@ fn progress_at(rest: &[u8], room: usize, strictness: Strictness) -> Progress
             }
             if kind == APC {
                 let value = number_octets::get_u32(rest, header);
-                return on(room - 1, size, Apcs::Same(value));
+                return Progress::Apc {
+                    room: room - 1,
+                    size,
+                    value,
+                };
             }
-            on(room - 1, size, Apcs::Absent)
+            on(room - 1, size)
         }
         Step::Malformed => Progress::Failed(Fault::Malformed, 0),
         Step::Outlawed => Progress::Failed(Fault::Unsafe, 0),
@@ -138,7 +151,7 @@ fn nops_at(rest: &[u8], room: usize, strictness: Strictness) -> Progress
         return Progress::Failed(Fault::Padded, wire_nops::NOP_LIMIT);
     }
     let nops = wire_nops::leading_nops(rest);
-    on(room, nops, Apcs::Absent)
+    on(room, nops)
 }
 
 // EOL stands at the front: with all behind it, it is the fill, which is zero bytes. A tail is met at the first other one.
@@ -148,27 +161,18 @@ fn end_at(rest: &[u8]) -> Progress
     if zeros::all_zero(rest) {
         return Progress::Ended { fill: rest.len() };
     }
-    Progress::Failed(Fault::Tail, zeros::leading_zeros(rest))
+    let zeros = zeros::leading_zeros(rest);
+    Progress::Failed(Fault::Tail, zeros)
 }
 
-fn on(room: usize, size: usize, apcs: Apcs) -> Progress
-    ensures { λ r. ⌜ r ≡ Progress.On room size apcs ⌝ }
+fn on(room: usize, size: usize) -> Progress
+    ensures { λ r. ⌜ r ≡ Progress.On room size ⌝ }
 {
-    Progress::On { room, size, apcs }
+    Progress::On { room, size }
 }
 
-// The APCs of two parts of a list taken together. Most steps of a walk add none, so that is looked at first.
-fn join(a: Apcs, b: Apcs) -> Apcs
-    ensures { λ r. ⌜ r ≡ joined a b ⌝ }
-{
-    match b {
-        Apcs::Absent => a,
-        Apcs::Same(w) => join_value(a, w),
-        Apcs::Different => Apcs::Different,
-    }
-}
-
-fn join_value(a: Apcs, w: u32) -> Apcs
+// The APCs of a part of the list, and one behind them.
+fn join(a: Apcs, w: u32) -> Apcs
     ensures { λ r. ⌜ r ≡ joined a (Apcs.Same w) ⌝ }
 {
     match a {

@@ -1,6 +1,6 @@
 -- `host_options::original_option` meets its contract: the arm knows what was found, at which `originalOption` computes.
 -- Assumes nothing.
-use mathlib.Core.Path.{_≡_, refl, sym, ap, subst, _∙_}
+use mathlib.Core.Path.{sym, ap, subst, _∙_}
 use Prim.Native.Nat.{ℕ, _+_, _≤_, _<_}
 use native.Mathlib.Omega.{arith}
 use Rattle.number_offsets.specs.declared.PacketOffset.{PacketOffset}
@@ -21,17 +21,17 @@ enum-known-next c = search needs
 add-place : tie.Need-add-place
 add-place c = omega (arith, fits c .1)
 
-cast-t9 : tie.Need-cast-t9
-cast-t9 c = search needs
+add-body : tie.Need-add-body
+add-body c = omega (arith, fits c .0, fits c .1)
+
+add-end : tie.Need-add-end
+add-end c = omega (arith, fits c .1)
+
+cast-t11 : tie.Need-cast-t11
+cast-t11 c = search needs
 
 offset-of-requires : tie.Need-offset-of-requires
 offset-of-requires c κs = omega (arith, fits c .1)
-
-add-t12 : tie.Need-add-t12
-add-t12 c = let f = fits (c .before) in omega (arith, f .0, f .1)
-
-add-t14 : tie.Need-add-t14
-add-t14 c = omega (arith, fits (c .before) .1)
 
 enum-told : tie.Need-enum-told
 enum-told c = search needs
@@ -56,10 +56,10 @@ original-option-spec =
     (tie.spec
     enum-known-next
     add-place
-    cast-t9
+    add-body
+    add-end
+    cast-t11
     offset-of-requires
-    add-t12
-    add-t14
     enum-told
     no-original-option-requires
     returns

@@ -1,6 +1,6 @@
 -- `host_options::packet_option` meets its contract: the arm knows what was found, at which `packetOption` computes.
 -- Assumes nothing.
-use mathlib.Core.Path.{_≡_, refl, sym, ap, subst, _∙_}
+use mathlib.Core.Path.{sym, ap, subst, _∙_}
 use Prim.Native.Nat.{_+_, _≤_, _<_}
 use native.Mathlib.Omega.{arith}
 use Rattle.host_options.specs.Options.{packetOption, Fits}
@@ -19,14 +19,14 @@ enum-known-next c = search needs
 add-place : tie.Need-add-place
 add-place c = omega (arith, fits c .1)
 
-cast-t9 : tie.Need-cast-t9
-cast-t9 c = search needs
+add-body : tie.Need-add-body
+add-body c = omega (arith, fits c .0, fits c .1)
 
-add-t11 : tie.Need-add-t11
-add-t11 c = omega (arith, fits c .0, fits c .1)
+add-end : tie.Need-add-end
+add-end c = omega (arith, fits c .1)
 
-add-t13 : tie.Need-add-t13
-add-t13 c = omega (arith, fits c .1)
+cast-t11 : tie.Need-cast-t11
+cast-t11 c = search needs
 
 enum-told : tie.Need-enum-told
 enum-told c = search needs
@@ -46,9 +46,9 @@ packet-option-spec =
     (tie.spec
     enum-known-next
     add-place
-    cast-t9
-    add-t11
-    add-t13
+    add-body
+    add-end
+    cast-t11
     enum-told
     no-packet-option-requires
     returns

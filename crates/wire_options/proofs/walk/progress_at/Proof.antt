@@ -14,10 +14,9 @@ use Rattle.wire_step.specs.declared.Step.{Step}
 use Rattle.wire_step.specs.declared.Step.the-variants.{Found}
 use Rattle.wire_step.proofs.Steps.{apc-found}
 use Rattle.wire_options.specs.Progress.{roomProgress, progressIn, progressOf}
-use Rattle.wire_options.specs.declared.walk.Apcs.{Apcs}
-use Rattle.wire_options.specs.declared.walk.Apcs.the-variants.{Absent, Same}
+use Rattle.wire_options.specs.Walk.{Item, itemOf}
 use Rattle.wire_options.specs.declared.walk.Fault.the-variants.{Crowded}
-use Rattle.wire_options.specs.declared.walk.Progress.the-variants.{On, Failed}
+use Rattle.wire_options.specs.declared.walk.Progress.the-variants.{On, Apc, Failed}
 use borrow.Author.Needs.{needs}
 use Rattle.wire_options.proofs.walk.progress_at.Statement.{statement}
 use Rattle.wire_options.proofs.walk.progress_at.Tie as tie
@@ -66,12 +65,17 @@ an-apc c e =
     apc-found (c .before .before .before .before .before .args .rest .now) (headerOf c) (sizeOf c)
     (found c ∙ ap (λ (k : ℕ). Found k (headerOf c) (sizeOf c)) e)
 
-no-room : (room size : ℕ) (apcs : Apcs) → room ≡ 0 → roomProgress room size apcs ≡ Failed Crowded 0
-no-room room size apcs e = ap (λ (r : ℕ). roomProgress r size apcs) e
+no-room : (room size : ℕ) (item : Item) → room ≡ 0 → roomProgress room size item ≡ Failed Crowded 0
+no-room room size item e = ap (λ (r : ℕ). roomProgress r size item) e
 
-some-room : (room size : ℕ) (apcs : Apcs) → (room ≡ 0 → ⊥) → roomProgress room size apcs ≡ On (room - 1) size apcs
-some-room zero size apcs e = absurd (e refl)
-some-room (suc room) size apcs e = ap (λ (r : ℕ). On r size apcs) (omega arith)
+-- an APC, and another option
+apc-room : (room size : ℕ) (item : Item) → (room ≡ 0 → ⊥) → item .kind ≡ apc → roomProgress room size item ≡ Apc (room - 1) size (number (item .body))
+apc-room zero size item e k = absurd (e refl)
+apc-room (suc room) size item e k = simp (eq-eqb (item .kind) apc k) (ap (λ (r : ℕ). Apc r size (number (item .body))) (omega arith))
+
+other-room : (room size : ℕ) (item : Item) → (room ≡ 0 → ⊥) → (item .kind ≡ apc → ⊥) → roomProgress room size item ≡ On (room - 1) size
+other-room zero size item e k = absurd (e refl)
+other-room (suc room) size item e k = simp (ne-eqb (item .kind) apc k) (ap (λ (r : ℕ). On r size) (omega arith))
 
 returns : tie.Need-returns
 returns c = let a = c .before .before .before .before .before .before .args in sym
@@ -84,30 +88,28 @@ returns-2 c = let a = c .before .before .before .before .before .before .before 
 get-u32-requires : tie.Need-get-u32-requires
 get-u32-requires c κs = let f = an-apc (c .before .before .before) (c .if3 .taken) in omega arith
 
+sub-t13 : tie.Need-sub-t13
+sub-t13 c = search needs
+
+returns-3 : tie.Need-returns-3
+returns-3 c =
+    let a = c .before .before .before .before .before .before .before .before .before .args in
+    let place = c .before .before .before .before in
+    let f = an-apc place (c .before .if3 .taken) in
+    let four : sizeOf place - headerOf place ≡ 4 = omega arith in
+    let item : Item = itemOf (kindOf place) (headerOf place) (sizeOf place) (a .rest .now) in
+    let value : number (item .body) ≡ c .get-u32 .result =
+    ap (λ (n : ℕ). number (part (headerOf place) n (a .rest .now))) four ∙ sym (c .get-u32 .ensures) in
+    ap (Apc (a .room - 1) (sizeOf place)) (sym value)
+    ∙ sym (turn-is (a .strictness) (a .room) (a .rest .now) _ (found place)
+    ∙ simp (ne-eqb _ _ (c .before .before .before .if1 .left))
+    (apc-room (a .room) (sizeOf place) item (c .before .before .if2 .left) (c .before .if3 .taken)))
+
 sub-on : tie.Need-sub-on
 sub-on c = search needs
 
 on-requires : tie.Need-on-requires
 on-requires c κs = search needs
-
-returns-3 : tie.Need-returns-3
-returns-3 c =
-    let a = c .before .before .before .before .before .before .before .before .before .before .args in
-    let place = c .before .before .before .before .before in
-    let f = an-apc place (c .before .before .if3 .taken) in
-    let four : sizeOf place - headerOf place ≡ 4 = omega arith in
-    let value : number (part (headerOf place) (sizeOf place - headerOf place) (a .rest .now)) ≡ c .before .get-u32 .result =
-    ap (λ (n : ℕ). number (part (headerOf place) n (a .rest .now))) four ∙ sym (c .before .get-u32 .ensures) in
-    c .on .ensures
-    ∙ sym (turn-is (a .strictness) (a .room) (a .rest .now) _ (found place)
-    ∙ simp (ne-eqb _ _ (c .before .before .before .before .if1 .left), eq-eqb _ _ (c .before .before .if3 .taken), value)
-    (some-room (a .room) (sizeOf place) (Same (c .before .get-u32 .result)) (c .before .before .before .if2 .left)))
-
-sub-on-2 : tie.Need-sub-on-2
-sub-on-2 c = search needs
-
-on-requires-2 : tie.Need-on-requires-2
-on-requires-2 c κs = search needs
 
 enum-told-4 : tie.Need-enum-told-4
 enum-told-4 c = search needs
@@ -131,10 +133,11 @@ returns-7 : tie.Need-returns-7
 returns-7 c =
     let a = c .before .before .before .before .before .before .before .before .before .args in
     let place = c .before .before .before .before in
-    c .on2 .ensures
+    let item : Item = itemOf (kindOf place) (headerOf place) (sizeOf place) (a .rest .now) in
+    c .on .ensures
     ∙ sym (turn-is (a .strictness) (a .room) (a .rest .now) _ (found place)
-    ∙ simp (ne-eqb _ _ (c .before .before .before .if1 .left), ne-eqb _ _ (c .before .if3 .left))
-    (some-room (a .room) (sizeOf place) Absent (c .before .before .if2 .left)))
+    ∙ simp (ne-eqb _ _ (c .before .before .before .if1 .left))
+    (other-room (a .room) (sizeOf place) item (c .before .before .if2 .left) (c .before .if3 .left)))
 
 returns-8 : tie.Need-returns-8
 returns-8 c = let a = c .before .before .before .before .args in sym
@@ -158,11 +161,10 @@ progress-at-spec =
     returns
     returns-2
     get-u32-requires
+    sub-t13
+    returns-3
     sub-on
     on-requires
-    returns-3
-    sub-on-2
-    on-requires-2
     enum-told-4
     enum-told-5
     returns-4
