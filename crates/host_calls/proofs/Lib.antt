@@ -1,5 +1,4 @@
--- `Sizes` computes the sizes of what crosses the surface, `Facts` has what the calls leave, from what the crates below leave.
-pub mod Sizes
+-- `Facts` has what the calls leave, from what the crates below leave.
 pub mod Facts
 pub mod ClientKind
 pub mod Lent

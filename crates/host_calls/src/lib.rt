@@ -1,5 +1,6 @@
 // The library for C and Rust: the calls of include/wuraketozo.h under their names there. A slice is a pointer and a length in C. No
-// call asks anything of the values of its arguments. `host_wire` and `host_options` do the work of those that have no table.
+// call asks anything of the values of its arguments. `host_wire`, `host_options` and `host_limits` do the work of those that
+// have no table.
 use client_record::Client;
 use host_options::OriginalOption;
 use host_options::PacketOption;
@@ -31,7 +32,8 @@ ghost use Rattle.host_rereadings.specs.Rereading.{hostRereading};
 ghost use Rattle.host_options.specs.Options.{nextIn, renextIn};
 ghost use Rattle.host_values.specs.Answer.{arrivalFrom};
 ghost use Rattle.host_wire.specs.Left.{Lists, Writes};
-ghost use Rattle.host_calls.specs.Left.{recordSize, Leaves, Receives};
+ghost use Rattle.host_limits.specs.Layout.{recordSize};
+ghost use Rattle.host_calls.specs.Left.{Leaves, Receives};
 
 // ---- reading
 
@@ -138,13 +140,12 @@ pub extern "C" fn wuraketozo_write(
 
 // ---- sizes
 
-// The bytes of a record: 64 for the eight numbers, and 160 for each of the four assemblies (12 for the flow, 4, 8 and 8, and 8 for each of
-// the 16 fragments), with no gap between them. `recordSize` is the size of the layout, so no other number is proved.
+// The bytes of a record.
 #[no_mangle]
 pub extern "C" fn wuraketozo_record_size() -> usize
     ensures { λ r. ⌜ r ≡ recordSize ⌝ }
 {
-    704
+    host_limits::record_size()
 }
 
 // The same under a name that has the number of the header's layout. The header and the wrapper for Rust refer to it, so that a host that was
@@ -161,7 +162,7 @@ pub extern "C" fn wuraketozo_layout_4() -> usize
 pub extern "C" fn wuraketozo_share_size() -> usize
     ensures { λ r. ⌜ r ≡ shareSize ⌝ }
 {
-    client_record::SHARE
+    host_limits::share_size()
 }
 
 // The bytes of the smallest out buffer.
@@ -169,7 +170,7 @@ pub extern "C" fn wuraketozo_share_size() -> usize
 pub extern "C" fn wuraketozo_out_size() -> usize
     ensures { λ r. ⌜ r ≡ datagramLimit ⌝ }
 {
-    client_record::DATAGRAM_LIMIT
+    host_limits::out_size()
 }
 
 // The most clients of a table.
@@ -177,7 +178,7 @@ pub extern "C" fn wuraketozo_out_size() -> usize
 pub extern "C" fn wuraketozo_client_limit() -> usize
     ensures { λ r. ⌜ r ≡ clientLimit ⌝ }
 {
-    client_record::CLIENT_LIMIT
+    host_limits::client_limit()
 }
 
 // By hand from here on.

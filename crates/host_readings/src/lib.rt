@@ -5,10 +5,10 @@ use number_offsets::OriginalOffset;
 use number_offsets::PacketOffset;
 use wire_datagram::reading::Outcome;
 use wire_datagram::reading::Refusal;
+use wire_faults::FaultOffset;
 use wire_nops::Strictness;
 use wire_reading::Apc;
 use wire_reading::Extent;
-use wire_reading::FaultOffset;
 use wire_reading::Verdict;
 ghost use mathlib.Core.Path.{_≡_};
 ghost use Rattle.wire_reading.specs.Verdict.{verdictSays, faultAt, apcSays};
@@ -100,7 +100,7 @@ pub fn refusal_number(refusal: Refusal) -> u32
 pub fn fault_offset(verdict: Verdict) -> PacketOffset
     ensures { λ r. ⌜ r ≡ offsetOr (faultAt verdict) ⌝ }
 {
-    let fault = wire_reading::fault_at(verdict);
+    let fault = wire_faults::fault_at(verdict);
     match fault {
         FaultOffset::At(at) => at,
         FaultOffset::Absent => PacketOffset(0),

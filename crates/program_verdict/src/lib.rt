@@ -1,9 +1,9 @@
 // The line of a verdict in a report (document 01, "The program").
-use wire_reading::FaultOffset;
+use wire_faults::FaultOffset;
 use wire_reading::Verdict;
 ghost use Prim.Native.Nat.{_≤_};
 ghost use lib.ListN.{length};
-ghost use Rattle.wire_reading.specs.Verdict.{offsetFrom};
+ghost use Rattle.wire_faults.specs.Offset.{offsetFrom};
 ghost use Rattle.program_text.specs.Put.{Put};
 ghost use Rattle.program_verdict.specs.Words.{verdictLine, wordOf, endBy};
 
@@ -13,7 +13,7 @@ pub fn put_verdict(verdict: Verdict, text: &mut [u8], at: usize) -> usize
 {
     let named = program_text::put(b"verdict ", text, at);
     let judged = put_word(verdict, text, named);
-    put_end(wire_reading::fault_at(verdict), text, judged)
+    put_end(wire_faults::fault_at(verdict), text, judged)
 }
 
 // The end of the line: where the fault was met, if the verdict is one.

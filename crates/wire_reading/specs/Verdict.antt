@@ -6,8 +6,6 @@ use Rattle.number_offsets.specs.declared.PacketOffset.{PacketOffset}
 use Rattle.wire_area.specs.declared.Fragment.{Fragment}
 use Rattle.wire_reading.specs.declared.Apc.{Apc}
 use Rattle.wire_reading.specs.declared.Apc.the-variants.{Absent, Right, Wrong}
-use Rattle.wire_reading.specs.declared.FaultOffset.{FaultOffset}
-use Rattle.wire_reading.specs.declared.FaultOffset.the-variants.{At, Absent as Nowhere}
 use Rattle.wire_reading.specs.declared.Verdict.{Verdict}
 use Rattle.wire_reading.specs.declared.Verdict.the-variants.{Bare, Short, Pad, Unsummed, BadSum, Malformed, Unsafe, FragData, Crowded, Tail, Padded, Read, Piece}
 
@@ -115,10 +113,6 @@ faultAt Unsummed = none
 faultAt BadSum = none
 faultAt Read = none
 faultAt (Piece fragment) = none
-
-abbrev pub offsetFrom : FaultOffset → Option PacketOffset
-offsetFrom (At at) = some at
-offsetFrom Nowhere = none
 
 -- "APC none, right or wrong"
 abbrev pub apcSays : Apc → Said Unit

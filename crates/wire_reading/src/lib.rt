@@ -16,7 +16,6 @@ ghost use Rattle.wire_area.specs.Area.{areaOf};
 ghost use Rattle.wire_surplus.specs.Surplus.{startOf};
 ghost use Rattle.wire_reading.specs.Reading.{payloadLimit, isOdd, optionless, verdictOf, walked, noData, started, isRead};
 ghost use Rattle.wire_reading.specs.ByWalk.{apcBy};
-ghost use Rattle.wire_reading.specs.Verdict.{faultAt, offsetFrom};
 
 // Bytes of a packet, counted from its UDP header.
 #[repr(C)]
@@ -156,32 +155,6 @@ pub fn is_read(verdict: Verdict) -> bool
         Verdict::Padded(_) => false,
         Verdict::Read => true,
         Verdict::Piece(_) => false,
-    }
-}
-
-// The offset that a verdict has, if it is a fault of the list.
-pub enum FaultOffset {
-    At(PacketOffset),
-    Absent,
-}
-
-pub fn fault_at(verdict: Verdict) -> FaultOffset
-    ensures { λ r. ⌜ offsetFrom r ≡ faultAt verdict ⌝ }
-{
-    match verdict {
-        Verdict::Bare => FaultOffset::Absent,
-        Verdict::Short => FaultOffset::Absent,
-        Verdict::Pad => FaultOffset::Absent,
-        Verdict::Unsummed => FaultOffset::Absent,
-        Verdict::BadSum => FaultOffset::Absent,
-        Verdict::Malformed(at) => FaultOffset::At(at),
-        Verdict::Unsafe(at) => FaultOffset::At(at),
-        Verdict::FragData(at) => FaultOffset::At(at),
-        Verdict::Crowded(at) => FaultOffset::At(at),
-        Verdict::Tail(at) => FaultOffset::At(at),
-        Verdict::Padded(at) => FaultOffset::At(at),
-        Verdict::Read => FaultOffset::Absent,
-        Verdict::Piece(_) => FaultOffset::Absent,
     }
 }
 

@@ -1,8 +1,8 @@
 -- `host_readings::fault_offset` meets its contract: the arm knows whether there is an offset.
 -- Assumes nothing.
 use mathlib.Core.Path.{sym, ap, _∙_}
-use Rattle.wire_reading.specs.Verdict.{offsetFrom}
-use Rattle.wire_reading.specs.declared.FaultOffset.{FaultOffset}
+use Rattle.wire_faults.specs.Offset.{offsetFrom}
+use Rattle.wire_faults.specs.declared.FaultOffset.{FaultOffset}
 use Rattle.host_readings.specs.Reading.{offsetOr}
 use borrow.Author.Needs.{needs}
 use Rattle.host_readings.proofs.fault_offset.Statement.{statement}

@@ -1,8 +1,8 @@
 -- `program_verdict::put_end` meets its contract: the arm knows whether there is an offset, at which `endBy` computes.
 -- Assumes nothing.
 use mathlib.Core.Path.{sym, ap}
-use Rattle.wire_reading.specs.Verdict.{offsetFrom}
-use Rattle.wire_reading.specs.declared.FaultOffset.{FaultOffset}
+use Rattle.wire_faults.specs.Offset.{offsetFrom}
+use Rattle.wire_faults.specs.declared.FaultOffset.{FaultOffset}
 use Rattle.program_verdict.specs.Words.{endBy}
 use Rattle.program_text.proofs.Puts.{put-as}
 use borrow.Author.Needs.{needs}

@@ -1,10 +1,10 @@
--- `wire_reading::fault_at` meets its contract: each verdict has its arm, and the offset there is the definition's.
+-- `wire_faults::fault_at` meets its contract: each verdict has its arm, and the offset there is the definition's.
 -- Assumes nothing.
 use mathlib.Core.Path.{sym, ap}
 use borrow.Author.Needs.{needs}
 use Rattle.wire_reading.specs.Verdict.{faultAt}
-use Rattle.wire_reading.proofs.fault_at.Statement.{statement}
-use Rattle.wire_reading.proofs.fault_at.Tie as tie
+use Rattle.wire_faults.proofs.fault_at.Statement.{statement}
+use Rattle.wire_faults.proofs.fault_at.Tie as tie
 
 enum-told : tie.Need-enum-told
 enum-told c = search needs

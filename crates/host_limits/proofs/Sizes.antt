@@ -20,7 +20,7 @@ use Rattle.host_values.proofs.Figures.Laws as Figures
 use Rattle.host_values.proofs.Answer.Laws as Answer
 use Rattle.host_values.proofs.Fragment.Laws as Fragment
 use Rattle.host_values.proofs.Received.Laws as Received
-use Rattle.host_calls.specs.Left.{recordSize, fieldBytes}
+use Rattle.host_limits.specs.Layout.{recordSize, fieldBytes}
 
 pub record-size-is : recordSize ≡ 704
 unfolding recordSize
