@@ -1,5 +1,5 @@
--- What each exported call on a table answers and leaves: the value of include/wuraketozo.h for the answer of the
--- papers, and all that was lent. `host_wire` has the calls without a table.
+-- What each exported call on a table answers and leaves: the value of include/wuraketozo.h for the answer of the papers, and all that was
+-- lent. `host_wire` and `host_options` have the calls without a table.
 use Prim.Native.Nat.{ℕ}
 use mathlib.Core.Path.{_≡_}
 use mathlib.Core.List.{List}

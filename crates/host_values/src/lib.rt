@@ -1,6 +1,6 @@
 // The values of include/wuraketozo.h, field for field, and what each answer of the crates below is among them; those of readings are in
-// `host_readings` and `host_rereadings`, and `host_calls` exports the calls. A refusal is 0, or document 01's number. What a value does not
-// say is 0. Positions keep their types: an `OriginalOffset` is a place in an original.
+// `host_readings` and `host_rereadings`, those of single options in `host_options`, and `host_calls` exports the calls. A refusal is 0, or
+// document 01's number. What a value does not say is 0. Positions keep their types: an `OriginalOffset` is a place in an original.
 use client_reassembly::Arrival;
 use client_record::Flow;
 use host_readings::Reading;

@@ -1,5 +1,5 @@
-// The calls of include/wuraketozo.h that have no table: reading, listing, writing. `host_calls` exports each under its name there, with the
-// same contract. No call asks anything of the values of its arguments.
+// The calls of include/wuraketozo.h that have no table: reading, listing, writing; those for one option are in `host_options`. `host_calls` exports
+// each under its name there, with the same contract. No call asks anything of the values of its arguments.
 use host_readings::Reading;
 use host_rereadings::Rereading;
 use host_values::Address;
