@@ -1,6 +1,6 @@
 -- From a field to its place and back: each way undoes the other, so that an offset in a reread original is 8 plus its place and nothing else.
 -- Assumes nothing.
-use mathlib.Core.Path.{_≡_, refl, sym, ap, _∙_}
+use mathlib.Core.Path.{_≡_, refl, ap, _∙_}
 use mathlib.Core.Bool.{Bool, true, false}
 use Prim.Native.Nat.{ℕ, _+_, _-_}
 use native.Mathlib.Omega.{arith}
@@ -9,8 +9,7 @@ use lib.Dec.{ltb}
 use Rattle.number_offsets.specs.Offsets.{udpHeader, originOf, placeOf, offsetOf}
 use Rattle.number_offsets.specs.declared.PacketOffset.{PacketOffset}
 use Rattle.number_offsets.specs.declared.OriginalOffset.{OriginalOffset}
-use Rattle.number_offsets.specs.declared.Origin.{Origin}
-use Rattle.number_offsets.specs.declared.Origin.the-variants.{At, BeforeData}
+use Rattle.number_offsets.specs.declared.Origin.the-variants.{At}
 
 pub place-back : (place : OriginalOffset) → placeOf (offsetOf place .0) ≡ At place
 unfolding placeOf offsetOf udpHeader

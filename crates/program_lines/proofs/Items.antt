@@ -2,12 +2,11 @@
 -- Assumes nothing.
 use mathlib.Core.Path.{_≡_, refl, sym, ap, ap₂, _∙_}
 use mathlib.Core.Bool.{true, false}
-use mathlib.Core.List.{List, [], _∷_, _++_, append-assoc, append-nil}
+use mathlib.Core.List.{List, [], _++_, append-assoc, append-nil}
 use Prim.Native.Nat.{ℕ, _+_, _-_, _≤_}
 use native.Mathlib.Omega.{arith}
 use lib.ListN.{length, drop, length-drop}
-use Rattle.number_offsets.specs.declared.PacketOffset.{PacketOffset}
-use Rattle.wire_options.specs.Walk.{Item, Located, itemOf, walkFrom, optionLimit, optionsOf, offsetBefore}
+use Rattle.wire_options.specs.Walk.{Located, itemOf, walkFrom, optionLimit, optionsOf, offsetBefore}
 use Rattle.wire_options.proofs.Rests.{Rest, rest-all}
 use Rattle.wire_offsets.specs.Places.{Got}
 use Rattle.wire_offsets.proofs.Turns.{Turned}

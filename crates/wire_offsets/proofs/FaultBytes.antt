@@ -56,6 +56,6 @@ module _ (l : List ℕ) (place : ℕ) where
   byte-of Malformed m = ⊎-elim (λ e. kind-at Unsound e tt) (λ f. kind-at (Found frag (f .0) (f .1)) (f .2) tt) m
   byte-of Unsafe m = m .1
   byte-of Crowded m = let k = kind-at (Found (getD l place 0) (m .0) (m .1)) (m .2) tt in (k .0, k .1, m .3)
-  byte-of Tail m = m .set
+  byte-of Tail m = m .nonzero
   byte-of Padded m = let at : place ≡ place - 0 = omega arith in ap (λ (n : ℕ). getD l n 0) at ∙ m .nops 0 (omega arith)
   byte-of FragData m = absurd m

@@ -254,7 +254,7 @@ module _ {l m : List ℕ} (s : Suffix l m) where
   tail-at e z =
       let f = first-set m z in
       record {
-        set = λ q. f .set (sym (suffix-byte s (zerosOf m) (omega (arith, f .within))) ∙ q);
+        nonzero = λ q. f .set (sym (suffix-byte s (zerosOf m) (omega (arith, f .within))) ∙ q);
         end = placeOf l (length m);
         behind = omega (arith, s .within, f .within, eol-zeros m e);
         ends = sym (ap stepOf (s .rest)) ∙ e;

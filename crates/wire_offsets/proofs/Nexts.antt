@@ -6,14 +6,12 @@ use Prim.Native.Nat.{ℕ, _+_, _≤_}
 use native.Mathlib.Omega.{arith}
 use lib.ListN.{length, drop, length-drop}
 use Rattle.wire_nops.specs.Nops.{nopsOf}
-use Rattle.wire_nops.proofs.Counts.{nops-within}
 use Rattle.wire_step.specs.Step.{stepOf}
 use Rattle.wire_step.specs.declared.Step.{Step}
 use Rattle.wire_step.specs.declared.Step.the-variants.{End, Eol, Nop, Found as Option, Malformed, Outlawed}
 use Rattle.wire_step.proofs.Steps.{step-found}
 use Rattle.wire_offsets.specs.Next.{nextBy, nextOf}
-use Rattle.wire_offsets.specs.declared.Next.{Next}
-use Rattle.wire_offsets.specs.declared.Next.the-variants.{Found, Nothing}
+use Rattle.wire_offsets.specs.declared.Next.the-variants.{Found}
 
 module _ (l : List ℕ) (at kind header size : ℕ) (e : nextOf l ≡ Found at kind header size) where
   -- the step there

@@ -94,7 +94,7 @@ pub data Turns (l : List ℕ) : ℕ → List Located → Type 0 where
 
 -- the first byte behind an EOL that is not zero: from the EOL up to it all are
 pub record TailAt (l : List ℕ) (place : ℕ) : Type 0 where
-  pub set : getD l place 0 ≡ 0 → ⊥
+  pub nonzero : getD l place 0 ≡ 0 → ⊥
   pub end : ℕ
   pub behind : end < place
   pub ends : stepOf (drop end l) ≡ Eol

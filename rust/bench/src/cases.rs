@@ -286,6 +286,16 @@ impl Payload {
         plain::read(bytes, FLOW.source, FLOW.destination, strictness)
     }
 
+    /// What either reads plainly, of a payload that is not refused.
+    fn plain_readings(&self) -> (wuraketozo::Reading, plain::Reading) {
+        let (Ok(library), Ok(reference)) =
+            (self.read(PLAIN.library), self.read_plain(PLAIN.reference))
+        else {
+            unreachable!("{} is read", self.words)
+        };
+        (library, reference)
+    }
+
     /// Whether both come to this verdict, and read the same.
     fn read_alike(&self, setting: Setting, verdict: &str) -> bool {
         let (one, two) = (
@@ -410,12 +420,7 @@ impl Listed {
 
 /// A case of listing what was read plainly.
 fn list(payload: Payload) -> Case {
-    let (Ok(library), Ok(reference)) = (
-        payload.read(PLAIN.library),
-        payload.read_plain(PLAIN.reference),
-    ) else {
-        unreachable!("{} is read", payload.words)
-    };
+    let (library, reference) = payload.plain_readings();
     case(
         format!("list {}", payload.words),
         payload.bytes.len(),
@@ -480,12 +485,7 @@ impl Walked {
 
 /// A case of taking the options of what was read plainly one by one.
 fn walk(payload: Payload, count: usize) -> Case {
-    let (Ok(library), Ok(reference)) = (
-        payload.read(PLAIN.library),
-        payload.read_plain(PLAIN.reference),
-    ) else {
-        unreachable!("{} is read", payload.words)
-    };
+    let (library, reference) = payload.plain_readings();
     case(
         format!("walk {}", payload.words),
         payload.bytes.len(),

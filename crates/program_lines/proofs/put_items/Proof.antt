@@ -2,7 +2,7 @@
 -- Assumes nothing.
 use mathlib.Core.Path.{_≡_, sym, ap, _∙_}
 use mathlib.Core.List.{List}
-use Prim.Native.Nat.{ℕ, _+_, _-_, _≤_, _<_}
+use Prim.Native.Nat.{ℕ, _+_, _-_, _≤_}
 use native.Mathlib.Omega.{arith}
 use borrow.Author.Needs.{needs}
 use lib.ListN.{length, drop}
@@ -14,7 +14,6 @@ use Rattle.wire_options.specs.Walk.{itemOf}
 use Rattle.wire_options.proofs.Rests.{rest-over}
 use Rattle.wire_offsets.specs.Next.{nextOf}
 use Rattle.wire_offsets.specs.declared.Next.{Next}
-use Rattle.wire_offsets.specs.declared.Next.the-variants.{Found}
 use Rattle.wire_offsets.proofs.Nexts.{next-step}
 use Rattle.wire_offsets.proofs.Turns.{Turned, TurnBy, turn-by}
 use Rattle.program_lines.specs.Lines.{optionLine}

@@ -1,6 +1,6 @@
 -- `number_octets::zeros::zero_words` meets its contract. The loop's invariant: the zeros at the front are those passed and those of the rest.
 -- Assumes nothing.
-use mathlib.Core.Path.{_≡_, refl, sym, _∙_}
+use mathlib.Core.Path.{_≡_, sym, _∙_}
 use Prim.Native.Nat.{_+_, _-_, _≤_}
 use native.Mathlib.Omega.{arith}
 use lib.ListN.{length, drop}
