@@ -31,7 +31,7 @@ cast-t11 : tie.Need-cast-t11
 cast-t11 c = search needs
 
 offset-of-requires : tie.Need-offset-of-requires
-offset-of-requires c κs = omega (arith, fits c .1)
+offset-of-requires c κs = omega (arith, fits c .0, fits c .1)
 
 enum-told : tie.Need-enum-told
 enum-told c = search needs
