@@ -127,7 +127,7 @@ module _ (bytes : List ℕ) (start : ℕ) where
   list = drop start bytes
 
   -- what is found `n` bytes behind `at` names the option that is got there
-  names-got : (fill at n kind header size : ℕ) (option : Located) → nextOf (drop at list) ≡ Found n kind header size
+  names-got : (fill at n kind header size : ℕ) (option : Located) → nextOf (drop at list) ≡ Found n header kind size
       → Got list (at + n) kind header size option → StandsFrom bytes start fill option
       → Names bytes start option (start + at + n) (start + at + n + header) (start + at + n + size)
   names-got fill at n kind header size option e got stands =
@@ -154,8 +154,8 @@ module _ {Answer : Type 0} (ask : ℕ → Answer) (none : Answer) (behind : Answ
     (asks : (from : ℕ) → from ≤ length bytes → ask from ≡ say from (nextOf (drop from bytes)))
     (stops : (from : ℕ) → say from Nothing ≡ none)
     (says : (from n kind header size : ℕ) (option : Located) → kind ≡ option .item .kind
-    → Names bytes start option (from + n) (from + n + header) (from + n + size) → Says option (say from (Found n kind header size)))
-    (goes : (from n kind header size : ℕ) → behind (say from (Found n kind header size)) ≡ from + n + size) where
+    → Names bytes start option (from + n) (from + n + header) (from + n + size) → Says option (say from (Found n header kind size)))
+    (goes : (from n kind header size : ℕ) → behind (say from (Found n header kind size)) ≡ from + n + size) where
   asked : (at : ℕ) (next : Next) → start + at ≤ length bytes → nextOf (drop at (drop start bytes)) ≡ next → ask (start + at) ≡ say (start + at) next
   asked at next h e = asks (start + at) h ∙ ap (say (start + at)) (ap nextOf (sym (drop-drop at start bytes)) ∙ e)
 
@@ -163,7 +163,7 @@ module _ {Answer : Type 0} (ask : ℕ → Answer) (none : Answer) (behind : Answ
       → Turns (drop start bytes) at options → OneByOne ask none behind Says (start + at) options
   by-turns fill at [] h stand (done e) = stop (asked at Nothing h e ∙ stops (start + at))
   by-turns fill at (option ∷ later) h stand (turn n kind header size e got rest) =
-      let answer = asked at (Found n kind header size) h e in
+      let answer = asked at (Found n header kind size) h e in
       let names = names-got bytes start fill at n kind header size option e got (stand .0) in
       let kinds : kind ≡ option .item .kind = sym (ap (λ (i : Item). i .kind) (got .whole)) in
       let on : start + (at + n + size) ≡ behind (ask (start + at)) = omega (arith, ap behind answer, goes (start + at) n kind header size) in

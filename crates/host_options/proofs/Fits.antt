@@ -16,7 +16,7 @@ use Rattle.host_options.specs.Options.{Fits}
 pub part-fits : (bytes : List ℕ) (from to : ℕ) (next : Next) → from ≤ to → to ≤ length bytes → length bytes < 9223372036854775808
     → nextOf (part from (to - from) bytes) ≡ next → Fits from next
 part-fits bytes from to Nothing h k small e = tt
-part-fits bytes from to (Found at kind header size) h k small e =
+part-fits bytes from to (Found at header kind size) h k small e =
     let f = next-fits (part from (to - from) bytes) at kind header size e in
     let long : length (part from (to - from) bytes) ≡ to - from = length-part from (to - from) bytes (omega arith) in
     (f .0, omega (arith, f .1))

@@ -25,7 +25,7 @@ noPacketOption = record { found = 0; kind = 0; offset = record { 0 = 0 }; body =
 
 -- an option of the list that starts at the packet offset `from`: its kind byte, and its fields or body behind the header
 abbrev pub packetOption : ℕ → Next → PacketOption
-packetOption from (Found at kind header size) =
+packetOption from (Found at header kind size) =
     record { found = 1; kind = kind; offset = record { 0 = from + at }; body = extent (from + at + header) (from + at + size) }
 packetOption from Nothing = noPacketOption
 
@@ -43,7 +43,7 @@ noOriginalOption = record { found = 0; kind = 0; offset = record { 0 = 0 }; body
 
 -- the same of a list that starts at the place `from`: the offset is 8 plus the place of the kind byte
 abbrev pub originalOption : ℕ → Next → OriginalOption
-originalOption from (Found at kind header size) =
+originalOption from (Found at header kind size) =
     record { found = 1; kind = kind; offset = offsetOf (record { 0 = from + at }); body = places (from + at + header) (from + at + size) }
 originalOption from Nothing = noOriginalOption
 
@@ -57,5 +57,5 @@ renextIn original verdict rest =
 
 -- the option ends within as many bytes as a slice may have, and its header lies in it
 abbrev pub Fits : ℕ → Next → Type 0
-Fits from (Found at kind header size) = (header ≤ size) × (from + at + size < 9223372036854775808)
+Fits from (Found at header kind size) = (header ≤ size) × (from + at + size < 9223372036854775808)
 Fits from Nothing = Unit {0}

@@ -11,7 +11,7 @@ use Rattle.wire_offsets.specs.Next.{nextOf}
 use Rattle.wire_offsets.specs.declared.Next.the-variants.{Found, Nothing}
 
 -- two NOPs, MDS 8 and another NOP: the place is that of the kind byte
-behind-nops : nextOf (0x01 ∷ 0x01 ∷ 0x04 ∷ 0x04 ∷ 0x00 ∷ 0x08 ∷ 0x01 ∷ []) ≡ Found 2 4 2 4
+behind-nops : nextOf (0x01 ∷ 0x01 ∷ 0x04 ∷ 0x04 ∷ 0x00 ∷ 0x08 ∷ 0x01 ∷ []) ≡ Found 2 2 4 4
 unfolding number nopsOf classOf headerOf stepOf nextOf
 behind-nops = refl
 
@@ -26,6 +26,6 @@ unfolding nopsOf classOf stepOf nextOf
 eol-first = refl
 
 -- a NOP and an option of kind 9 in the extended form, 300 bytes of which 296 are its body; a NOP in a body is none
-extended-one : nextOf (0x01 ∷ 0x09 ∷ 0xFF ∷ 0x01 ∷ 0x2C ∷ replicate 296 0x01) ≡ Found 1 9 4 300
+extended-one : nextOf (0x01 ∷ 0x09 ∷ 0xFF ∷ 0x01 ∷ 0x2C ∷ replicate 296 0x01) ≡ Found 1 4 9 300
 unfolding number nopsOf classOf headerOf stepOf nextOf
 extended-one = refl

@@ -13,13 +13,13 @@ use Rattle.wire_step.proofs.Steps.{step-found}
 use Rattle.wire_offsets.specs.Next.{nextBy, nextOf}
 use Rattle.wire_offsets.specs.declared.Next.the-variants.{Found}
 
-module _ (l : List ℕ) (at kind header size : ℕ) (e : nextOf l ≡ Found at kind header size) where
+module _ (l : List ℕ) (at kind header size : ℕ) (e : nextOf l ≡ Found at header kind size) where
   -- the step there
   pub next-step : stepOf (drop at l) ≡ Option kind header size
   unfolding nextOf
   next-step = go (stepOf (drop (nopsOf l) l)) refl e
     where
-      go : (step : Step) → stepOf (drop (nopsOf l) l) ≡ step → nextBy (nopsOf l) step ≡ Found at kind header size → stepOf (drop at l) ≡ Option kind header size
+      go : (step : Step) → stepOf (drop (nopsOf l) l) ≡ step → nextBy (nopsOf l) step ≡ Found at header kind size → stepOf (drop at l) ≡ Option kind header size
       go End s q = absurd (let z : _≡_ {A = ℕ} 0 1 = cc in omega arith)
       go Eol s q = absurd (let z : _≡_ {A = ℕ} 0 1 = cc in omega arith)
       go Nop s q = absurd (let z : _≡_ {A = ℕ} 0 1 = cc in omega arith)

@@ -50,7 +50,7 @@ pub record Turned (l : List ℕ) (at : ℕ) (options : List Located) (n kind hea
 
 -- what a turn says of the options still to come
 abbrev pub TurnBy : List ℕ → ℕ → List Located → Next → Type 0
-TurnBy l at options (Found n kind header size) = Turned l at options n kind header size
+TurnBy l at options (Found n header kind size) = Turned l at options n kind header size
 TurnBy l at options Nothing = [] ≡ options
 
 module _ {l : List ℕ} {at : ℕ} {options : List Located} (r : Rest l at options) (h : at ≤ length l) where
@@ -113,7 +113,7 @@ turns-from l [] at h r = go (nextOf (drop at l)) refl
   where
     go : (next : Next) → nextOf (drop at l) ≡ next → Turns l at []
     go Nothing e = done e
-    go (Found n kind header size) e =
+    go (Found n header kind size) e =
         let t : Turned l at [] n kind header size = turn-by r h e in
         absurd (let s = t .splits in let z : _≡_ {A = ℕ} 0 1 = cc in omega arith)
 turns-from l (option ∷ later) at h r = go (nextOf (drop at l)) refl (turns-from l later)
@@ -122,7 +122,7 @@ turns-from l (option ∷ later) at h r = go (nextOf (drop at l)) refl (turns-fro
     go Nothing e ih =
         let none : [] ≡ option ∷ later = turn-by r h e in
         absurd (let z : _≡_ {A = ℕ} 0 1 = cc in omega arith)
-    go (Found n kind header size) e ih =
+    go (Found n header kind size) e ih =
         let t : Turned l at (option ∷ later) n kind header size = turn-by r h e in
         let s = t .splits in
         let first : t .option ≡ option = cc in

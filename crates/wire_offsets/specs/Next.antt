@@ -11,7 +11,7 @@ use Rattle.wire_offsets.specs.declared.Next.the-variants.{Found, Nothing
 
 -- by the step that is met `at` bytes into the list
 abbrev pub nextBy : ℕ → Step → Next
-nextBy at (Option kind header size) = Found at kind header size
+nextBy at (Option kind header size) = Found at header kind size
 nextBy at End = Nothing
 nextBy at Eol = Nothing
 nextBy at Nop = Nothing

@@ -87,7 +87,7 @@ pub record Got (l : List ℕ) (place kind header size : ℕ) (option : Located) 
 -- These options are got one by one from `at` on: each behind the NOPs that follow the one before, until none comes any more.
 pub data Turns (l : List ℕ) : ℕ → List Located → Type 0 where
   done : {at : ℕ} → nextOf (drop at l) ≡ Nothing → Turns l at []
-  turn : {at : ℕ} {option : Located} {later : List Located} (n kind header size : ℕ) → nextOf (drop at l) ≡ Found n kind header size
+  turn : {at : ℕ} {option : Located} {later : List Located} (n kind header size : ℕ) → nextOf (drop at l) ≡ Found n header kind size
       → Got l (at + n) kind header size option → Turns l (at + n + size) later → Turns l at (option ∷ later)
 
 -- ---- faults

@@ -5,10 +5,11 @@ ghost use Rattle.wire_offsets.specs.Next.{nextOf};
 
 pub enum Next {
     // An option: its kind byte stands `at` bytes into the list, its fields or body behind a header of `header` bytes, what comes next `size` bytes on.
+    // The kind stands between the two, so that a caller does not load them as one: they are stored one by one, and such a load has to wait.
     Found {
         at: usize,
-        kind: u8,
         header: usize,
+        kind: u8,
         size: usize,
     },
     // No option comes any more.

@@ -12,7 +12,7 @@ use Rattle.host_options.proofs.original_option.Tie as tie
 
 -- the option that was found ends within a slice
 fits : (c : tie.After-known-told) → let g = c .before .next .given .0 in
-    (g .1 .1 .0 ≤ g .1 .1 .1 .0) × (c .before .before .before .args .from + g .0 + g .1 .1 .1 .0 < 9223372036854775808)
+    (g .1 .0 ≤ g .1 .1 .1 .0) × (c .before .before .before .args .from + g .0 + g .1 .1 .1 .0 < 9223372036854775808)
 fits c = let start = c .before .before .before in subst (Fits (start .args .from)) (c .before .next .given .1) (start .pre)
 
 enum-known-next : tie.Need-enum-known-next
@@ -44,7 +44,7 @@ returns c =
     let s = c .before in
     let g = s .before .next .given .0 in
     let place : ℕ = s .before .before .before .args .from + g .0 in
-    ap (λ (o : PacketOffset). record { found = 1; kind = g .1 .0; offset = o; body = places (place + g .1 .1 .0) (place + g .1 .1 .1 .0) }) (c .offset-of .ensures)
+    ap (λ (o : PacketOffset). record { found = 1; kind = g .1 .1 .0; offset = o; body = places (place + g .1 .0) (place + g .1 .1 .1 .0) }) (c .offset-of .ensures)
     ∙ sym (ap (originalOption (s .before .before .before .args .from)) (s .before .next .given .1))
 
 returns-2 : tie.Need-returns-2

@@ -10,7 +10,7 @@ use Rattle.host_options.proofs.packet_option.Tie as tie
 
 -- the option that was found ends within a slice
 fits : (c : tie.After-known-told) → let g = c .before .next .given .0 in
-    (g .1 .1 .0 ≤ g .1 .1 .1 .0) × (c .before .before .before .args .from + g .0 + g .1 .1 .1 .0 < 9223372036854775808)
+    (g .1 .0 ≤ g .1 .1 .1 .0) × (c .before .before .before .args .from + g .0 + g .1 .1 .1 .0 < 9223372036854775808)
 fits c = let start = c .before .before .before in subst (Fits (start .args .from)) (c .before .next .given .1) (start .pre)
 
 enum-known-next : tie.Need-enum-known-next

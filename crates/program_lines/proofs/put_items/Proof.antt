@@ -61,10 +61,10 @@ module _ (s : tie.After-next Inv-loop μ-loop) where
   nopsOf = s .next .given .0 .0
 
   abbrev kindOf : ℕ
-  kindOf = s .next .given .0 .1 .0
+  kindOf = s .next .given .0 .1 .1 .0
 
   abbrev headerOf : ℕ
-  headerOf = s .next .given .0 .1 .1 .0
+  headerOf = s .next .given .0 .1 .0
 
   abbrev sizeOf : ℕ
   sizeOf = s .next .given .0 .1 .1 .1 .0
