@@ -92,11 +92,11 @@ enum { WURAKETOZO_APC_NONE = 0, WURAKETOZO_APC_RIGHT = 1, WURAKETOZO_APC_WRONG =
 typedef struct {
     uint32_t refusal;          /* 0, or the reader's number; then every other field is 0 */
     uint32_t verdict;          /* WURAKETOZO_NONE .. WURAKETOZO_PADDED */
-    size_t fault_at;           /* with a fault in the option list the offset where it was met, else 0 */
     wuraketozo_extent user;    /* the user data */
     wuraketozo_extent options; /* the option list with its fill, 0 and 0 unless the verdict is READ */
     size_t count;              /* options in it, NOP and EOL not counted */
     size_t fill;               /* zero bytes from EOL to the end */
+    size_t fault_at;           /* with a fault in the option list the offset where it was met, else 0 */
     uint32_t apc;              /* WURAKETOZO_APC_NONE .. WURAKETOZO_APC_WRONG */
     uint32_t identification;   /* from here on: PIECE only, else 0 */
     size_t place;              /* where the fragment stands in the original */
@@ -113,11 +113,11 @@ wuraketozo_reading wuraketozo_read(const uint8_t *payload, size_t length, wurake
 typedef struct {
     uint32_t refusal;                   /* 0, or the reader's number; then every other field is 0 */
     uint32_t verdict;                   /* WURAKETOZO_NONE .. WURAKETOZO_READ, TAIL or PADDED, and not UNSAFE: refusal 5 */
-    size_t fault_at;                    /* with a fault in the option list the offset where it was met, 8 plus the place; else 0 */
     wuraketozo_original_extent user;    /* the user data */
     wuraketozo_original_extent options; /* the option list with its fill, 0 and 0 unless the verdict is READ */
     size_t count;                       /* options in it, NOP and EOL not counted */
     size_t fill;                        /* zero bytes from EOL to the end */
+    size_t fault_at;                    /* with a fault in the option list the offset where it was met, 8 plus the place; else 0 */
     uint32_t apc;                       /* WURAKETOZO_APC_NONE .. WURAKETOZO_APC_WRONG */
 } wuraketozo_rereading;
 

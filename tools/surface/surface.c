@@ -27,15 +27,15 @@ static const wuraketozo_address here = {{192, 0, 2, 1}}, there = {{198, 51, 100,
 
 static int same_reading(wuraketozo_reading a, wuraketozo_reading b)
 {
-    return SAME(refusal) && SAME(verdict) && SAME(fault_at) && SAME(user.from) && SAME(user.to) && SAME(options.from) &&
-           SAME(options.to) && SAME(count) && SAME(fill) && SAME(apc) && SAME(identification) && SAME(place) && SAME(part.from) &&
+    return SAME(refusal) && SAME(verdict) && SAME(user.from) && SAME(user.to) && SAME(options.from) && SAME(options.to) &&
+           SAME(count) && SAME(fill) && SAME(fault_at) && SAME(apc) && SAME(identification) && SAME(place) && SAME(part.from) &&
            SAME(part.to) && SAME(option_start) && SAME(last);
 }
 
 static int same_rereading(wuraketozo_rereading a, wuraketozo_rereading b)
 {
-    return SAME(refusal) && SAME(verdict) && SAME(fault_at) && SAME(user.from) && SAME(user.to) && SAME(options.from) &&
-           SAME(options.to) && SAME(count) && SAME(fill) && SAME(apc);
+    return SAME(refusal) && SAME(verdict) && SAME(user.from) && SAME(user.to) && SAME(options.from) && SAME(options.to) &&
+           SAME(count) && SAME(fill) && SAME(fault_at) && SAME(apc);
 }
 
 static int same_listing(wuraketozo_listing a, wuraketozo_listing b)

@@ -43,11 +43,11 @@ abbrev pub unread : ℕ → Reading
 unread refusal = record {
   refusal = refusal;
   verdict = 0;
-  «fault_at» = record { 0 = 0 };
   user = extent 0 0;
   options = extent 0 0;
   count = 0;
   fill = 0;
+  «fault_at» = record { 0 = 0 };
   apc = 0;
   identification = 0;
   place = record { 0 = 0 };
@@ -60,11 +60,11 @@ abbrev pub withFragment : Fragment → Accepted → Reading
 withFragment f r = record {
   refusal = 0;
   verdict = verdictSays (r .verdict) .number;
-  «fault_at» = offsetOr (faultAt (r .verdict));
   user = r .user;
   options = r .options;
   count = r .count;
   fill = r .fill;
+  «fault_at» = offsetOr (faultAt (r .verdict));
   apc = apcSays (r .apc) .number;
   identification = f .identification;
   place = f .place;

@@ -9,18 +9,18 @@ use Rattle.host_rereadings.specs.declared.Rereading.{Rereading}
 
 -- "A refusal returns its number only"
 abbrev pub unreread : ℕ → Rereading
-unreread refusal = record { refusal = refusal; verdict = 0; «fault_at» = record { 0 = 0 }; user = places 0 0; options = places 0 0; count = 0; fill = 0; apc = 0 }
+unreread refusal = record { refusal = refusal; verdict = 0; user = places 0 0; options = places 0 0; count = 0; fill = 0; «fault_at» = record { 0 = 0 }; apc = 0 }
 
 -- what a reading has, but no fragment: an original is never one
 abbrev pub rereadingFrom : Reaccepted → Rereading
 rereadingFrom r = record {
   refusal = 0;
   verdict = verdictSays (r .verdict) .number;
-  «fault_at» = offsetOr (faultAt (r .verdict));
   user = r .user;
   options = r .options;
   count = r .count;
   fill = r .fill;
+  «fault_at» = offsetOr (faultAt (r .verdict));
   apc = apcSays (r .apc) .number;
 }
 

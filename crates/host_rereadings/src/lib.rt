@@ -16,11 +16,11 @@ ghost use Rattle.host_rereadings.specs.Listable.{rereadingFor};
 pub struct Rereading {
     pub refusal: u32,
     pub verdict: u32,
-    pub fault_at: PacketOffset,
     pub user: OriginalExtent,
     pub options: OriginalExtent,
     pub count: usize,
     pub fill: usize,
+    pub fault_at: PacketOffset,
     pub apc: u32,
 }
 
@@ -50,11 +50,11 @@ fn unreread(refusal: u32) -> Rereading
     Rereading {
         refusal: refusal,
         verdict: 0,
-        fault_at: PacketOffset(0),
         user: none,
         options: none,
         count: 0,
         fill: 0,
+        fault_at: PacketOffset(0),
         apc: 0,
     }
 }
@@ -69,11 +69,11 @@ fn rereading_from(rereading: wire_original::Rereading) -> Rereading
     Rereading {
         refusal: 0,
         verdict: host_readings::verdict_number(verdict),
-        fault_at: host_readings::fault_offset(verdict),
         user: user,
         options: options,
         count: rereading.count,
         fill: rereading.fill,
+        fault_at: host_readings::fault_offset(verdict),
         apc: host_readings::apc_number(apc),
     }
 }

@@ -45,11 +45,11 @@ pub struct OriginalExtent {
 pub struct Reading {
     pub refusal: u32,
     pub verdict: u32,
-    pub fault_at: PacketOffset,
     pub user: Extent,
     pub options: Extent,
     pub count: usize,
     pub fill: usize,
+    pub fault_at: PacketOffset,
     pub apc: u32,
     pub identification: u32,
     pub place: Place,
@@ -64,11 +64,11 @@ pub struct Reading {
 pub struct Rereading {
     pub refusal: u32,
     pub verdict: u32,
-    pub fault_at: PacketOffset,
     pub user: OriginalExtent,
     pub options: OriginalExtent,
     pub count: usize,
     pub fill: usize,
+    pub fault_at: PacketOffset,
     pub apc: u32,
 }
 
@@ -525,10 +525,10 @@ layouts! {
     Extent "wuraketozo_extent" 16 8: from 0, to 8;
     OriginalExtent "wuraketozo_original_extent" 16 8: from 0, to 8;
     Reading "wuraketozo_reading" 112 8:
-        refusal 0, verdict 4, fault_at 8, user 16, options 32, count 48, fill 56, apc 64,
+        refusal 0, verdict 4, user 8, options 24, count 40, fill 48, fault_at 56, apc 64,
         identification 68, place 72, part 80, option_start 96, last 104;
     Rereading "wuraketozo_rereading" 72 8:
-        refusal 0, verdict 4, fault_at 8, user 16, options 32, count 48, fill 56, apc 64;
+        refusal 0, verdict 4, user 8, options 24, count 40, fill 48, fault_at 56, apc 64;
     Listing "wuraketozo_listing" 24 8: refusal 0, size 8, fill 16;
     PacketOption "wuraketozo_option" 32 8: found 0, kind 4, offset 8, body 16;
     OriginalOption "wuraketozo_original_option" 32 8: found 0, kind 4, offset 8, body 16;
