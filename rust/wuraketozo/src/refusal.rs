@@ -26,7 +26,10 @@ macro_rules! refusals {
                 }
             }
 
-            /// The refusal of a number.
+            /// The refusal of a number. Out of the way of the calls that are
+            /// not refused: inlined, its table is looked up by every answer.
+            #[cold]
+            #[inline(never)]
             pub(crate) const fn of(number: u32) -> Refusal {
                 match number {
                     $($number => Refusal::$name,)+
