@@ -226,7 +226,7 @@ typedef struct {
  * the call below with its own layout's number in its name and no other one. The reference to it that stands here goes into every
  * object that includes this header, so that a host does not link against a library of another layout. It answers the bytes of a
  * record, as wuraketozo_record_size does. */
-size_t wuraketozo_layout_4(void);
+size_t wuraketozo_layout_5(void);
 #if defined(__has_attribute)
 #if __has_attribute(retain)
 #define WURAKETOZO_KEPT __attribute__((used, retain))
@@ -236,7 +236,7 @@ size_t wuraketozo_layout_4(void);
 #define WURAKETOZO_KEPT __attribute__((used))
 #endif
 #ifdef WURAKETOZO_KEPT
-static size_t (*const wuraketozo_layout)(void) WURAKETOZO_KEPT = wuraketozo_layout_4;
+static size_t (*const wuraketozo_layout)(void) WURAKETOZO_KEPT = wuraketozo_layout_5;
 #endif
 #if defined(__STDC_VERSION__) && __STDC_VERSION__ >= 201112L
 _Static_assert(sizeof(wuraketozo_client) == 704, "a record is 704 bytes");

@@ -282,7 +282,7 @@ static wuraketozo_fragment fragment(size_t place, uint32_t last)
 
 static void outcomes(void)
 {
-    CHECK(wuraketozo_record_size() == sizeof records[0] && wuraketozo_layout_4() == sizeof records[0]);
+    CHECK(wuraketozo_record_size() == sizeof records[0] && wuraketozo_layout_5() == sizeof records[0]);
     CHECK(wuraketozo_share_size() == sizeof store && wuraketozo_out_size() == sizeof out && wuraketozo_client_limit() == 12);
     CHECK(wuraketozo_reset(records, 1, store, sizeof store).outcome == WURAKETOZO_RESET);
     CHECK(OFFER(0, "ab", 0).outcome == WURAKETOZO_STORED);

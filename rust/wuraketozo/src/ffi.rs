@@ -202,7 +202,7 @@ mod c {
             buffer: *mut u8,
             room: usize,
         ) -> Written;
-        pub fn wuraketozo_layout_4() -> usize;
+        pub fn wuraketozo_layout_5() -> usize;
         pub fn wuraketozo_share_size() -> usize;
         pub fn wuraketozo_out_size() -> usize;
         pub fn wuraketozo_client_limit() -> usize;
@@ -260,7 +260,7 @@ mod c {
 /// A library of another layout has no symbol of this name, so that nothing
 /// that uses this crate links against it.
 #[used]
-static LAYOUT: unsafe extern "C" fn() -> usize = c::wuraketozo_layout_4;
+static LAYOUT: unsafe extern "C" fn() -> usize = c::wuraketozo_layout_5;
 
 #[inline]
 pub fn read(payload: &[u8], source: [u8; 4], destination: [u8; 4], strictness: u32) -> Reading {
@@ -363,7 +363,7 @@ pub fn sizes() -> [usize; 4] {
     // SAFETY: these take nothing and touch nothing.
     unsafe {
         [
-            c::wuraketozo_layout_4(),
+            c::wuraketozo_layout_5(),
             c::wuraketozo_share_size(),
             c::wuraketozo_out_size(),
             c::wuraketozo_client_limit(),
