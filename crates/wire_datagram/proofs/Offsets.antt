@@ -20,7 +20,7 @@ use Rattle.wire_options.specs.Walk.{faulty, optionLimit}
 use Rattle.wire_options.specs.Strict.{walkBy}
 use Rattle.wire_options.specs.declared.walk.Fault.{Fault}
 use Rattle.wire_options.specs.declared.walk.Fault.the-variants.{Malformed as malformedList, FragData as fragData}
-use Rattle.wire_offsets.specs.Places.{frag, placeOf, OptionsFrom, FaultAt, ByteOf}
+use Rattle.wire_offsets.specs.Places.{frag, placeBefore, OptionsFrom, FaultAt, ByteOf}
 use Rattle.wire_offsets.proofs.Faults.{fault-byte}
 use Rattle.wire_offsets.proofs.Parts.{LiesIn, rest-lies, part-lies, FaultByte, fault-lies, options-from}
 use Rattle.wire_area.specs.Area.{fieldsOf, upToStart}
@@ -46,7 +46,7 @@ pub record WalkMeets (how : Strictness) (room : ℕ) (x : Fault) (start : ℕ) (
   pub remains : ℕ
   pub walks : walkBy how room 0 l ≡ faulty x remains
   pub fault : FaultAt l x remains
-  pub place : at .0 ≡ start + placeOf l remains
+  pub place : at .0 ≡ start + placeBefore l remains
 
 -- no user data, FRAG leads the list that starts at `from`, and the walk of the options behind it, up to Frag. Start, meets the fault
 pub record PieceMeets (how : Strictness) (p : List ℕ) (x : Fault) (from : ℕ) (l : List ℕ) (at : PacketOffset) : Type 0 where

@@ -28,7 +28,7 @@ use Rattle.wire_options.specs.declared.walk.Fault.the-variants.{Malformed, Unsa
 use Rattle.wire_options.proofs.Stricts.{NoNop, by-skip, walk-other}
 use Rattle.wire_options.proofs.Runs.{run-passed, run-padded}
 use Rattle.wire_options.proofs.Paddings.{Comes, here, over-nop, over-option}
-use Rattle.wire_offsets.specs.Places.{placeOf, TailAt, PaddedAt, FaultAt}
+use Rattle.wire_offsets.specs.Places.{placeBefore, TailAt, PaddedAt, FaultAt}
 use Rattle.wire_offsets.proofs.Turns.{no-nop}
 use Rattle.wire_offsets.proofs.Suffixes.{Suffix, comes-suffix, suffix-byte}
 use Rattle.wire_offsets.proofs.Bytes.{step-some, outlawed-byte, eol-zeros}
@@ -244,32 +244,32 @@ fault-met how room l fault remains q = met-from (length l) how room l fault rema
 module _ {l m : List ℕ} (s : Suffix l m) where
   -- a fault at the front of what the walk comes to
   module _ {remains : ℕ} (e : remains ≡ length m) where
-    front-step : stepOf (drop (placeOf l remains) l) ≡ stepOf m
-    front-step = ap (λ (n : ℕ). stepOf (drop (placeOf l n) l)) e ∙ sym (ap stepOf (s .rest))
+    front-step : stepOf (drop (placeBefore l remains) l) ≡ stepOf m
+    front-step = ap (λ (n : ℕ). stepOf (drop (placeBefore l n) l)) e ∙ sym (ap stepOf (s .rest))
 
-    front-byte : getD l (placeOf l remains) 0 ≡ getD m 0 0
-    front-byte = ap (λ (n : ℕ). getD l (placeOf l n) 0) (e ∙ omega arith) ∙ suffix-byte s 0 (omega arith)
+    front-byte : getD l (placeBefore l remains) 0 ≡ getD m 0 0
+    front-byte = ap (λ (n : ℕ). getD l (placeBefore l n) 0) (e ∙ omega arith) ∙ suffix-byte s 0 (omega arith)
 
-  tail-at : stepOf m ≡ Eol → allZero m ≡ false → TailAt l (placeOf l (length m - zerosOf m))
+  tail-at : stepOf m ≡ Eol → allZero m ≡ false → TailAt l (placeBefore l (length m - zerosOf m))
   tail-at e z =
       let f = first-set m z in
       record {
         nonzero = λ q. f .set (sym (suffix-byte s (zerosOf m) (omega (arith, f .within))) ∙ q);
-        end = placeOf l (length m);
+        end = placeBefore l (length m);
         behind = omega (arith, s .within, f .within, eol-zeros m e);
         ends = sym (ap stepOf (s .rest)) ∙ e;
         zeros = λ i low high.
-            let n : ℕ = i - placeOf l (length m) in
-            let at : placeOf l (length m - n) ≡ i = omega (arith, s .within, f .within) in
+            let n : ℕ = i - placeBefore l (length m) in
+            let at : placeBefore l (length m - n) ≡ i = omega (arith, s .within, f .within) in
             sym (ap (λ (k : ℕ). getD l k 0) at) ∙ suffix-byte s n (omega (arith, s .within, f .within)) ∙ f .zeros n (omega (arith, s .within, f .within));
       }
 
-  padded-at : 8 ≤ nopsOf m → PaddedAt l (placeOf l (length m - 7))
+  padded-at : 8 ≤ nopsOf m → PaddedAt l (placeBefore l (length m - 7))
   padded-at h =
       let long : 8 ≤ length m = omega (arith, nops-within m) in
       record {
         nops = λ i low.
-            let at : placeOf l (length m - (7 - i)) ≡ placeOf l (length m - 7) - i = omega (arith, s .within) in
+            let at : placeBefore l (length m - (7 - i)) ≡ placeBefore l (length m - 7) - i = omega (arith, s .within) in
             sym (ap (λ (k : ℕ). getD l k 0) at) ∙ suffix-byte s (7 - i) (omega arith) ∙ nops-are m (7 - i) (omega arith);
         seven = omega (arith, s .within);
       }
@@ -292,7 +292,7 @@ fault-at how room l left m Unsafe remains s c = record {
 }
 fault-at how room l left m Crowded remains s c =
     let f = step-found m (c .2 .0) (c .2 .1) (c .2 .2) (c .2 .3) in
-    let byte : c .2 .0 ≡ getD l (placeOf l remains) 0 = f .front ∙ sym (front-byte s (c .0)) in
+    let byte : c .2 .0 ≡ getD l (placeBefore l remains) 0 = f .front ∙ sym (front-byte s (c .0)) in
     record {
       within = omega (arith, s .within, c .0);
       some = omega (arith, c .0, f .sized .least, f .sized .fits);

@@ -11,7 +11,7 @@ use Rattle.number_octets.specs.Octets.{part}
 use Rattle.wire_step.specs.Step.{stepOf}
 use Rattle.wire_options.specs.Walk.{Located, listed, itemOf, walkFrom}
 use Rattle.wire_options.specs.declared.walk.Fault.{Fault}
-use Rattle.wire_offsets.specs.Places.{placeOf, placeIn, Each, Stands, Apart, placeFrom, StandsFrom, ApartFrom, OptionsFrom, FaultAt, ByteOf}
+use Rattle.wire_offsets.specs.Places.{placeBefore, placeIn, Each, Stands, Apart, placeFrom, StandsFrom, ApartFrom, OptionsFrom, FaultAt, ByteOf}
 use Rattle.wire_offsets.proofs.Options.{each-map, options-stand, options-apart, options-before-fill}
 use Rattle.wire_offsets.proofs.FaultBytes.{byte-of}
 
@@ -49,9 +49,9 @@ pub record FaultByte (bytes : List ℕ) (start : ℕ) (fault : Fault) (place : �
   pub byte : ByteOf fault (getD bytes place 0)
 
 pub fault-lies : (bytes : List ℕ) (start : ℕ) (l : List ℕ) (fault : Fault) (remains : ℕ) → LiesIn bytes start l → FaultAt l fault remains
-    → FaultByte bytes start fault (start + placeOf l remains)
+    → FaultByte bytes start fault (start + placeBefore l remains)
 fault-lies bytes start l fault remains lies f =
-    let place : ℕ = placeOf l remains in
+    let place : ℕ = placeBefore l remains in
     let inside : place < length l = omega (arith, f .within, f .some) in
     record {
       behind = omega arith;

@@ -9,11 +9,11 @@ use lib.Seq.{drop-drop, getD-drop}
 use Rattle.wire_nops.specs.Nops.{nop}
 use Rattle.wire_step.proofs.Steps.{step-found}
 use Rattle.wire_options.proofs.Paddings.{Comes, here, over-nop, over-option}
-use Rattle.wire_offsets.specs.Places.{placeOf}
+use Rattle.wire_offsets.specs.Places.{placeBefore}
 
 pub record Suffix (l m : List ℕ) : Type 0 where
   pub within : length m ≤ length l
-  pub rest : m ≡ drop (placeOf l (length m)) l
+  pub rest : m ≡ drop (placeBefore l (length m)) l
 
 pub comes-suffix : {room left : ℕ} {l m : List ℕ} → Comes room l left m → Suffix l m
 comes-suffix (here {left} {m}) =
@@ -35,7 +35,7 @@ comes-suffix (over-option {room} {left} {l} {m} kind header size e other c) =
 
 module _ {l m : List ℕ} (s : Suffix l m) where
   -- each byte of the end at its place in the list
-  pub suffix-byte : (i : ℕ) → i ≤ length m → getD l (placeOf l (length m - i)) 0 ≡ getD m i 0
+  pub suffix-byte : (i : ℕ) → i ≤ length m → getD l (placeBefore l (length m - i)) 0 ≡ getD m i 0
   suffix-byte i h =
       let at : length l - length m + i ≡ length l - (length m - i) = omega (arith, s .within) in
       sym (ap (λ (x : List ℕ). getD x i 0) (s .rest) ∙ getD-drop (length l - length m) l i 0 ∙ ap (λ (n : ℕ). getD l n 0) at)

@@ -15,12 +15,12 @@ use Rattle.wire_offsets.specs.Next.{nextOf}
 use Rattle.wire_offsets.specs.declared.Next.the-variants.{Found, Nothing}
 
 -- the place from which so many bytes remain
-abbrev pub placeOf : List ℕ → ℕ → ℕ
-placeOf l remains = length l - remains
+abbrev pub placeBefore : List ℕ → ℕ → ℕ
+placeBefore l remains = length l - remains
 
 -- the place of an option's kind byte
 abbrev pub placeIn : List ℕ → Located → ℕ
-placeIn l option = placeOf l (option .remains)
+placeIn l option = placeBefore l (option .remains)
 
 -- what holds of each of some options
 abbrev pub Each : (Located → Type 0) → List Located → Type 0
@@ -118,7 +118,7 @@ MetAt l place FragData = ⊥
 pub record FaultAt (l : List ℕ) (fault : Fault) (remains : ℕ) : Type 0 where
   pub within : remains ≤ length l
   pub some : 0 < remains
-  pub met : MetAt l (placeOf l remains) fault
+  pub met : MetAt l (placeBefore l remains) fault
 
 -- what that byte is: a kind that has a header, FRAG too; an unsafe kind; FRAG; a kind that has a header and is not FRAG; no zero; NOP
 abbrev pub ByteOf : Fault → ℕ → Type 0

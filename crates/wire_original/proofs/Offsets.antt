@@ -13,7 +13,7 @@ use Rattle.wire_nops.specs.declared.Strictness.{Strictness}
 use Rattle.wire_options.specs.Walk.{faulty, optionLimit}
 use Rattle.wire_options.specs.Strict.{walkBy}
 use Rattle.wire_options.specs.declared.walk.Fault.{Fault}
-use Rattle.wire_offsets.specs.Places.{placeOf, OptionsFrom, FaultAt, ByteOf}
+use Rattle.wire_offsets.specs.Places.{placeBefore, OptionsFrom, FaultAt, ByteOf}
 use Rattle.wire_offsets.proofs.Faults.{fault-byte}
 use Rattle.wire_offsets.proofs.Parts.{rest-lies, fault-lies, options-from}
 use Rattle.wire_surplus.specs.Surplus.{startOf}
@@ -39,7 +39,7 @@ pub record FaultInOriginal (how : Strictness) (original : List ℕ) (r : ℕ) (x
   pub remains : ℕ
   pub walks : walkBy how optionLimit 0 (drop from original) ≡ faulty x remains
   pub met : FaultAt (drop from original) x remains
-  pub placed : place ≡ from + placeOf (drop from original) remains
+  pub placed : place ≡ from + placeBefore (drop from original) remains
 
 pub reread-fault-offset : (how : Strictness) (original : List ℕ) (r : ℕ) (y : Rereading) (x : Fault) (at : PacketOffset)
     → rereading how original r ≡ rereads y → y .verdict ≡ verdictOf x at → FaultInOriginal how original r x at
@@ -49,13 +49,13 @@ reread-fault-offset how original r y x at e v =
     let list : List ℕ = drop from original in
     let met = fault-byte how optionLimit list x (f .0) (f .1 .walks) in
     let b = fault-lies original from list x (f .0) (rest-lies original from) met in
-    let same : length original - f .0 ≡ from + placeOf list (f .0) = omega (arith, met .within, met .some, length-drop from original) in
+    let same : length original - f .0 ≡ from + placeBefore list (f .0) = omega (arith, met .within, met .some, length-drop from original) in
     record {
       into = f .1 .at;
       starts = f .1 .starts;
       from = from;
       start = refl;
-      place = from + placeOf list (f .0);
+      place = from + placeBefore list (f .0);
       behind = b .behind;
       within = b .within;
       offset = f .2 ∙ ap (λ (n : ℕ). offsetOf (record { 0 = n })) same;
