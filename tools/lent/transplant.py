@@ -24,6 +24,7 @@ ROOT = os.path.dirname(os.path.dirname(HERE))
 TWINS = os.path.join(HERE, 'twin')
 WORK = os.path.join(ROOT, 'target', 'twin')
 STRUCTS = json.load(open(os.path.join(HERE, 'structs.json')))['structs']
+CONST = re.compile(r'^pub const (\w+): \w+ = (.*);$', re.M)
 
 # the lent functions of a file stand behind this line
 MARK = '// By hand from here on.'
@@ -40,6 +41,19 @@ def write(path, text):
     os.makedirs(os.path.dirname(path), exist_ok=True)
     with open(path, 'w') as f:
         f.write(text)
+
+
+def constants(crate):
+    """The constants of a crate's src/lib.rt, and their values."""
+    text, values = read(os.path.join(ROOT, 'crates', crate, 'src', 'lib.rt')), {}
+    for m in CONST.finditer(text):
+        values[m.group(1)] = eval(m.group(2).replace('/', '//'), {}, values)
+    return [m.group(0) for m in CONST.finditer(text)], values
+
+
+# the size of a struct is a constant of its crate
+for conf in STRUCTS.values():
+    conf['bytes'] = constants(conf['crate'])[1][conf['bytes']]
 
 
 # ---- printed modules
@@ -355,6 +369,8 @@ def make_twin(crate, twins, deps):
                 rel = os.path.relpath(os.path.join(folder, name), os.path.join(TWINS, c))[:-4]
                 text, _, stubs = read(os.path.join(folder, name)).partition(STUBS)
                 real = read(os.path.join(ROOT, 'crates', c, 'src', rel))
+                if rel == 'lib.rt' and any(c == conf['crate'] for conf in STRUCTS.values()):
+                    text = '\n'.join(constants(c)[0]) + '\n' + text
                 if c != crate:
                     text += stubs
                 if MARK in real:

@@ -100,7 +100,7 @@ line-8 = refl
 
 -- the sizes of the table
 lent : Lent
-lent = record { count = 1; bytes = 16384 }
+lent = record { count = 1; bytes = shareSize }
 
 sizes : lentOf table ≡ lent
 unfolding lent shareSize

@@ -167,7 +167,7 @@ module _ (share : List ℕ) (p : ℕ) (whole : length share ≡ shareSize) (h : 
   -- a fragment that fits lies in its place's part of the share
   pub in-share : (f : Fragment) → fits f ≡ true → base p + f .offset + f .length ≤ length share
   unfolding fits end base shareSize assemblyLimit datagramLimit
-  in-share f e = omega (arith, leb-true (f .offset + f .length) 4096 e)
+  in-share f e = omega (arith, leb-true (f .offset + f .length) datagramLimit e)
 
   pub content-size : (f : Fragment) → fits f ≡ true → size (contentOf share p f) ≡ f .length
   unfolding size contentOf

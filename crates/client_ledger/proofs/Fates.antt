@@ -280,7 +280,7 @@ module _ (c : Client) (share : List ℕ) (b : Book) (st : Stands c share b) (out
       final-room : base p + end end-one ≤ length (laid share p o bytes)
       unfolding fits base shareSize assemblyLimit datagramLimit
       final-room =
-          omega (arith, laid-size, here, leb-true (end end-one) 4096 (last-fits (heldFragments (added a (held-as o bytes))) added-fits))
+          omega (arith, laid-size, here, leb-true (end end-one) datagramLimit (last-fits (heldFragments (added a (held-as o bytes))) added-fits))
 
       final-out : coveredTo (end end-one) (heldFragments (added a (held-as o bytes))) ≡ true
           → overlay out 0 (part (base p) (end end-one) (laid share p o bytes))

@@ -14,7 +14,7 @@ use Rattle.client_ledger.specs.History.{Lent}
 unfoldable pub countOff : Lent → Bool
 countOff l = eqb (l .count) 0 || ltb clientLimit (l .count)
 
--- "store not 16,384 bytes for each"
+-- "store not [a share] for each"
 unfoldable pub storeOff : Lent → Bool
 storeOff l = not (eqb (shareSize * l .count) (l .bytes))
 

@@ -53,14 +53,14 @@ each-covered (suc n) fs c = ap₂ _&&_ (each-covered n fs (λ i h. c i (omega ar
 
 -- ---- two fragments that do not contradict each other
 
-agree : (f g : Fragment) → not (conflicts f g) ≡ true → Agree starts sizes isLast f g
+pub agree : (f g : Fragment) → not (conflicts f g) ≡ true → Agree starts sizes isLast f g
 unfolding conflicts overlaps bothLast outruns meets end
 agree f g h = Ranges.agree starts sizes isLast f g (not-true (conflicts f g) h)
 
 -- ---- the last one of several
 
 -- what all pass, it passes
-last-passes : (p : Fragment → Bool) (fs : List Fragment) → all p fs ≡ true → any isLast fs ≡ true → p (lastOf fs) ≡ true
+pub last-passes : (p : Fragment → Bool) (fs : List Fragment) → all p fs ≡ true → any isLast fs ≡ true → p (lastOf fs) ≡ true
 unfolding all any lastOf
 last-passes p [] h e = absurd (true-false (sym e))
 last-passes p (f ∷ fs) h e = go (isLast f) (last-passes p fs (b .1)) e
@@ -93,7 +93,7 @@ only-last (f ∷ fs) (suc i) d h l e =
     cond-no (isLast f) f (lastOf fs) (not-both (isLast f) (λ p. other .one-last p e)) ∙ only-last fs i d (b .1) (le-of-suc-le-suc l) e
 
 -- and none ends past it
-last-ends : (fs : List Fragment) → compatible fs ≡ true → any isLast fs ≡ true → all (λ f. leb (f .offset + f .length) (end (lastOf fs))) fs ≡ true
+pub last-ends : (fs : List Fragment) → compatible fs ≡ true → any isLast fs ≡ true → all (λ f. leb (f .offset + f .length) (end (lastOf fs))) fs ≡ true
 unfolding compatible pairs all any lastOf end
 last-ends [] h e = refl
 last-ends (f ∷ fs) h e = go (isLast f) refl (last-ends fs (b .1)) e

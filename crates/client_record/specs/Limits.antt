@@ -3,11 +3,11 @@ use Prim.Native.Nat.{ℕ, _*_}
 
 -- the bytes of an original that an assembly holds at most
 unfoldable pub datagramLimit : ℕ
-datagramLimit = 4096
+datagramLimit = 8192
 
 -- the fragments of an assembly
 unfoldable pub fragmentLimit : ℕ
-fragmentLimit = 16
+fragmentLimit = 64
 
 -- the assemblies of a client
 unfoldable pub assemblyLimit : ℕ

@@ -7,10 +7,10 @@ ghost use Rattle.client_record.specs.Record.{freshFragment, freshFlow, f
 ghost use Rattle.client_record.specs.Record.{live, sameFlow, hasKey};
 
 // The bytes of an original that an assembly holds at most.
-pub const DATAGRAM_LIMIT: usize = 4096;
+pub const DATAGRAM_LIMIT: usize = 8192;
 
 // The fragments of an assembly.
-pub const FRAGMENT_LIMIT: usize = 16;
+pub const FRAGMENT_LIMIT: usize = 64;
 
 // The assemblies of a client.
 pub const ASSEMBLY_LIMIT: usize = 4;
@@ -20,6 +20,15 @@ pub const ADDRESS: usize = 4;
 
 // A client's share of the store: one place for each assembly.
 pub const SHARE: usize = ASSEMBLY_LIMIT * DATAGRAM_LIMIT;
+
+// The bytes of a flow, a held fragment, an assembly and a record: their fields', with no gap between them.
+pub const FLOW_SIZE: usize = 2 * ADDRESS + 4;
+
+pub const FRAGMENT_SIZE: usize = 8;
+
+pub const ASSEMBLY_SIZE: usize = FLOW_SIZE + 20 + FRAGMENT_LIMIT * FRAGMENT_SIZE;
+
+pub const RECORD_SIZE: usize = 64 + ASSEMBLY_LIMIT * ASSEMBLY_SIZE;
 
 // The clients of a table.
 pub const CLIENT_LIMIT: usize = 12;

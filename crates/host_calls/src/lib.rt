@@ -151,7 +151,7 @@ pub extern "C" fn wuraketozo_record_size() -> usize
 // The same under a name that has the number of the header's layout. The header and the wrapper for Rust refer to it, so that a host that was
 // compiled for another layout does not link. The number goes up with every change of a struct or of a call's arguments.
 #[no_mangle]
-pub extern "C" fn wuraketozo_layout_5() -> usize
+pub extern "C" fn wuraketozo_layout_6() -> usize
     ensures { λ r. ⌜ r ≡ recordSize ⌝ }
 {
     wuraketozo_record_size()

@@ -1,10 +1,12 @@
 -- The sizes of what crosses the surface, computed from the layouts: what sizeof must say of the structs of include/wuraketozo.h, in its order.
 -- Assumes nothing.
+use Prim.Native.Nat.{_+_, _*_}
 use mathlib.Core.Path.{_≡_, refl}
 use mathlib.Core.List.{[], _∷_}
 use prog.Memory.{size}
 use Rattle.wire_reading.proofs.Extent.Laws as Extent
 use Rattle.wire_original.proofs.OriginalExtent.Laws as OriginalExtent
+use Rattle.client_record.specs.Limits.{fragmentLimit, assemblyLimit}
 use Rattle.client_record.proofs.Flow.Laws as Flow
 use Rattle.client_record.proofs.Fragment.Laws as Held
 use Rattle.client_record.proofs.Assembly.Laws as Assembly
@@ -22,8 +24,9 @@ use Rattle.host_values.proofs.Fragment.Laws as Fragment
 use Rattle.host_values.proofs.Received.Laws as Received
 use Rattle.host_limits.specs.Layout.{recordSize, fieldBytes}
 
-pub record-size-is : recordSize ≡ 704
-unfolding recordSize
+-- eight numbers, and for each assembly its flow, three more numbers and its fragments
+pub record-size-is : recordSize ≡ 64 + assemblyLimit * (12 + 20 + fragmentLimit * 8)
+unfolding recordSize assemblyLimit fragmentLimit
 record-size-is = refl
 
 -- an address, bytes of a payload, bytes of an original; a reading, a rereading, a listing, an option of either, what was written
@@ -49,7 +52,8 @@ pub of-the-table : size Flow.mir
     ∷ size Fragment.mir
     ∷ size Received.mir
     ∷ []
-    ≡ 12 ∷ 8 ∷ 160 ∷ 56 ∷ 80 ∷ 48 ∷ 200 ∷ []
+    ≡ 12 ∷ 8 ∷ (12 + 20 + fragmentLimit * 8) ∷ 56 ∷ 80 ∷ 48 ∷ 200 ∷ []
+unfolding fragmentLimit
 of-the-table = refl
 
 -- ---- no gap

@@ -1,5 +1,5 @@
-// The table of up to 12 clients (document 01, "The table"): a lent slice of records, one per client, beside a lent store of 16,384
-// bytes for each. A call takes its client's record out, lends the client's share of the store to the client's own rules, and puts the record
+// The table of up to 12 clients (document 01, "The table"): a lent slice of records, one per client, beside a lent store with
+// a share for each. A call takes its client's record out, lends the client's share of the store to the client's own rules, and puts the record
 // back. No call asks anything of its arguments: every refusal is an answer.
 use client_reassembly::Answer;
 use client_reassembly::Arrival;

@@ -24,7 +24,7 @@ pub record Table : Type 0 where
 abbrev pub lentOf : Table → Lent
 lentOf t = record { count = length (t .records); bytes = length (t .store) }
 
--- "record count not 1 to 12, or store not 16,384 bytes for each" does not apply
+-- "record count not 1 to 12, or store not [a share] for each" does not apply
 unfoldable pub sized : Lent → Bool
 sized l = leb 1 (l .count) && (leb (l .count) clientLimit && eqb (l .bytes) (l .count * shareSize))
 
@@ -32,7 +32,7 @@ sized l = leb 1 (l .count) && (leb (l .count) clientLimit && eqb (l .bytes) (l .
 unfoldable pub askTests : Lent → ℕ → List (Bool × ℕ)
 askTests l k = (not (sized l), 20) ∷ (leb (l .count) k, 21) ∷ []
 
--- "Client k's share of the store is bytes 16,384·k onward"
+-- "Client k's share of the store" is as many bytes as each share before it, right behind those
 abbrev pub shareOf : ℕ → Table → List ℕ
 shareOf k t = part (k * shareSize) shareSize (t .store)
 

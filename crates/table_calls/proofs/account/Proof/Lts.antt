@@ -152,7 +152,7 @@ abbrev b15 : Syntax.Body
 b15 = Syntax.cond (Syntax.copy (Syntax.place 5 List.[])) b13 b14
 
 abbrev b16 : Syntax.Body
-b16 = Syntax.assign (Syntax.place 7 List.[]) (Syntax.op2 (Syntax.mul Syntax.unsigned) (Syntax.copy (Syntax.place 3 List.[])) (Syntax.int Syntax.w64 704))
+b16 = Syntax.assign (Syntax.place 7 List.[]) (Syntax.op2 (Syntax.mul Syntax.unsigned) (Syntax.copy (Syntax.place 3 List.[])) (Syntax.intBig Syntax.w64 2240))
 
 abbrev b17 : Syntax.Body
 b17 = Syntax.assign (Syntax.place 9 List.[]) (Syntax.op2 Syntax.offset (Syntax.copy (Syntax.place 1 (List._∷_ (Syntax.field 0) List.[]))) (Syntax.copy (Syntax.place 7 List.[])))
@@ -456,13 +456,13 @@ module _ (claims· : Claims) where
   s18 = Scalar.n-room T18 5 Syntax.tyBool
 
   abbrev s19 : Typed.Asks T17 T23
-  s19 = Scalar.k-op2 T17 (Syntax.mul Syntax.unsigned) (Scalar.oAt 3 (Syntax.tyInt Syntax.w64) (Row.valS (Row.sInt Syntax.w64))) (Scalar.oInt Syntax.w64 704) 7 (Rows'.sc-here (Row.sInt Syntax.w64)) (Row.sInt Syntax.w64 .of)
+  s19 = Scalar.k-op2 T17 (Syntax.mul Syntax.unsigned) (Scalar.oAt 3 (Syntax.tyInt Syntax.w64) (Row.valS (Row.sInt Syntax.w64))) (Scalar.oBig Syntax.w64 2240) 7 (Rows'.sc-here (Row.sInt Syntax.w64)) (Row.sInt Syntax.w64 .of)
 
   abbrev s20 : Typed.Asks T23 T24
   s20 = Scalar.k-op2 T23 Syntax.offset (Scalar.oFld 1 (List._∷_ (Syntax.field 0) List.[]) (Syntax.tyRef (Syntax.named 0) Syntax.imm (Memory·T.pointee (Client·T.the-row .written))) 0 Reads.ptrVal) (Scalar.oAt 7 (Syntax.tyInt Syntax.w64) (Row.valS (Row.sInt Syntax.w64))) 9 (Rows'.sc-here Row.sPtr) (Row.sPtr .of)
 
   abbrev s21 : Typed.Both T24 T25
-  s21 = Move.k-shs-copy-out Client·T.the-row T24 1 9 10 0 (Syntax.tyRef (Syntax.named 0) Syntax.imm (Memory·T.pointee (Client·T.the-row .written))) Row.off (Rows'.whole Client·T.the-row) (Shared.bySize 704) (λ u. u .1 .1 .1 .0) (λ x. x) Client·D.freshClient (λ x. Unit) (λ x. x) λ x. x
+  s21 = Move.k-shs-copy-out Client·T.the-row T24 1 9 10 0 (Syntax.tyRef (Syntax.named 0) Syntax.imm (Memory·T.pointee (Client·T.the-row .written))) Row.off (Rows'.whole Client·T.the-row) (Shared.bySize 2240) (λ u. u .1 .1 .1 .0) (λ x. x) Client·D.freshClient (λ x. Unit) (λ x. x) λ x. x
 
   abbrev s22 : Typed.Mo T25 → Typed.Mo T26
   s22 = Scalar.n-room T25 7 (Syntax.tyInt Syntax.w64)
@@ -822,13 +822,13 @@ module _ (claims· : Claims) where
           d25 = Typed.g-pre 𝓤 H A W 𝓣 E G25 G26 b25 Δ0 (Typed.pass T25 T26 s22) at24 (Scalar.g-room 𝓤 H A W E G25 7 (Syntax.tyInt Syntax.w64) (Scalar.room-sc 𝓤 H A W (Row.sInt Syntax.w64))) d24
 
           d26 : Typed.Typed 𝓤 H A 𝓣 E G24 b26 Δ0 at26
-          d26 = Typed.s-seq 𝓤 H A W 𝓣 E G24 G25 b18 b25 Δ0 (Typed.both s21) at25 (Move.t-shs-copy-out 𝓤 H A W E Client·T.the-row 𝓣 Path'.refl (Copies.cStruct Client·T.the-type Client·L.the-laws Client·L.the-copy .copy 𝓤 H A W) (Copies.halved 𝓤 H A W (Copies.cStruct Client·T.the-type Client·L.the-laws Client·L.the-copy)) (λ ρ. Unit) G24 1 9 10 0 (Syntax.tyRef (Syntax.named 0) Syntax.imm (Memory·T.pointee (Client·T.the-row .written))) (Row.lease (κs .0) (qs .0)) Client·L.mir Client·L.mir (Rows'.whole Client·T.the-row) (Shared.bySize 704) (λ u. u .1 .1 .1 .0) (λ x. x) Client·D.freshClient (λ x. Unit) (λ x. x) (λ x. x) (λ i o. Elements.at-mul o 704 i) Path'.refl Path'.refl (Own.told-none 𝓤 H A (G24 .slots)) (DerefMove.learns-nothing 𝓤 H A Client·T.the-row) (Reads.as-is 𝓤 H A (Rows'.sslice Client·T.the-row (Syntax.tyRef (Syntax.named 0) Syntax.imm (Memory·T.pointee (Client·T.the-row .written))) 0)) (Reads.as-is 𝓤 H A (Rows'.sc-here Row.sPtr)) (Reads.room-gone 𝓤 H A Client·L.mir) (Yields.makes-mem 𝓤 H A W (λ ρ. Unit) Client·T.the-row Path'.refl (Rows'.whole Client·T.the-row) (λ x. x) λ ρ told. Local.whole-mem 𝓤 H A W Client·T.the-row ρ) Path'.refl tt Path'.refl Path'.refl) d25
+          d26 = Typed.s-seq 𝓤 H A W 𝓣 E G24 G25 b18 b25 Δ0 (Typed.both s21) at25 (Move.t-shs-copy-out 𝓤 H A W E Client·T.the-row 𝓣 Path'.refl (Copies.cStruct Client·T.the-type Client·L.the-laws Client·L.the-copy .copy 𝓤 H A W) (Copies.halved 𝓤 H A W (Copies.cStruct Client·T.the-type Client·L.the-laws Client·L.the-copy)) (λ ρ. Unit) G24 1 9 10 0 (Syntax.tyRef (Syntax.named 0) Syntax.imm (Memory·T.pointee (Client·T.the-row .written))) (Row.lease (κs .0) (qs .0)) Client·L.mir Client·L.mir (Rows'.whole Client·T.the-row) (Shared.bySize 2240) (λ u. u .1 .1 .1 .0) (λ x. x) Client·D.freshClient (λ x. Unit) (λ x. x) (λ x. x) (λ i o. Elements.at-mul o 2240 i) Path'.refl Path'.refl (Own.told-none 𝓤 H A (G24 .slots)) (DerefMove.learns-nothing 𝓤 H A Client·T.the-row) (Reads.as-is 𝓤 H A (Rows'.sslice Client·T.the-row (Syntax.tyRef (Syntax.named 0) Syntax.imm (Memory·T.pointee (Client·T.the-row .written))) 0)) (Reads.as-is 𝓤 H A (Rows'.sc-here Row.sPtr)) (Reads.room-gone 𝓤 H A Client·L.mir) (Yields.makes-mem 𝓤 H A W (λ ρ. Unit) Client·T.the-row Path'.refl (Rows'.whole Client·T.the-row) (λ x. x) λ ρ told. Local.whole-mem 𝓤 H A W Client·T.the-row ρ) Path'.refl tt Path'.refl Path'.refl) d25
 
           d27 : Typed.Typed 𝓤 H A 𝓣 E G23 b27 Δ0 at27
           d27 = Typed.s-seq 𝓤 H A W 𝓣 E G23 G24 b17 b26 Δ0 (Typed.ask s20) at26 (Scalar.t-op2 𝓤 H A W E 𝓣 G23 Syntax.offset (Scalar.oFld 1 (List._∷_ (Syntax.field 0) List.[]) (Syntax.tyRef (Syntax.named 0) Syntax.imm (Memory·T.pointee (Client·T.the-row .written))) 0 Reads.ptrVal) (Scalar.oAt 7 (Syntax.tyInt Syntax.w64) (Row.valS (Row.sInt Syntax.w64))) 9 (Rows'.sc-here Row.sPtr) Syntax.tyPtr (Row.valS Row.sPtr) (Row.sPtr .of) (Shared.reads-sslice-ptr 𝓤 H A W Client·T.the-row (Syntax.tyRef (Syntax.named 0) Syntax.imm (Memory·T.pointee (Client·T.the-row .written))) 0 0 Path'.refl, Path'.refl) (Scalar.reads-sc 𝓤 H A W (Row.sInt Syntax.w64), Path'.refl) (Reads.room-gone 𝓤 H A Syntax.tyPtr) (Scalar.holds-sc 𝓤 H A W Row.sPtr) Path'.refl (λ u. Path'.refl) λ u. tt) d26
 
           d28 : Typed.Typed 𝓤 H A 𝓣 E G17 b28 Δ0 at28
-          d28 = Typed.s-seq 𝓤 H A W 𝓣 E G17 G23 b16 b27 Δ0 (Typed.ask s19) at27 (Scalar.t-op2 𝓤 H A W E 𝓣 G17 (Syntax.mul Syntax.unsigned) (Scalar.oAt 3 (Syntax.tyInt Syntax.w64) (Row.valS (Row.sInt Syntax.w64))) (Scalar.oInt Syntax.w64 704) 7 (Rows'.sc-here (Row.sInt Syntax.w64)) (Syntax.tyInt Syntax.w64) (Row.valS (Row.sInt Syntax.w64)) (Row.sInt Syntax.w64 .of) (Scalar.reads-sc 𝓤 H A W (Row.sInt Syntax.w64), Path'.refl) tt (Reads.room-gone 𝓤 H A (Syntax.tyInt Syntax.w64)) (Scalar.holds-sc 𝓤 H A W (Row.sInt Syntax.w64)) Path'.refl (λ u. Path'.refl) λ u. tt) d27
+          d28 = Typed.s-seq 𝓤 H A W 𝓣 E G17 G23 b16 b27 Δ0 (Typed.ask s19) at27 (Scalar.t-op2 𝓤 H A W E 𝓣 G17 (Syntax.mul Syntax.unsigned) (Scalar.oAt 3 (Syntax.tyInt Syntax.w64) (Row.valS (Row.sInt Syntax.w64))) (Scalar.oBig Syntax.w64 2240) 7 (Rows'.sc-here (Row.sInt Syntax.w64)) (Syntax.tyInt Syntax.w64) (Row.valS (Row.sInt Syntax.w64)) (Row.sInt Syntax.w64 .of) (Scalar.reads-sc 𝓤 H A W (Row.sInt Syntax.w64), Path'.refl) record { lower = record { fits = Dec'.lit< tt } } (Reads.room-gone 𝓤 H A (Syntax.tyInt Syntax.w64)) (Scalar.holds-sc 𝓤 H A W (Row.sInt Syntax.w64)) Path'.refl (λ u. Path'.refl) λ u. tt) d27
 
           d29 : Typed.Typed 𝓤 H A 𝓣 E G16 b29 Δ0 at29
           d29 = Typed.t-seq 𝓤 H A W 𝓣 E G16 G17 b15 b28 Δ0 at15 at28 d15 d28

@@ -160,7 +160,7 @@ abbrev b15 : Syntax.Body
 b15 = Syntax.cond (Syntax.copy (Syntax.place 7 List.[])) b13 b14
 
 abbrev b16 : Syntax.Body
-b16 = Syntax.assign (Syntax.place 9 List.[]) (Syntax.op2 (Syntax.mul Syntax.unsigned) (Syntax.copy (Syntax.place 3 List.[])) (Syntax.int Syntax.w64 704))
+b16 = Syntax.assign (Syntax.place 9 List.[]) (Syntax.op2 (Syntax.mul Syntax.unsigned) (Syntax.copy (Syntax.place 3 List.[])) (Syntax.intBig Syntax.w64 2240))
 
 abbrev b17 : Syntax.Body
 b17 = Syntax.assign (Syntax.place 11 List.[]) (Syntax.op2 Syntax.offset (Syntax.copy (Syntax.place 1 (List._∷_ (Syntax.field 0) List.[]))) (Syntax.copy (Syntax.place 9 List.[])))
@@ -178,7 +178,7 @@ abbrev b21 : Syntax.Body
 b21 = Syntax.call "table_calls::client_of" (List._∷_ (Syntax.copy (Syntax.place 6 List.[])) List.[]) (Syntax.place 12 List.[])
 
 abbrev b22 : Syntax.Body
-b22 = Syntax.assign (Syntax.place 8 List.[]) (Syntax.op2 (Syntax.mul Syntax.unsigned) (Syntax.copy (Syntax.place 3 List.[])) (Syntax.int Syntax.w64 704))
+b22 = Syntax.assign (Syntax.place 8 List.[]) (Syntax.op2 (Syntax.mul Syntax.unsigned) (Syntax.copy (Syntax.place 3 List.[])) (Syntax.intBig Syntax.w64 2240))
 
 abbrev b23 : Syntax.Body
 b23 = Syntax.assign (Syntax.place 13 List.[]) (Syntax.op2 Syntax.offset (Syntax.copy (Syntax.place 1 (List._∷_ (Syntax.field 0) List.[]))) (Syntax.copy (Syntax.place 8 List.[])))
@@ -542,13 +542,13 @@ module _ (claims· : Claims) where
   s20 = Scalar.n-room T19 7 Syntax.tyBool
 
   abbrev s21 : Typed.Asks T18 T25
-  s21 = Scalar.k-op2 T18 (Syntax.mul Syntax.unsigned) (Scalar.oAt 3 (Syntax.tyInt Syntax.w64) (Row.valS (Row.sInt Syntax.w64))) (Scalar.oInt Syntax.w64 704) 9 (Rows'.sc-here (Row.sInt Syntax.w64)) (Row.sInt Syntax.w64 .of)
+  s21 = Scalar.k-op2 T18 (Syntax.mul Syntax.unsigned) (Scalar.oAt 3 (Syntax.tyInt Syntax.w64) (Row.valS (Row.sInt Syntax.w64))) (Scalar.oBig Syntax.w64 2240) 9 (Rows'.sc-here (Row.sInt Syntax.w64)) (Row.sInt Syntax.w64 .of)
 
   abbrev s22 : Typed.Asks T25 T26
   s22 = Scalar.k-op2 T25 Syntax.offset (Scalar.oFld 1 (List._∷_ (Syntax.field 0) List.[]) (Syntax.tyRef (Syntax.named 0) Syntax.mut (Memory·T.pointee (Client·T.the-row .written))) 0 Reads.ptrVal) (Scalar.oAt 9 (Syntax.tyInt Syntax.w64) (Row.valS (Row.sInt Syntax.w64))) 11 (Rows'.sc-here Row.sPtr) (Row.sPtr .of)
 
   abbrev s23 : Typed.Both T26 T27
-  s23 = Move.k-sl-copy-out Client·T.the-row T26 1 11 12 0 (Syntax.tyRef (Syntax.named 0) Syntax.mut (Memory·T.pointee (Client·T.the-row .written))) Row.off (Rows'.whole Client·T.the-row) (Shared.bySize 704) (λ u. u .1 .1 .1 .0) (λ x. x) Client·D.freshClient (λ x. Unit) (λ x. x) λ x. x
+  s23 = Move.k-sl-copy-out Client·T.the-row T26 1 11 12 0 (Syntax.tyRef (Syntax.named 0) Syntax.mut (Memory·T.pointee (Client·T.the-row .written))) Row.off (Rows'.whole Client·T.the-row) (Shared.bySize 2240) (λ u. u .1 .1 .1 .0) (λ x. x) Client·D.freshClient (λ x. Unit) (λ x. x) λ x. x
 
   abbrev s24 : Typed.Mo T27 → Typed.Mo T28
   s24 = Scalar.n-room T27 9 (Syntax.tyInt Syntax.w64)
@@ -572,13 +572,13 @@ module _ (claims· : Claims) where
   s30 = Call.callB ps·4 r·4 (claims· .8) (claims· .9) T33 (record { pos = 6; st = List.[]; d = 0; at = λ x. x }, tt) 12 List.[] Client·L.mir
 
   abbrev s31 : Typed.Asks T34 T35
-  s31 = Scalar.k-op2 T34 (Syntax.mul Syntax.unsigned) (Scalar.oAt 3 (Syntax.tyInt Syntax.w64) (Row.valS (Row.sInt Syntax.w64))) (Scalar.oInt Syntax.w64 704) 8 (Rows'.sc-here (Row.sInt Syntax.w64)) (Row.sInt Syntax.w64 .of)
+  s31 = Scalar.k-op2 T34 (Syntax.mul Syntax.unsigned) (Scalar.oAt 3 (Syntax.tyInt Syntax.w64) (Row.valS (Row.sInt Syntax.w64))) (Scalar.oBig Syntax.w64 2240) 8 (Rows'.sc-here (Row.sInt Syntax.w64)) (Row.sInt Syntax.w64 .of)
 
   abbrev s32 : Typed.Asks T35 T36
   s32 = Scalar.k-op2 T35 Syntax.offset (Scalar.oFld 1 (List._∷_ (Syntax.field 0) List.[]) (Syntax.tyRef (Syntax.named 0) Syntax.mut (Memory·T.pointee (Client·T.the-row .written))) 0 Reads.ptrVal) (Scalar.oAt 8 (Syntax.tyInt Syntax.w64) (Row.valS (Row.sInt Syntax.w64))) 13 (Rows'.sc-here Row.sPtr) (Row.sPtr .of)
 
   abbrev s33 : Typed.Asks T36 T37
-  s33 = Move.k-sl-set-from Client·T.the-row T36 1 13 12 0 (Syntax.tyRef (Syntax.named 0) Syntax.mut (Memory·T.pointee (Client·T.the-row .written))) Row.off (Rows'.whole Client·T.the-row) (Shared.bySize 704) (λ u. u .1 .1 .1 .0) (λ x. x) (λ x. x) (λ x. x) λ x. x
+  s33 = Move.k-sl-set-from Client·T.the-row T36 1 13 12 0 (Syntax.tyRef (Syntax.named 0) Syntax.mut (Memory·T.pointee (Client·T.the-row .written))) Row.off (Rows'.whole Client·T.the-row) (Shared.bySize 2240) (λ u. u .1 .1 .1 .0) (λ x. x) (λ x. x) (λ x. x) λ x. x
 
   abbrev s34 : Typed.Mo T37 → Typed.Mo T38
   s34 = Scalar.n-room T37 8 (Syntax.tyInt Syntax.w64)
@@ -992,13 +992,13 @@ module _ (claims· : Claims) where
           d25 = Typed.g-pre 𝓤 H A W 𝓣 E G37 G38 b27 Δ0 (Typed.pass T37 T38 s34) at24 (Scalar.g-room 𝓤 H A W E G37 8 (Syntax.tyInt Syntax.w64) (Scalar.room-sc 𝓤 H A W (Row.sInt Syntax.w64))) d24
 
           d26 : Typed.Typed 𝓤 H A 𝓣 E G36 b28 Δ0 at26
-          d26 = Typed.s-seq 𝓤 H A W 𝓣 E G36 G37 b24 b27 Δ0 (Typed.ask s33) at25 (Move.t-sl-set-from 𝓤 H A W E Client·T.the-row 𝓣 Path'.refl (λ ρ. Unit) G36 1 13 12 0 (Syntax.tyRef (Syntax.named 0) Syntax.mut (Memory·T.pointee (Client·T.the-row .written))) (Row.lease (κs .0) (qs .0)) Client·L.mir Client·L.mir (Rows'.whole Client·T.the-row) (Shared.bySize 704) (λ u. u .1 .1 .1 .0) (λ x. x) (λ x. x) (λ x. x) (λ x. x) (λ i o. Elements.at-mul o 704 i) Path'.refl Path'.refl (Own.told-none 𝓤 H A (G36 .slots)) (Reads.as-is 𝓤 H A (Mut.mslice Client·T.the-row (Syntax.tyRef (Syntax.named 0) Syntax.mut (Memory·T.pointee (Client·T.the-row .written))) 0)) (Reads.as-is 𝓤 H A (Rows'.sc-here Row.sPtr)) (Yields.yields-copy 𝓤 H A W (λ ρ. Unit) Client·T.the-row Path'.refl (Copies.cStruct Client·T.the-type Client·L.the-laws Client·L.the-copy .copy 𝓤 H A W) (Rows'.whole Client·T.the-row) (λ x. x) (λ x. x) (λ ρ told. Local.mem-whole 𝓤 H A W Client·T.the-row ρ) λ ρ told. Local.whole-mem 𝓤 H A W Client·T.the-row ρ) Path'.refl tt Path'.refl Path'.refl) d25
+          d26 = Typed.s-seq 𝓤 H A W 𝓣 E G36 G37 b24 b27 Δ0 (Typed.ask s33) at25 (Move.t-sl-set-from 𝓤 H A W E Client·T.the-row 𝓣 Path'.refl (λ ρ. Unit) G36 1 13 12 0 (Syntax.tyRef (Syntax.named 0) Syntax.mut (Memory·T.pointee (Client·T.the-row .written))) (Row.lease (κs .0) (qs .0)) Client·L.mir Client·L.mir (Rows'.whole Client·T.the-row) (Shared.bySize 2240) (λ u. u .1 .1 .1 .0) (λ x. x) (λ x. x) (λ x. x) (λ x. x) (λ i o. Elements.at-mul o 2240 i) Path'.refl Path'.refl (Own.told-none 𝓤 H A (G36 .slots)) (Reads.as-is 𝓤 H A (Mut.mslice Client·T.the-row (Syntax.tyRef (Syntax.named 0) Syntax.mut (Memory·T.pointee (Client·T.the-row .written))) 0)) (Reads.as-is 𝓤 H A (Rows'.sc-here Row.sPtr)) (Yields.yields-copy 𝓤 H A W (λ ρ. Unit) Client·T.the-row Path'.refl (Copies.cStruct Client·T.the-type Client·L.the-laws Client·L.the-copy .copy 𝓤 H A W) (Rows'.whole Client·T.the-row) (λ x. x) (λ x. x) (λ ρ told. Local.mem-whole 𝓤 H A W Client·T.the-row ρ) λ ρ told. Local.whole-mem 𝓤 H A W Client·T.the-row ρ) Path'.refl tt Path'.refl Path'.refl) d25
 
           d27 : Typed.Typed 𝓤 H A 𝓣 E G35 b29 Δ0 at27
           d27 = Typed.s-seq 𝓤 H A W 𝓣 E G35 G36 b23 b28 Δ0 (Typed.ask s32) at26 (Scalar.t-op2 𝓤 H A W E 𝓣 G35 Syntax.offset (Scalar.oFld 1 (List._∷_ (Syntax.field 0) List.[]) (Syntax.tyRef (Syntax.named 0) Syntax.mut (Memory·T.pointee (Client·T.the-row .written))) 0 Reads.ptrVal) (Scalar.oAt 8 (Syntax.tyInt Syntax.w64) (Row.valS (Row.sInt Syntax.w64))) 13 (Rows'.sc-here Row.sPtr) Syntax.tyPtr (Row.valS Row.sPtr) (Row.sPtr .of) (Mut.reads-mslice-ptr 𝓤 H A W Client·T.the-row (Syntax.tyRef (Syntax.named 0) Syntax.mut (Memory·T.pointee (Client·T.the-row .written))) 0 0 Path'.refl, Path'.refl) (Scalar.reads-sc 𝓤 H A W (Row.sInt Syntax.w64), Path'.refl) (Reads.room-gone 𝓤 H A Syntax.tyPtr) (Scalar.holds-sc 𝓤 H A W Row.sPtr) Path'.refl (λ u. Path'.refl) λ u. tt) d26
 
           d28 : Typed.Typed 𝓤 H A 𝓣 E G34 b30 Δ0 at28
-          d28 = Typed.s-seq 𝓤 H A W 𝓣 E G34 G35 b22 b29 Δ0 (Typed.ask s31) at27 (Scalar.t-op2 𝓤 H A W E 𝓣 G34 (Syntax.mul Syntax.unsigned) (Scalar.oAt 3 (Syntax.tyInt Syntax.w64) (Row.valS (Row.sInt Syntax.w64))) (Scalar.oInt Syntax.w64 704) 8 (Rows'.sc-here (Row.sInt Syntax.w64)) (Syntax.tyInt Syntax.w64) (Row.valS (Row.sInt Syntax.w64)) (Row.sInt Syntax.w64 .of) (Scalar.reads-sc 𝓤 H A W (Row.sInt Syntax.w64), Path'.refl) tt (Reads.room-gone 𝓤 H A (Syntax.tyInt Syntax.w64)) (Scalar.holds-sc 𝓤 H A W (Row.sInt Syntax.w64)) Path'.refl (λ u. Path'.refl) λ u. tt) d27
+          d28 = Typed.s-seq 𝓤 H A W 𝓣 E G34 G35 b22 b29 Δ0 (Typed.ask s31) at27 (Scalar.t-op2 𝓤 H A W E 𝓣 G34 (Syntax.mul Syntax.unsigned) (Scalar.oAt 3 (Syntax.tyInt Syntax.w64) (Row.valS (Row.sInt Syntax.w64))) (Scalar.oBig Syntax.w64 2240) 8 (Rows'.sc-here (Row.sInt Syntax.w64)) (Syntax.tyInt Syntax.w64) (Row.valS (Row.sInt Syntax.w64)) (Row.sInt Syntax.w64 .of) (Scalar.reads-sc 𝓤 H A W (Row.sInt Syntax.w64), Path'.refl) record { lower = record { fits = Dec'.lit< tt } } (Reads.room-gone 𝓤 H A (Syntax.tyInt Syntax.w64)) (Scalar.holds-sc 𝓤 H A W (Row.sInt Syntax.w64)) Path'.refl (λ u. Path'.refl) λ u. tt) d27
 
           d29 : Typed.Typed 𝓤 H A 𝓣 E G33 b31 Δ0 at29
           d29 = Typed.s-seq 𝓤 H A W 𝓣 E G33 G34 b21 b30 Δ0 (Typed.both s30) at28 (Plain.t-call-plain 𝓤 H A W 𝓣 0 ps·4 r·4 (claims· .8) (claims· .9) "table_calls::client_of" (known .4) E (λ pos β. β) G33 (record { pos = 6; st = List.[]; d = 0; at = λ x. x }, tt) 12 List.[] (Call.sub-id 𝓤 H A W (G33 .slots)) ((Yields.yields-copy 𝓤 H A W (λ ρ. Unit) (Declared'.row Step.the-type) Path'.refl (Copies.cStruct Step.the-type Laws'.the-laws Laws'.the-copy .copy 𝓤 H A W) (Rows'.whole (Declared'.row Step.the-type)) (λ x. x) (λ x. x) (λ ρ told. Local.mem-whole 𝓤 H A W (Declared'.row Step.the-type) ρ) λ ρ told. Local.whole-mem 𝓤 H A W (Declared'.row Step.the-type) ρ, Path'.refl), tt) (Reads.room-gone 𝓤 H A Client·L.mir) tt Path'.refl) d28
@@ -1022,13 +1022,13 @@ module _ (claims· : Claims) where
           d35 = Typed.g-pre 𝓤 H A W 𝓣 E G27 G28 b33 Δ0 (Typed.pass T27 T28 s24) at34 (Scalar.g-room 𝓤 H A W E G27 9 (Syntax.tyInt Syntax.w64) (Scalar.room-sc 𝓤 H A W (Row.sInt Syntax.w64))) d34
 
           d36 : Typed.Typed 𝓤 H A 𝓣 E G26 b34 Δ0 at36
-          d36 = Typed.s-seq 𝓤 H A W 𝓣 E G26 G27 b18 b33 Δ0 (Typed.both s23) at35 (Move.t-sl-copy-out 𝓤 H A W E Client·T.the-row 𝓣 Path'.refl (Copies.cStruct Client·T.the-type Client·L.the-laws Client·L.the-copy .copy 𝓤 H A W) (λ ρ. Unit) G26 1 11 12 0 (Syntax.tyRef (Syntax.named 0) Syntax.mut (Memory·T.pointee (Client·T.the-row .written))) (Row.lease (κs .0) (qs .0)) Client·L.mir Client·L.mir (Rows'.whole Client·T.the-row) (Shared.bySize 704) (λ u. u .1 .1 .1 .0) (λ x. x) Client·D.freshClient (λ x. Unit) (λ x. x) (λ x. x) (λ i o. Elements.at-mul o 704 i) Path'.refl Path'.refl (Own.told-none 𝓤 H A (G26 .slots)) (DerefMove.learns-nothing 𝓤 H A Client·T.the-row) (Reads.as-is 𝓤 H A (Mut.mslice Client·T.the-row (Syntax.tyRef (Syntax.named 0) Syntax.mut (Memory·T.pointee (Client·T.the-row .written))) 0)) (Reads.as-is 𝓤 H A (Rows'.sc-here Row.sPtr)) (Reads.room-gone 𝓤 H A Client·L.mir) (Yields.makes-mem 𝓤 H A W (λ ρ. Unit) Client·T.the-row Path'.refl (Rows'.whole Client·T.the-row) (λ x. x) λ ρ told. Local.whole-mem 𝓤 H A W Client·T.the-row ρ) Path'.refl tt Path'.refl Path'.refl) d35
+          d36 = Typed.s-seq 𝓤 H A W 𝓣 E G26 G27 b18 b33 Δ0 (Typed.both s23) at35 (Move.t-sl-copy-out 𝓤 H A W E Client·T.the-row 𝓣 Path'.refl (Copies.cStruct Client·T.the-type Client·L.the-laws Client·L.the-copy .copy 𝓤 H A W) (λ ρ. Unit) G26 1 11 12 0 (Syntax.tyRef (Syntax.named 0) Syntax.mut (Memory·T.pointee (Client·T.the-row .written))) (Row.lease (κs .0) (qs .0)) Client·L.mir Client·L.mir (Rows'.whole Client·T.the-row) (Shared.bySize 2240) (λ u. u .1 .1 .1 .0) (λ x. x) Client·D.freshClient (λ x. Unit) (λ x. x) (λ x. x) (λ i o. Elements.at-mul o 2240 i) Path'.refl Path'.refl (Own.told-none 𝓤 H A (G26 .slots)) (DerefMove.learns-nothing 𝓤 H A Client·T.the-row) (Reads.as-is 𝓤 H A (Mut.mslice Client·T.the-row (Syntax.tyRef (Syntax.named 0) Syntax.mut (Memory·T.pointee (Client·T.the-row .written))) 0)) (Reads.as-is 𝓤 H A (Rows'.sc-here Row.sPtr)) (Reads.room-gone 𝓤 H A Client·L.mir) (Yields.makes-mem 𝓤 H A W (λ ρ. Unit) Client·T.the-row Path'.refl (Rows'.whole Client·T.the-row) (λ x. x) λ ρ told. Local.whole-mem 𝓤 H A W Client·T.the-row ρ) Path'.refl tt Path'.refl Path'.refl) d35
 
           d37 : Typed.Typed 𝓤 H A 𝓣 E G25 b35 Δ0 at37
           d37 = Typed.s-seq 𝓤 H A W 𝓣 E G25 G26 b17 b34 Δ0 (Typed.ask s22) at36 (Scalar.t-op2 𝓤 H A W E 𝓣 G25 Syntax.offset (Scalar.oFld 1 (List._∷_ (Syntax.field 0) List.[]) (Syntax.tyRef (Syntax.named 0) Syntax.mut (Memory·T.pointee (Client·T.the-row .written))) 0 Reads.ptrVal) (Scalar.oAt 9 (Syntax.tyInt Syntax.w64) (Row.valS (Row.sInt Syntax.w64))) 11 (Rows'.sc-here Row.sPtr) Syntax.tyPtr (Row.valS Row.sPtr) (Row.sPtr .of) (Mut.reads-mslice-ptr 𝓤 H A W Client·T.the-row (Syntax.tyRef (Syntax.named 0) Syntax.mut (Memory·T.pointee (Client·T.the-row .written))) 0 0 Path'.refl, Path'.refl) (Scalar.reads-sc 𝓤 H A W (Row.sInt Syntax.w64), Path'.refl) (Reads.room-gone 𝓤 H A Syntax.tyPtr) (Scalar.holds-sc 𝓤 H A W Row.sPtr) Path'.refl (λ u. Path'.refl) λ u. tt) d36
 
           d38 : Typed.Typed 𝓤 H A 𝓣 E G18 b36 Δ0 at38
-          d38 = Typed.s-seq 𝓤 H A W 𝓣 E G18 G25 b16 b35 Δ0 (Typed.ask s21) at37 (Scalar.t-op2 𝓤 H A W E 𝓣 G18 (Syntax.mul Syntax.unsigned) (Scalar.oAt 3 (Syntax.tyInt Syntax.w64) (Row.valS (Row.sInt Syntax.w64))) (Scalar.oInt Syntax.w64 704) 9 (Rows'.sc-here (Row.sInt Syntax.w64)) (Syntax.tyInt Syntax.w64) (Row.valS (Row.sInt Syntax.w64)) (Row.sInt Syntax.w64 .of) (Scalar.reads-sc 𝓤 H A W (Row.sInt Syntax.w64), Path'.refl) tt (Reads.room-gone 𝓤 H A (Syntax.tyInt Syntax.w64)) (Scalar.holds-sc 𝓤 H A W (Row.sInt Syntax.w64)) Path'.refl (λ u. Path'.refl) λ u. tt) d37
+          d38 = Typed.s-seq 𝓤 H A W 𝓣 E G18 G25 b16 b35 Δ0 (Typed.ask s21) at37 (Scalar.t-op2 𝓤 H A W E 𝓣 G18 (Syntax.mul Syntax.unsigned) (Scalar.oAt 3 (Syntax.tyInt Syntax.w64) (Row.valS (Row.sInt Syntax.w64))) (Scalar.oBig Syntax.w64 2240) 9 (Rows'.sc-here (Row.sInt Syntax.w64)) (Syntax.tyInt Syntax.w64) (Row.valS (Row.sInt Syntax.w64)) (Row.sInt Syntax.w64 .of) (Scalar.reads-sc 𝓤 H A W (Row.sInt Syntax.w64), Path'.refl) record { lower = record { fits = Dec'.lit< tt } } (Reads.room-gone 𝓤 H A (Syntax.tyInt Syntax.w64)) (Scalar.holds-sc 𝓤 H A W (Row.sInt Syntax.w64)) Path'.refl (λ u. Path'.refl) λ u. tt) d37
 
           d39 : Typed.Typed 𝓤 H A 𝓣 E G17 b37 Δ0 at39
           d39 = Typed.t-seq 𝓤 H A W 𝓣 E G17 G18 b15 b36 Δ0 at17 at38 d17 d38

@@ -166,7 +166,7 @@ abbrev b15 : Syntax.Body
 b15 = Syntax.cond (Syntax.copy (Syntax.place 11 List.[])) b13 b14
 
 abbrev b16 : Syntax.Body
-b16 = Syntax.assign (Syntax.place 13 List.[]) (Syntax.op2 (Syntax.mul Syntax.unsigned) (Syntax.copy (Syntax.place 3 List.[])) (Syntax.int Syntax.w64 704))
+b16 = Syntax.assign (Syntax.place 13 List.[]) (Syntax.op2 (Syntax.mul Syntax.unsigned) (Syntax.copy (Syntax.place 3 List.[])) (Syntax.intBig Syntax.w64 2240))
 
 abbrev b17 : Syntax.Body
 b17 = Syntax.assign (Syntax.place 15 List.[]) (Syntax.op2 Syntax.offset (Syntax.copy (Syntax.place 1 (List._∷_ (Syntax.field 0) List.[]))) (Syntax.copy (Syntax.place 13 List.[])))
@@ -178,10 +178,10 @@ abbrev b19 : Syntax.Body
 b19 = Syntax.assign (Syntax.place 7 List.[]) (Syntax.rvOpd (Syntax.copy (Syntax.place 16 List.[])))
 
 abbrev b20 : Syntax.Body
-b20 = Syntax.assign (Syntax.place 8 List.[]) (Syntax.op2 (Syntax.mul Syntax.unsigned) (Syntax.copy (Syntax.place 3 List.[])) (Syntax.intBig Syntax.w64 16384))
+b20 = Syntax.assign (Syntax.place 8 List.[]) (Syntax.op2 (Syntax.mul Syntax.unsigned) (Syntax.copy (Syntax.place 3 List.[])) (Syntax.intBig Syntax.w64 32768))
 
 abbrev b21 : Syntax.Body
-b21 = Syntax.assign (Syntax.place 9 List.[]) (Syntax.op2 (Syntax.add Syntax.unsigned) (Syntax.copy (Syntax.place 8 List.[])) (Syntax.intBig Syntax.w64 16384))
+b21 = Syntax.assign (Syntax.place 9 List.[]) (Syntax.op2 (Syntax.add Syntax.unsigned) (Syntax.copy (Syntax.place 8 List.[])) (Syntax.intBig Syntax.w64 32768))
 
 abbrev b22 : Syntax.Body
 b22 = Syntax.assign (Syntax.place 17 List.[]) (Syntax.op2 Syntax.offset (Syntax.copy (Syntax.place 2 (List._∷_ (Syntax.field 0) List.[]))) (Syntax.copy (Syntax.place 8 List.[])))
@@ -208,7 +208,7 @@ abbrev b29 : Syntax.Body
 b29 = Syntax.call "table_calls::client_of" (List._∷_ (Syntax.copy (Syntax.place 10 List.[])) List.[]) (Syntax.place 16 List.[])
 
 abbrev b30 : Syntax.Body
-b30 = Syntax.assign (Syntax.place 12 List.[]) (Syntax.op2 (Syntax.mul Syntax.unsigned) (Syntax.copy (Syntax.place 3 List.[])) (Syntax.int Syntax.w64 704))
+b30 = Syntax.assign (Syntax.place 12 List.[]) (Syntax.op2 (Syntax.mul Syntax.unsigned) (Syntax.copy (Syntax.place 3 List.[])) (Syntax.intBig Syntax.w64 2240))
 
 abbrev b31 : Syntax.Body
 b31 = Syntax.assign (Syntax.place 22 List.[]) (Syntax.op2 Syntax.offset (Syntax.copy (Syntax.place 1 (List._∷_ (Syntax.field 0) List.[]))) (Syntax.copy (Syntax.place 12 List.[])))
@@ -710,13 +710,13 @@ module _ (claims· : Claims) where
   s22 = Scalar.n-room T21 11 Syntax.tyBool
 
   abbrev s23 : Typed.Asks T20 T27
-  s23 = Scalar.k-op2 T20 (Syntax.mul Syntax.unsigned) (Scalar.oAt 3 (Syntax.tyInt Syntax.w64) (Row.valS (Row.sInt Syntax.w64))) (Scalar.oInt Syntax.w64 704) 13 (Rows'.sc-here (Row.sInt Syntax.w64)) (Row.sInt Syntax.w64 .of)
+  s23 = Scalar.k-op2 T20 (Syntax.mul Syntax.unsigned) (Scalar.oAt 3 (Syntax.tyInt Syntax.w64) (Row.valS (Row.sInt Syntax.w64))) (Scalar.oBig Syntax.w64 2240) 13 (Rows'.sc-here (Row.sInt Syntax.w64)) (Row.sInt Syntax.w64 .of)
 
   abbrev s24 : Typed.Asks T27 T28
   s24 = Scalar.k-op2 T27 Syntax.offset (Scalar.oFld 1 (List._∷_ (Syntax.field 0) List.[]) (Syntax.tyRef (Syntax.named 0) Syntax.mut (Memory·T.pointee (Client·T.the-row .written))) 0 Reads.ptrVal) (Scalar.oAt 13 (Syntax.tyInt Syntax.w64) (Row.valS (Row.sInt Syntax.w64))) 15 (Rows'.sc-here Row.sPtr) (Row.sPtr .of)
 
   abbrev s25 : Typed.Both T28 T29
-  s25 = Move.k-sl-copy-out Client·T.the-row T28 1 15 16 0 (Syntax.tyRef (Syntax.named 0) Syntax.mut (Memory·T.pointee (Client·T.the-row .written))) Row.off (Rows'.whole Client·T.the-row) (Shared.bySize 704) (λ u. u .1 .1 .1 .0) (λ x. x) Client·D.freshClient (λ x. Unit) (λ x. x) λ x. x
+  s25 = Move.k-sl-copy-out Client·T.the-row T28 1 15 16 0 (Syntax.tyRef (Syntax.named 0) Syntax.mut (Memory·T.pointee (Client·T.the-row .written))) Row.off (Rows'.whole Client·T.the-row) (Shared.bySize 2240) (λ u. u .1 .1 .1 .0) (λ x. x) Client·D.freshClient (λ x. Unit) (λ x. x) λ x. x
 
   abbrev s26 : Typed.Mo T29 → Typed.Mo T30
   s26 = Scalar.n-room T29 13 (Syntax.tyInt Syntax.w64)
@@ -731,10 +731,10 @@ module _ (claims· : Claims) where
   s29 = Scalar.n-room T32 16 Client·L.mir
 
   abbrev s30 : Typed.Asks T33 T34
-  s30 = Scalar.k-op2 T33 (Syntax.mul Syntax.unsigned) (Scalar.oAt 3 (Syntax.tyInt Syntax.w64) (Row.valS (Row.sInt Syntax.w64))) (Scalar.oBig Syntax.w64 16384) 8 (Rows'.sc-here (Row.sInt Syntax.w64)) (Row.sInt Syntax.w64 .of)
+  s30 = Scalar.k-op2 T33 (Syntax.mul Syntax.unsigned) (Scalar.oAt 3 (Syntax.tyInt Syntax.w64) (Row.valS (Row.sInt Syntax.w64))) (Scalar.oBig Syntax.w64 32768) 8 (Rows'.sc-here (Row.sInt Syntax.w64)) (Row.sInt Syntax.w64 .of)
 
   abbrev s31 : Typed.Asks T34 T35
-  s31 = Scalar.k-op2 T34 (Syntax.add Syntax.unsigned) (Scalar.oAt 8 (Syntax.tyInt Syntax.w64) (Row.valS (Row.sInt Syntax.w64))) (Scalar.oBig Syntax.w64 16384) 9 (Rows'.sc-here (Row.sInt Syntax.w64)) (Row.sInt Syntax.w64 .of)
+  s31 = Scalar.k-op2 T34 (Syntax.add Syntax.unsigned) (Scalar.oAt 8 (Syntax.tyInt Syntax.w64) (Row.valS (Row.sInt Syntax.w64))) (Scalar.oBig Syntax.w64 32768) 9 (Rows'.sc-here (Row.sInt Syntax.w64)) (Row.sInt Syntax.w64 .of)
 
   abbrev s32 : Typed.Asks T35 T36
   s32 = Scalar.k-op2 T35 Syntax.offset (Scalar.oFld 2 (List._∷_ (Syntax.field 0) List.[]) (Syntax.tyRef (Syntax.named 1) Syntax.mut (Syntax.tyInt Syntax.w8)) 0 Reads.ptrVal) (Scalar.oAt 8 (Syntax.tyInt Syntax.w64) (Row.valS (Row.sInt Syntax.w64))) 17 (Rows'.sc-here Row.sPtr) (Row.sPtr .of)
@@ -785,13 +785,13 @@ module _ (claims· : Claims) where
   s53 = Call.callB ps·4 r·4 (claims· .8) (claims· .9) T55 (record { pos = 10; st = List.[]; d = 0; at = λ x. x }, tt) 16 List.[] Client·L.mir
 
   abbrev s54 : Typed.Asks T57 T58
-  s54 = Scalar.k-op2 T57 (Syntax.mul Syntax.unsigned) (Scalar.oAt 3 (Syntax.tyInt Syntax.w64) (Row.valS (Row.sInt Syntax.w64))) (Scalar.oInt Syntax.w64 704) 12 (Rows'.sc-here (Row.sInt Syntax.w64)) (Row.sInt Syntax.w64 .of)
+  s54 = Scalar.k-op2 T57 (Syntax.mul Syntax.unsigned) (Scalar.oAt 3 (Syntax.tyInt Syntax.w64) (Row.valS (Row.sInt Syntax.w64))) (Scalar.oBig Syntax.w64 2240) 12 (Rows'.sc-here (Row.sInt Syntax.w64)) (Row.sInt Syntax.w64 .of)
 
   abbrev s55 : Typed.Asks T58 T59
   s55 = Scalar.k-op2 T58 Syntax.offset (Scalar.oFld 1 (List._∷_ (Syntax.field 0) List.[]) (Syntax.tyRef (Syntax.named 0) Syntax.mut (Memory·T.pointee (Client·T.the-row .written))) 0 Reads.ptrVal) (Scalar.oAt 12 (Syntax.tyInt Syntax.w64) (Row.valS (Row.sInt Syntax.w64))) 22 (Rows'.sc-here Row.sPtr) (Row.sPtr .of)
 
   abbrev s56 : Typed.Asks T59 T60
-  s56 = Move.k-sl-set-from Client·T.the-row T59 1 22 16 0 (Syntax.tyRef (Syntax.named 0) Syntax.mut (Memory·T.pointee (Client·T.the-row .written))) Row.off (Rows'.whole Client·T.the-row) (Shared.bySize 704) (λ u. u .1 .1 .1 .0) (λ x. x) (λ x. x) (λ x. x) λ x. x
+  s56 = Move.k-sl-set-from Client·T.the-row T59 1 22 16 0 (Syntax.tyRef (Syntax.named 0) Syntax.mut (Memory·T.pointee (Client·T.the-row .written))) Row.off (Rows'.whole Client·T.the-row) (Shared.bySize 2240) (λ u. u .1 .1 .1 .0) (λ x. x) (λ x. x) (λ x. x) λ x. x
 
   abbrev s57 : Typed.Mo T60 → Typed.Mo T61
   s57 = Scalar.n-room T60 12 (Syntax.tyInt Syntax.w64)
@@ -1376,13 +1376,13 @@ module _ (claims· : Claims) where
           d26 = Typed.g-pre 𝓤 H A W 𝓣 E G60 G61 b35 Δ0 (Typed.pass T60 T61 s57) at25 (Scalar.g-room 𝓤 H A W E G60 12 (Syntax.tyInt Syntax.w64) (Scalar.room-sc 𝓤 H A W (Row.sInt Syntax.w64))) d25
 
           d27 : Typed.Typed 𝓤 H A 𝓣 E G59 b36 Δ0 at27
-          d27 = Typed.s-seq 𝓤 H A W 𝓣 E G59 G60 b32 b35 Δ0 (Typed.ask s56) at26 (Move.t-sl-set-from 𝓤 H A W E Client·T.the-row 𝓣 Path'.refl (λ ρ. Unit) G59 1 22 16 0 (Syntax.tyRef (Syntax.named 0) Syntax.mut (Memory·T.pointee (Client·T.the-row .written))) (Row.lease (κs .0) (qs .0)) Client·L.mir Client·L.mir (Rows'.whole Client·T.the-row) (Shared.bySize 704) (λ u. u .1 .1 .1 .0) (λ x. x) (λ x. x) (λ x. x) (λ x. x) (λ i o. Elements.at-mul o 704 i) Path'.refl Path'.refl (Own.told-none 𝓤 H A (G59 .slots)) (Reads.as-is 𝓤 H A (Mut.mslice Client·T.the-row (Syntax.tyRef (Syntax.named 0) Syntax.mut (Memory·T.pointee (Client·T.the-row .written))) 0)) (Reads.as-is 𝓤 H A (Rows'.sc-here Row.sPtr)) (Yields.yields-copy 𝓤 H A W (λ ρ. Unit) Client·T.the-row Path'.refl (Copies.cStruct Client·T.the-type Client·L.the-laws Client·L.the-copy .copy 𝓤 H A W) (Rows'.whole Client·T.the-row) (λ x. x) (λ x. x) (λ ρ told. Local.mem-whole 𝓤 H A W Client·T.the-row ρ) λ ρ told. Local.whole-mem 𝓤 H A W Client·T.the-row ρ) Path'.refl tt Path'.refl Path'.refl) d26
+          d27 = Typed.s-seq 𝓤 H A W 𝓣 E G59 G60 b32 b35 Δ0 (Typed.ask s56) at26 (Move.t-sl-set-from 𝓤 H A W E Client·T.the-row 𝓣 Path'.refl (λ ρ. Unit) G59 1 22 16 0 (Syntax.tyRef (Syntax.named 0) Syntax.mut (Memory·T.pointee (Client·T.the-row .written))) (Row.lease (κs .0) (qs .0)) Client·L.mir Client·L.mir (Rows'.whole Client·T.the-row) (Shared.bySize 2240) (λ u. u .1 .1 .1 .0) (λ x. x) (λ x. x) (λ x. x) (λ x. x) (λ i o. Elements.at-mul o 2240 i) Path'.refl Path'.refl (Own.told-none 𝓤 H A (G59 .slots)) (Reads.as-is 𝓤 H A (Mut.mslice Client·T.the-row (Syntax.tyRef (Syntax.named 0) Syntax.mut (Memory·T.pointee (Client·T.the-row .written))) 0)) (Reads.as-is 𝓤 H A (Rows'.sc-here Row.sPtr)) (Yields.yields-copy 𝓤 H A W (λ ρ. Unit) Client·T.the-row Path'.refl (Copies.cStruct Client·T.the-type Client·L.the-laws Client·L.the-copy .copy 𝓤 H A W) (Rows'.whole Client·T.the-row) (λ x. x) (λ x. x) (λ ρ told. Local.mem-whole 𝓤 H A W Client·T.the-row ρ) λ ρ told. Local.whole-mem 𝓤 H A W Client·T.the-row ρ) Path'.refl tt Path'.refl Path'.refl) d26
 
           d28 : Typed.Typed 𝓤 H A 𝓣 E G58 b37 Δ0 at28
           d28 = Typed.s-seq 𝓤 H A W 𝓣 E G58 G59 b31 b36 Δ0 (Typed.ask s55) at27 (Scalar.t-op2 𝓤 H A W E 𝓣 G58 Syntax.offset (Scalar.oFld 1 (List._∷_ (Syntax.field 0) List.[]) (Syntax.tyRef (Syntax.named 0) Syntax.mut (Memory·T.pointee (Client·T.the-row .written))) 0 Reads.ptrVal) (Scalar.oAt 12 (Syntax.tyInt Syntax.w64) (Row.valS (Row.sInt Syntax.w64))) 22 (Rows'.sc-here Row.sPtr) Syntax.tyPtr (Row.valS Row.sPtr) (Row.sPtr .of) (Mut.reads-mslice-ptr 𝓤 H A W Client·T.the-row (Syntax.tyRef (Syntax.named 0) Syntax.mut (Memory·T.pointee (Client·T.the-row .written))) 0 0 Path'.refl, Path'.refl) (Scalar.reads-sc 𝓤 H A W (Row.sInt Syntax.w64), Path'.refl) (Reads.room-gone 𝓤 H A Syntax.tyPtr) (Scalar.holds-sc 𝓤 H A W Row.sPtr) Path'.refl (λ u. Path'.refl) λ u. tt) d27
 
           d29 : Typed.Typed 𝓤 H A 𝓣 E G57 b38 Δ0 at29
-          d29 = Typed.s-seq 𝓤 H A W 𝓣 E G57 G58 b30 b37 Δ0 (Typed.ask s54) at28 (Scalar.t-op2 𝓤 H A W E 𝓣 G57 (Syntax.mul Syntax.unsigned) (Scalar.oAt 3 (Syntax.tyInt Syntax.w64) (Row.valS (Row.sInt Syntax.w64))) (Scalar.oInt Syntax.w64 704) 12 (Rows'.sc-here (Row.sInt Syntax.w64)) (Syntax.tyInt Syntax.w64) (Row.valS (Row.sInt Syntax.w64)) (Row.sInt Syntax.w64 .of) (Scalar.reads-sc 𝓤 H A W (Row.sInt Syntax.w64), Path'.refl) tt (Reads.room-gone 𝓤 H A (Syntax.tyInt Syntax.w64)) (Scalar.holds-sc 𝓤 H A W (Row.sInt Syntax.w64)) Path'.refl (λ u. Path'.refl) λ u. tt) d28
+          d29 = Typed.s-seq 𝓤 H A W 𝓣 E G57 G58 b30 b37 Δ0 (Typed.ask s54) at28 (Scalar.t-op2 𝓤 H A W E 𝓣 G57 (Syntax.mul Syntax.unsigned) (Scalar.oAt 3 (Syntax.tyInt Syntax.w64) (Row.valS (Row.sInt Syntax.w64))) (Scalar.oBig Syntax.w64 2240) 12 (Rows'.sc-here (Row.sInt Syntax.w64)) (Syntax.tyInt Syntax.w64) (Row.valS (Row.sInt Syntax.w64)) (Row.sInt Syntax.w64 .of) (Scalar.reads-sc 𝓤 H A W (Row.sInt Syntax.w64), Path'.refl) record { lower = record { fits = Dec'.lit< tt } } (Reads.room-gone 𝓤 H A (Syntax.tyInt Syntax.w64)) (Scalar.holds-sc 𝓤 H A W (Row.sInt Syntax.w64)) Path'.refl (λ u. Path'.refl) λ u. tt) d28
 
           d30 : Typed.Typed 𝓤 H A 𝓣 E G56 b39 Δ0 at30
           d30 = Typed.s-seq 𝓤 H A W 𝓣 E G56 G57 b29 b38 Δ0 (Typed.both s53) at29 (Plain.t-call-plain 𝓤 H A W 𝓣 0 ps·4 r·4 (claims· .8) (claims· .9) "table_calls::client_of" (known .4) E (λ pos β. β) G56 (record { pos = 10; st = List.[]; d = 0; at = λ x. x }, tt) 16 List.[] (Call.sub-id 𝓤 H A W (G56 .slots)) ((Yields.yields-copy 𝓤 H A W (λ ρ. Unit) (Declared'.row Step.the-type) Path'.refl (Copies.cStruct Step.the-type Laws''.the-laws Laws''.the-copy .copy 𝓤 H A W) (Rows'.whole (Declared'.row Step.the-type)) (λ x. x) (λ x. x) (λ ρ told. Local.mem-whole 𝓤 H A W (Declared'.row Step.the-type) ρ) λ ρ told. Local.whole-mem 𝓤 H A W (Declared'.row Step.the-type) ρ, Path'.refl), tt) (Reads.room-gone 𝓤 H A Client·L.mir) tt Path'.refl) d29
@@ -1451,10 +1451,10 @@ module _ (claims· : Claims) where
           d51 = Typed.s-seq 𝓤 H A W 𝓣 E G35 G36 b22 b45 Δ0 (Typed.ask s32) at50 (Scalar.t-op2 𝓤 H A W E 𝓣 G35 Syntax.offset (Scalar.oFld 2 (List._∷_ (Syntax.field 0) List.[]) (Syntax.tyRef (Syntax.named 1) Syntax.mut (Syntax.tyInt Syntax.w8)) 0 Reads.ptrVal) (Scalar.oAt 8 (Syntax.tyInt Syntax.w64) (Row.valS (Row.sInt Syntax.w64))) 17 (Rows'.sc-here Row.sPtr) Syntax.tyPtr (Row.valS Row.sPtr) (Row.sPtr .of) (Mut.reads-mslice-ptr 𝓤 H A W (Referent.rtF (Referent.fInt Syntax.w8)) (Syntax.tyRef (Syntax.named 1) Syntax.mut (Syntax.tyInt Syntax.w8)) 1 0 Path'.refl, Path'.refl) (Scalar.reads-sc 𝓤 H A W (Row.sInt Syntax.w64), Path'.refl) (Reads.room-gone 𝓤 H A Syntax.tyPtr) (Scalar.holds-sc 𝓤 H A W Row.sPtr) Path'.refl (λ u. Path'.refl) λ u. tt) d50
 
           d52 : Typed.Typed 𝓤 H A 𝓣 E G34 b47 Δ0 at52
-          d52 = Typed.s-seq 𝓤 H A W 𝓣 E G34 G35 b21 b46 Δ0 (Typed.ask s31) at51 (Scalar.t-op2 𝓤 H A W E 𝓣 G34 (Syntax.add Syntax.unsigned) (Scalar.oAt 8 (Syntax.tyInt Syntax.w64) (Row.valS (Row.sInt Syntax.w64))) (Scalar.oBig Syntax.w64 16384) 9 (Rows'.sc-here (Row.sInt Syntax.w64)) (Syntax.tyInt Syntax.w64) (Row.valS (Row.sInt Syntax.w64)) (Row.sInt Syntax.w64 .of) (Scalar.reads-sc 𝓤 H A W (Row.sInt Syntax.w64), Path'.refl) record { lower = record { fits = Dec'.lit< tt } } (Reads.room-gone 𝓤 H A (Syntax.tyInt Syntax.w64)) (Scalar.holds-sc 𝓤 H A W (Row.sInt Syntax.w64)) Path'.refl (λ u. Path'.refl) λ u. tt) d51
+          d52 = Typed.s-seq 𝓤 H A W 𝓣 E G34 G35 b21 b46 Δ0 (Typed.ask s31) at51 (Scalar.t-op2 𝓤 H A W E 𝓣 G34 (Syntax.add Syntax.unsigned) (Scalar.oAt 8 (Syntax.tyInt Syntax.w64) (Row.valS (Row.sInt Syntax.w64))) (Scalar.oBig Syntax.w64 32768) 9 (Rows'.sc-here (Row.sInt Syntax.w64)) (Syntax.tyInt Syntax.w64) (Row.valS (Row.sInt Syntax.w64)) (Row.sInt Syntax.w64 .of) (Scalar.reads-sc 𝓤 H A W (Row.sInt Syntax.w64), Path'.refl) record { lower = record { fits = Dec'.lit< tt } } (Reads.room-gone 𝓤 H A (Syntax.tyInt Syntax.w64)) (Scalar.holds-sc 𝓤 H A W (Row.sInt Syntax.w64)) Path'.refl (λ u. Path'.refl) λ u. tt) d51
 
           d53 : Typed.Typed 𝓤 H A 𝓣 E G33 b48 Δ0 at53
-          d53 = Typed.s-seq 𝓤 H A W 𝓣 E G33 G34 b20 b47 Δ0 (Typed.ask s30) at52 (Scalar.t-op2 𝓤 H A W E 𝓣 G33 (Syntax.mul Syntax.unsigned) (Scalar.oAt 3 (Syntax.tyInt Syntax.w64) (Row.valS (Row.sInt Syntax.w64))) (Scalar.oBig Syntax.w64 16384) 8 (Rows'.sc-here (Row.sInt Syntax.w64)) (Syntax.tyInt Syntax.w64) (Row.valS (Row.sInt Syntax.w64)) (Row.sInt Syntax.w64 .of) (Scalar.reads-sc 𝓤 H A W (Row.sInt Syntax.w64), Path'.refl) record { lower = record { fits = Dec'.lit< tt } } (Reads.room-gone 𝓤 H A (Syntax.tyInt Syntax.w64)) (Scalar.holds-sc 𝓤 H A W (Row.sInt Syntax.w64)) Path'.refl (λ u. Path'.refl) λ u. tt) d52
+          d53 = Typed.s-seq 𝓤 H A W 𝓣 E G33 G34 b20 b47 Δ0 (Typed.ask s30) at52 (Scalar.t-op2 𝓤 H A W E 𝓣 G33 (Syntax.mul Syntax.unsigned) (Scalar.oAt 3 (Syntax.tyInt Syntax.w64) (Row.valS (Row.sInt Syntax.w64))) (Scalar.oBig Syntax.w64 32768) 8 (Rows'.sc-here (Row.sInt Syntax.w64)) (Syntax.tyInt Syntax.w64) (Row.valS (Row.sInt Syntax.w64)) (Row.sInt Syntax.w64 .of) (Scalar.reads-sc 𝓤 H A W (Row.sInt Syntax.w64), Path'.refl) record { lower = record { fits = Dec'.lit< tt } } (Reads.room-gone 𝓤 H A (Syntax.tyInt Syntax.w64)) (Scalar.holds-sc 𝓤 H A W (Row.sInt Syntax.w64)) Path'.refl (λ u. Path'.refl) λ u. tt) d52
 
           d54 : Typed.Typed 𝓤 H A 𝓣 E G32 b48 Δ0 at54
           d54 = Typed.g-pre 𝓤 H A W 𝓣 E G32 G33 b48 Δ0 (Typed.pass T32 T33 s29) at53 (Scalar.g-room 𝓤 H A W E G32 16 Client·L.mir (Local.room-whole 𝓤 H A W Client·T.the-row Client·L.mir Path'.refl)) d53
@@ -1469,13 +1469,13 @@ module _ (claims· : Claims) where
           d57 = Typed.g-pre 𝓤 H A W 𝓣 E G29 G30 b49 Δ0 (Typed.pass T29 T30 s26) at56 (Scalar.g-room 𝓤 H A W E G29 13 (Syntax.tyInt Syntax.w64) (Scalar.room-sc 𝓤 H A W (Row.sInt Syntax.w64))) d56
 
           d58 : Typed.Typed 𝓤 H A 𝓣 E G28 b50 Δ0 at58
-          d58 = Typed.s-seq 𝓤 H A W 𝓣 E G28 G29 b18 b49 Δ0 (Typed.both s25) at57 (Move.t-sl-copy-out 𝓤 H A W E Client·T.the-row 𝓣 Path'.refl (Copies.cStruct Client·T.the-type Client·L.the-laws Client·L.the-copy .copy 𝓤 H A W) (λ ρ. Unit) G28 1 15 16 0 (Syntax.tyRef (Syntax.named 0) Syntax.mut (Memory·T.pointee (Client·T.the-row .written))) (Row.lease (κs .0) (qs .0)) Client·L.mir Client·L.mir (Rows'.whole Client·T.the-row) (Shared.bySize 704) (λ u. u .1 .1 .1 .0) (λ x. x) Client·D.freshClient (λ x. Unit) (λ x. x) (λ x. x) (λ i o. Elements.at-mul o 704 i) Path'.refl Path'.refl (Own.told-none 𝓤 H A (G28 .slots)) (DerefMove.learns-nothing 𝓤 H A Client·T.the-row) (Reads.as-is 𝓤 H A (Mut.mslice Client·T.the-row (Syntax.tyRef (Syntax.named 0) Syntax.mut (Memory·T.pointee (Client·T.the-row .written))) 0)) (Reads.as-is 𝓤 H A (Rows'.sc-here Row.sPtr)) (Reads.room-gone 𝓤 H A Client·L.mir) (Yields.makes-mem 𝓤 H A W (λ ρ. Unit) Client·T.the-row Path'.refl (Rows'.whole Client·T.the-row) (λ x. x) λ ρ told. Local.whole-mem 𝓤 H A W Client·T.the-row ρ) Path'.refl tt Path'.refl Path'.refl) d57
+          d58 = Typed.s-seq 𝓤 H A W 𝓣 E G28 G29 b18 b49 Δ0 (Typed.both s25) at57 (Move.t-sl-copy-out 𝓤 H A W E Client·T.the-row 𝓣 Path'.refl (Copies.cStruct Client·T.the-type Client·L.the-laws Client·L.the-copy .copy 𝓤 H A W) (λ ρ. Unit) G28 1 15 16 0 (Syntax.tyRef (Syntax.named 0) Syntax.mut (Memory·T.pointee (Client·T.the-row .written))) (Row.lease (κs .0) (qs .0)) Client·L.mir Client·L.mir (Rows'.whole Client·T.the-row) (Shared.bySize 2240) (λ u. u .1 .1 .1 .0) (λ x. x) Client·D.freshClient (λ x. Unit) (λ x. x) (λ x. x) (λ i o. Elements.at-mul o 2240 i) Path'.refl Path'.refl (Own.told-none 𝓤 H A (G28 .slots)) (DerefMove.learns-nothing 𝓤 H A Client·T.the-row) (Reads.as-is 𝓤 H A (Mut.mslice Client·T.the-row (Syntax.tyRef (Syntax.named 0) Syntax.mut (Memory·T.pointee (Client·T.the-row .written))) 0)) (Reads.as-is 𝓤 H A (Rows'.sc-here Row.sPtr)) (Reads.room-gone 𝓤 H A Client·L.mir) (Yields.makes-mem 𝓤 H A W (λ ρ. Unit) Client·T.the-row Path'.refl (Rows'.whole Client·T.the-row) (λ x. x) λ ρ told. Local.whole-mem 𝓤 H A W Client·T.the-row ρ) Path'.refl tt Path'.refl Path'.refl) d57
 
           d59 : Typed.Typed 𝓤 H A 𝓣 E G27 b51 Δ0 at59
           d59 = Typed.s-seq 𝓤 H A W 𝓣 E G27 G28 b17 b50 Δ0 (Typed.ask s24) at58 (Scalar.t-op2 𝓤 H A W E 𝓣 G27 Syntax.offset (Scalar.oFld 1 (List._∷_ (Syntax.field 0) List.[]) (Syntax.tyRef (Syntax.named 0) Syntax.mut (Memory·T.pointee (Client·T.the-row .written))) 0 Reads.ptrVal) (Scalar.oAt 13 (Syntax.tyInt Syntax.w64) (Row.valS (Row.sInt Syntax.w64))) 15 (Rows'.sc-here Row.sPtr) Syntax.tyPtr (Row.valS Row.sPtr) (Row.sPtr .of) (Mut.reads-mslice-ptr 𝓤 H A W Client·T.the-row (Syntax.tyRef (Syntax.named 0) Syntax.mut (Memory·T.pointee (Client·T.the-row .written))) 0 0 Path'.refl, Path'.refl) (Scalar.reads-sc 𝓤 H A W (Row.sInt Syntax.w64), Path'.refl) (Reads.room-gone 𝓤 H A Syntax.tyPtr) (Scalar.holds-sc 𝓤 H A W Row.sPtr) Path'.refl (λ u. Path'.refl) λ u. tt) d58
 
           d60 : Typed.Typed 𝓤 H A 𝓣 E G20 b52 Δ0 at60
-          d60 = Typed.s-seq 𝓤 H A W 𝓣 E G20 G27 b16 b51 Δ0 (Typed.ask s23) at59 (Scalar.t-op2 𝓤 H A W E 𝓣 G20 (Syntax.mul Syntax.unsigned) (Scalar.oAt 3 (Syntax.tyInt Syntax.w64) (Row.valS (Row.sInt Syntax.w64))) (Scalar.oInt Syntax.w64 704) 13 (Rows'.sc-here (Row.sInt Syntax.w64)) (Syntax.tyInt Syntax.w64) (Row.valS (Row.sInt Syntax.w64)) (Row.sInt Syntax.w64 .of) (Scalar.reads-sc 𝓤 H A W (Row.sInt Syntax.w64), Path'.refl) tt (Reads.room-gone 𝓤 H A (Syntax.tyInt Syntax.w64)) (Scalar.holds-sc 𝓤 H A W (Row.sInt Syntax.w64)) Path'.refl (λ u. Path'.refl) λ u. tt) d59
+          d60 = Typed.s-seq 𝓤 H A W 𝓣 E G20 G27 b16 b51 Δ0 (Typed.ask s23) at59 (Scalar.t-op2 𝓤 H A W E 𝓣 G20 (Syntax.mul Syntax.unsigned) (Scalar.oAt 3 (Syntax.tyInt Syntax.w64) (Row.valS (Row.sInt Syntax.w64))) (Scalar.oBig Syntax.w64 2240) 13 (Rows'.sc-here (Row.sInt Syntax.w64)) (Syntax.tyInt Syntax.w64) (Row.valS (Row.sInt Syntax.w64)) (Row.sInt Syntax.w64 .of) (Scalar.reads-sc 𝓤 H A W (Row.sInt Syntax.w64), Path'.refl) record { lower = record { fits = Dec'.lit< tt } } (Reads.room-gone 𝓤 H A (Syntax.tyInt Syntax.w64)) (Scalar.holds-sc 𝓤 H A W (Row.sInt Syntax.w64)) Path'.refl (λ u. Path'.refl) λ u. tt) d59
 
           d61 : Typed.Typed 𝓤 H A 𝓣 E G19 b53 Δ0 at61
           d61 = Typed.t-seq 𝓤 H A W 𝓣 E G19 G20 b15 b52 Δ0 at17 at60 d17 d60

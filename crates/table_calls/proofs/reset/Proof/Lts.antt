@@ -140,7 +140,7 @@ abbrev b15 : Syntax.Body
 b15 = Syntax.cond (Syntax.copy (Syntax.place 10 List.[])) b13 b14
 
 abbrev b16 : Syntax.Body
-b16 = Syntax.assign (Syntax.place 9 List.[]) (Syntax.op2 (Syntax.mul Syntax.unsigned) (Syntax.copy (Syntax.place 4 List.[])) (Syntax.int Syntax.w64 704))
+b16 = Syntax.assign (Syntax.place 9 List.[]) (Syntax.op2 (Syntax.mul Syntax.unsigned) (Syntax.copy (Syntax.place 4 List.[])) (Syntax.intBig Syntax.w64 2240))
 
 abbrev b17 : Syntax.Body
 b17 = Syntax.assign (Syntax.place 11 List.[]) (Syntax.op2 Syntax.offset (Syntax.copy (Syntax.place 1 (List._∷_ (Syntax.field 0) List.[]))) (Syntax.copy (Syntax.place 9 List.[])))
@@ -450,13 +450,13 @@ module _ (claims· : Claims) where
   s18 = Scalar.n-room T22 10 Syntax.tyBool
 
   abbrev s19 : Typed.Asks T19 T24
-  s19 = Scalar.k-op2 T19 (Syntax.mul Syntax.unsigned) (Scalar.oAt 4 (Syntax.tyInt Syntax.w64) (Row.valS (Row.sInt Syntax.w64))) (Scalar.oInt Syntax.w64 704) 9 (Rows'.sc-here (Row.sInt Syntax.w64)) (Row.sInt Syntax.w64 .of)
+  s19 = Scalar.k-op2 T19 (Syntax.mul Syntax.unsigned) (Scalar.oAt 4 (Syntax.tyInt Syntax.w64) (Row.valS (Row.sInt Syntax.w64))) (Scalar.oBig Syntax.w64 2240) 9 (Rows'.sc-here (Row.sInt Syntax.w64)) (Row.sInt Syntax.w64 .of)
 
   abbrev s20 : Typed.Asks T24 T25
   s20 = Scalar.k-op2 T24 Syntax.offset (Scalar.oFld 1 (List._∷_ (Syntax.field 0) List.[]) (Syntax.tyRef (Syntax.named 0) Syntax.mut (Memory·T.pointee (Client·T.the-row .written))) 0 Reads.ptrVal) (Scalar.oAt 9 (Syntax.tyInt Syntax.w64) (Row.valS (Row.sInt Syntax.w64))) 11 (Rows'.sc-here Row.sPtr) (Row.sPtr .of)
 
   abbrev s21 : Typed.Asks T25 T26
-  s21 = Move.k-sl-set-from Client·T.the-row T25 1 11 3 0 (Syntax.tyRef (Syntax.named 0) Syntax.mut (Memory·T.pointee (Client·T.the-row .written))) Row.off (Rows'.whole Client·T.the-row) (Shared.bySize 704) (λ u. u .1 .1 .1 .1 .0) (λ x. x) (λ x. x) (λ x. x) λ x. x
+  s21 = Move.k-sl-set-from Client·T.the-row T25 1 11 3 0 (Syntax.tyRef (Syntax.named 0) Syntax.mut (Memory·T.pointee (Client·T.the-row .written))) Row.off (Rows'.whole Client·T.the-row) (Shared.bySize 2240) (λ u. u .1 .1 .1 .1 .0) (λ x. x) (λ x. x) (λ x. x) λ x. x
 
   abbrev s22 : Typed.Mo T26 → Typed.Mo T27
   s22 = Scalar.n-room T26 9 (Syntax.tyInt Syntax.w64)
@@ -777,13 +777,13 @@ module _ (claims· : Claims) where
           d16 = Typed.g-pre 𝓤 H A W 𝓣 E G26 G27 b19 Δ4 (Typed.pass T26 T27 s22) at15 (Scalar.g-room 𝓤 H A W E G26 9 (Syntax.tyInt Syntax.w64) (Scalar.room-sc 𝓤 H A W (Row.sInt Syntax.w64))) d15
 
           d17 : Typed.Typed 𝓤 H A 𝓣 E G25 b20 Δ4 at17
-          d17 = Typed.s-seq 𝓤 H A W 𝓣 E G25 G26 b18 b19 Δ4 (Typed.ask s21) at16 (Move.t-sl-set-from 𝓤 H A W E Client·T.the-row 𝓣 Path'.refl (λ ρ. Unit) G25 1 11 3 0 (Syntax.tyRef (Syntax.named 0) Syntax.mut (Memory·T.pointee (Client·T.the-row .written))) (Row.lease (κs .0) (qs .0)) Client·L.mir Client·L.mir (Rows'.whole Client·T.the-row) (Shared.bySize 704) (λ u. u .1 .1 .1 .1 .0) (λ x. x) (λ x. x) (λ x. x) (λ x. x) (λ i o. Elements.at-mul o 704 i) Path'.refl Path'.refl (Own.told-none 𝓤 H A (G25 .slots)) (Reads.as-is 𝓤 H A (Mut.mslice Client·T.the-row (Syntax.tyRef (Syntax.named 0) Syntax.mut (Memory·T.pointee (Client·T.the-row .written))) 0)) (Reads.as-is 𝓤 H A (Rows'.sc-here Row.sPtr)) (Yields.yields-copy 𝓤 H A W (λ ρ. Unit) Client·T.the-row Path'.refl (Copies.cStruct Client·T.the-type Client·L.the-laws Client·L.the-copy .copy 𝓤 H A W) (Rows'.whole Client·T.the-row) (λ x. x) (λ x. x) (λ ρ told. Local.mem-whole 𝓤 H A W Client·T.the-row ρ) λ ρ told. Local.whole-mem 𝓤 H A W Client·T.the-row ρ) Path'.refl tt Path'.refl Path'.refl) d16
+          d17 = Typed.s-seq 𝓤 H A W 𝓣 E G25 G26 b18 b19 Δ4 (Typed.ask s21) at16 (Move.t-sl-set-from 𝓤 H A W E Client·T.the-row 𝓣 Path'.refl (λ ρ. Unit) G25 1 11 3 0 (Syntax.tyRef (Syntax.named 0) Syntax.mut (Memory·T.pointee (Client·T.the-row .written))) (Row.lease (κs .0) (qs .0)) Client·L.mir Client·L.mir (Rows'.whole Client·T.the-row) (Shared.bySize 2240) (λ u. u .1 .1 .1 .1 .0) (λ x. x) (λ x. x) (λ x. x) (λ x. x) (λ i o. Elements.at-mul o 2240 i) Path'.refl Path'.refl (Own.told-none 𝓤 H A (G25 .slots)) (Reads.as-is 𝓤 H A (Mut.mslice Client·T.the-row (Syntax.tyRef (Syntax.named 0) Syntax.mut (Memory·T.pointee (Client·T.the-row .written))) 0)) (Reads.as-is 𝓤 H A (Rows'.sc-here Row.sPtr)) (Yields.yields-copy 𝓤 H A W (λ ρ. Unit) Client·T.the-row Path'.refl (Copies.cStruct Client·T.the-type Client·L.the-laws Client·L.the-copy .copy 𝓤 H A W) (Rows'.whole Client·T.the-row) (λ x. x) (λ x. x) (λ ρ told. Local.mem-whole 𝓤 H A W Client·T.the-row ρ) λ ρ told. Local.whole-mem 𝓤 H A W Client·T.the-row ρ) Path'.refl tt Path'.refl Path'.refl) d16
 
           d18 : Typed.Typed 𝓤 H A 𝓣 E G24 b21 Δ4 at18
           d18 = Typed.s-seq 𝓤 H A W 𝓣 E G24 G25 b17 b20 Δ4 (Typed.ask s20) at17 (Scalar.t-op2 𝓤 H A W E 𝓣 G24 Syntax.offset (Scalar.oFld 1 (List._∷_ (Syntax.field 0) List.[]) (Syntax.tyRef (Syntax.named 0) Syntax.mut (Memory·T.pointee (Client·T.the-row .written))) 0 Reads.ptrVal) (Scalar.oAt 9 (Syntax.tyInt Syntax.w64) (Row.valS (Row.sInt Syntax.w64))) 11 (Rows'.sc-here Row.sPtr) Syntax.tyPtr (Row.valS Row.sPtr) (Row.sPtr .of) (Mut.reads-mslice-ptr 𝓤 H A W Client·T.the-row (Syntax.tyRef (Syntax.named 0) Syntax.mut (Memory·T.pointee (Client·T.the-row .written))) 0 0 Path'.refl, Path'.refl) (Scalar.reads-sc 𝓤 H A W (Row.sInt Syntax.w64), Path'.refl) (Reads.room-gone 𝓤 H A Syntax.tyPtr) (Scalar.holds-sc 𝓤 H A W Row.sPtr) Path'.refl (λ u. Path'.refl) λ u. tt) d17
 
           d19 : Typed.Typed 𝓤 H A 𝓣 E G19 b22 Δ4 at19
-          d19 = Typed.s-seq 𝓤 H A W 𝓣 E G19 G24 b16 b21 Δ4 (Typed.ask s19) at18 (Scalar.t-op2 𝓤 H A W E 𝓣 G19 (Syntax.mul Syntax.unsigned) (Scalar.oAt 4 (Syntax.tyInt Syntax.w64) (Row.valS (Row.sInt Syntax.w64))) (Scalar.oInt Syntax.w64 704) 9 (Rows'.sc-here (Row.sInt Syntax.w64)) (Syntax.tyInt Syntax.w64) (Row.valS (Row.sInt Syntax.w64)) (Row.sInt Syntax.w64 .of) (Scalar.reads-sc 𝓤 H A W (Row.sInt Syntax.w64), Path'.refl) tt (Reads.room-gone 𝓤 H A (Syntax.tyInt Syntax.w64)) (Scalar.holds-sc 𝓤 H A W (Row.sInt Syntax.w64)) Path'.refl (λ u. Path'.refl) λ u. tt) d18
+          d19 = Typed.s-seq 𝓤 H A W 𝓣 E G19 G24 b16 b21 Δ4 (Typed.ask s19) at18 (Scalar.t-op2 𝓤 H A W E 𝓣 G19 (Syntax.mul Syntax.unsigned) (Scalar.oAt 4 (Syntax.tyInt Syntax.w64) (Row.valS (Row.sInt Syntax.w64))) (Scalar.oBig Syntax.w64 2240) 9 (Rows'.sc-here (Row.sInt Syntax.w64)) (Syntax.tyInt Syntax.w64) (Row.valS (Row.sInt Syntax.w64)) (Row.sInt Syntax.w64 .of) (Scalar.reads-sc 𝓤 H A W (Row.sInt Syntax.w64), Path'.refl) record { lower = record { fits = Dec'.lit< tt } } (Reads.room-gone 𝓤 H A (Syntax.tyInt Syntax.w64)) (Scalar.holds-sc 𝓤 H A W (Row.sInt Syntax.w64)) Path'.refl (λ u. Path'.refl) λ u. tt) d18
 
           d20 : Typed.Typed 𝓤 H A 𝓣 E G18 b23 Δ4 at20
           d20 = Typed.t-seq 𝓤 H A W 𝓣 E G18 G19 b15 b22 Δ4 at13 at19 d13 d19
