@@ -3,10 +3,9 @@ use client_record::Assembly;
 use client_record::FRAGMENT_LIMIT;
 use client_record::Fragment;
 ghost use mathlib.Core.Path.{_≡_};
-ghost use lib.ListN.{take};
 ghost use Rattle.client_record.specs.Lists.{any};
 ghost use mathlib.Core.Bool.{true};
-ghost use Rattle.client_record.specs.Post.{HeldCount, HeldFront};
+ghost use Rattle.client_record.specs.Post.{HeldCount};
 ghost use Rattle.client_record.specs.Record.{isLast, end, overlaps, outruns, conflicts, compatible, lastOf, whole, heldFragments, bytesHeld};
 
 // ---- one fragment, and two
@@ -65,11 +64,11 @@ pub fn held_count(a: Assembly) -> usize
     }
 }
 
-// One of the first `n` fragments conflicts with `f`.
-pub fn conflicts_among(a: Assembly, n: usize, f: Fragment) -> bool
-    requires { ⌜ HeldFront a n ⌝ }
-    ensures { λ r. ⌜ r ≡ any (λ g. conflicts g f) (take n (heldFragments a)) ⌝ }
+// One of the held fragments conflicts with `f`.
+pub fn conflicts_any(a: Assembly, f: Fragment) -> bool
+    ensures { λ r. ⌜ r ≡ any (λ g. conflicts g f) (heldFragments a) ⌝ }
 {
+    let n = held_count(a);
     let mut found = false;
     let mut i = 0;
     while i < n {
@@ -78,13 +77,6 @@ pub fn conflicts_among(a: Assembly, n: usize, f: Fragment) -> bool
         i += 1;
     }
     found
-}
-
-// One of the held fragments conflicts with `f`.
-pub fn conflicts_any(a: Assembly, f: Fragment) -> bool
-    ensures { λ r. ⌜ r ≡ any (λ g. conflicts g f) (heldFragments a) ⌝ }
-{
-    conflicts_among(a, held_count(a), f)
 }
 
 // The fragment that is marked last; a fresh one if there is none.

@@ -73,7 +73,7 @@ last-passes p (f ∷ fs) h e = go (isLast f) (last-passes p fs (b .1)) e
     go false ih e = ih e
 
 -- it is marked exactly if some fragment is
-last-marked : (fs : List Fragment) → isLast (lastOf fs) ≡ any isLast fs
+pub last-marked : (fs : List Fragment) → isLast (lastOf fs) ≡ any isLast fs
 unfolding any lastOf isLast freshFragment
 last-marked [] = refl
 last-marked (f ∷ fs) = go (isLast f) refl (last-marked fs)

@@ -20,9 +20,10 @@ pub within : (o t k : ℕ) → o ≤ t → ltb (t - o) k ≡ leb o t && ltb t (o
 within o t k h =
     same-test (t - o) k t (o + k) (λ p. omega arith) (λ p. omega arith) ∙ sym (ap (λ (b : Bool). b && ltb t (o + k)) (le-leb o t h))
 
--- the first two of three fail
-pub front-false : (a b c : Bool) → a && b ≡ false → a && (b && c) ≡ false
-front-false a b c e = sym (and-assoc a b c) ∙ ap (λ (x : Bool). x && c) e
+-- three tests at once, and then the others
+pub front-three : (a b c d : Bool) → a && (b && (c && d)) ≡ (a && (b && c)) && d
+front-three true b c d = sym (and-assoc b c d)
+front-three false b c d = refl
 
 -- a sum is the offered bytes, at most l: not where either is over l
 pub over-offered : (s o l : ℕ) → l < o → eqb s o && leb o l ≡ false

@@ -10,8 +10,3 @@ use Rattle.client_record.specs.Record.{heldFragments}
 pub record HeldCount (a : Assembly) (r : ℕ) : Type 0 where
   pub count : r ≡ length (heldFragments a)
   pub within : r ≤ fragmentLimit
-
--- the first n slots are held fragments
-pub record HeldFront (a : Assembly) (n : ℕ) : Type 0 where
-  pub count : n ≤ length (heldFragments a)
-  pub within : n ≤ fragmentLimit

@@ -10,7 +10,7 @@ ghost use Rattle.client_record.specs.Lists.{all, any, sum};
 ghost use Rattle.client_record.specs.Record.{soundFragment, isFreshFragment, compatible, heldFragments, spareSlots, bytesHeld};
 ghost use Rattle.client_record.specs.Record.{isFreshAssembly, openedWithin, soundLive, soundAssembly, sameLiveKey, keysDiffer, sumsTo, balanced, soundRecord};
 
-// ---- the fragments of one assembly
+// ---- the slots of one assembly
 
 fn fresh_slot(f: Fragment) -> bool
     ensures { λ r. ⌜ r ≡ isFreshFragment f ⌝ }
@@ -22,48 +22,6 @@ fn fresh_slot(f: Fragment) -> bool
             client_record::both(f.option_start == 0, f.last == 0),
         ),
     )
-}
-
-// What the record test asks of a held fragment by itself. The option start of one that is not last is ignored.
-fn fragment_sound(f: Fragment) -> bool
-    ensures { λ r. ⌜ r ≡ soundFragment f ⌝ }
-{
-    let past = client_fragments::end_of(f);
-    let options = f.option_start as usize;
-    let inside = client_record::either(!client_fragments::is_last(f), options <= past);
-    client_record::both(
-        f.length != 0,
-        client_record::both(past <= client_record::DATAGRAM_LIMIT, inside),
-    )
-}
-
-fn fragments_sound(a: Assembly) -> bool
-    ensures { λ r. ⌜ r ≡ all soundFragment (heldFragments a) ⌝ }
-{
-    let n = client_fragments::held_count(a);
-    let mut ok = true;
-    let mut i = 0;
-    while i < n {
-        let f = a.fragments[i];
-        ok = client_record::both(ok, fragment_sound(f));
-        i += 1;
-    }
-    ok
-}
-
-// No fragment conflicts with an earlier one.
-fn fragments_compatible(a: Assembly) -> bool
-    ensures { λ r. ⌜ r ≡ compatible (heldFragments a) ⌝ }
-{
-    let n = client_fragments::held_count(a);
-    let mut ok = true;
-    let mut i = 0;
-    while i < n {
-        let f = a.fragments[i];
-        ok = client_record::both(ok, !client_fragments::conflicts_among(a, i, f));
-        i += 1;
-    }
-    ok
 }
 
 // The slots behind the held fragments are as in a fresh record.
@@ -118,12 +76,8 @@ fn live_sound(a: Assembly, time: u64) -> bool
     if client_record::FRAGMENT_LIMIT < count {
         return false;
     }
-    let fragments = client_record::both(fragments_sound(a), fragments_compatible(a));
-    if fragments {
-        return client_record::both(
-            !client_fragments::whole(a),
-            client_record::both(opened_within(a, time), spare_fresh(a)),
-        );
+    if client_held_test::held_sound(a, count) {
+        return client_record::both(opened_within(a, time), spare_fresh(a));
     }
     false
 }

@@ -1,10 +1,10 @@
--- `client_record_test::fragment_sound` meets its contract: the comparisons are the definition's.
+-- `client_held_test::fragment_sound` meets its contract: the comparisons are the definition's.
 -- Assumes nothing.
 use Rattle.client_record.specs.Limits.{datagramLimit}
 use Rattle.client_record.specs.Record.{soundFragment, nonEmpty, fits, startsOptionsInside}
 use borrow.Author.Needs.{needs}
-use Rattle.client_record_test.proofs.fragment_sound.Statement.{statement}
-use Rattle.client_record_test.proofs.fragment_sound.Tie as tie
+use Rattle.client_held_test.proofs.fragment_sound.Statement.{statement}
+use Rattle.client_held_test.proofs.fragment_sound.Tie as tie
 
 end-of-requires : tie.Need-end-of-requires
 end-of-requires c κs = search needs
