@@ -38,20 +38,20 @@ fn chosen(test: bool, a: usize, b: usize) -> usize
     if test { a } else { b }
 }
 
-// No two of the `n` held fragments overlap.
-fn apart(a: Assembly, n: usize) -> bool
-    requires { ⌜ SoundEach a n ⌝ }
+// No two of the `held` fragments overlap.
+fn apart(a: Assembly, held: usize) -> bool
+    requires { ⌜ SoundEach a held ⌝ }
     ensures { λ r. ⌜ r ≡ pairs (λ f g. not (overlaps f g)) (heldFragments a) ⌝ }
 {
     let mut places = [0u64; WORDS];
-    let mut i = 0;
-    while i < n {
-        let f = a.fragments[i];
+    let mut k = 0;
+    while k < held {
+        let f = a.fragments[k];
         let start = f.offset as usize;
         if !number_sets::include(&mut places, start, client_fragments::end_of(f)) {
             return false;
         }
-        i += 1;
+        k += 1;
     }
     true
 }

@@ -1,12 +1,12 @@
 -- Laws of the bits of a number: those of an `and` and an `or` go bit by bit, a number that is not 0 has one, and the bits of 2 ^ k - 1 are the k lowest.
 -- Assumes nothing.
-use mathlib.Core.Path.{_≡_, refl, sym, ap, ap₂, _∙_}
+use mathlib.Core.Path.{_≡_, refl, sym, ap, _∙_}
 use mathlib.Core.Bool.{Bool, true, false, _&&_, _||_}
-use Prim.Native.Nat.{ℕ, zero, suc, _+_, _-_, _*_, _/_, _%_, _^_, _≤_, _<_}
+use Prim.Native.Nat.{ℕ, zero, suc, _-_, _*_, _/_, _%_, _^_, _<_}
 use native.Mathlib.Nat.{pow-suc, mod-eq-of-lt}
 use native.Mathlib.Omega.{arith}
-use borrow.Author.Tests.{eqb-true, eqb-false, eq-eqb, ne-eqb, lt-ltb, le-ltb, le-leb, lt-leb}
-use lib.Bits.{bitAnd, bitOr, and-mod, and-shr, or-mod, or-shr, or-add-and, and-mask, and-le-l, and-le-r}
+use borrow.Author.Tests.{eqb-false, eq-eqb, ne-eqb, lt-ltb, le-ltb}
+use lib.Bits.{bitAnd, bitOr, and-mod, and-shr, or-mod, or-shr, or-add-and, and-mask}
 use lib.Dec.{eqb, leb, ltb, lit<, leb·zero, leb·suc-zero, leb·suc-suc}
 use lib.Pow.{pow-pos, shl-exact}
 use Rattle.number_sets.specs.Sets.{bit}
@@ -88,7 +88,7 @@ high-bit (suc n) (suc s) (suc b) h =
     let half : (2 ^ suc n - 2 ^ suc s) / 2 ≡ 2 ^ n - 2 ^ s = omega (arith, pow-suc 2 n, pow-suc 2 s) in
     ap (λ (m : ℕ). bit m b) half ∙ high-bit n s b (omega arith) ∙ sym (leb·suc-suc s b)
 
--- every bit of a word of k bits, and all of them
+-- with all the bits of a word
 pub and-full : (k x : ℕ) → x < 2 ^ k → bitAnd x (2 ^ k - 1) ≡ x
 and-full k x h = and-mask x k ∙ mod-eq-of-lt h
 

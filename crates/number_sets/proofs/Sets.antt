@@ -5,10 +5,10 @@ use mathlib.Core.Bool.{Bool, true, false, _&&_, _||_, and-true, or-false, or-ass
 use mathlib.Core.List.{List}
 use Prim.Native.Nat.{ℕ, zero, suc, _+_, _-_, _*_, _/_, _%_, _^_, _≤_, _<_}
 use native.Mathlib.Omega.{arith}
-use borrow.Author.Tests.{eqb-true, eqb-false, eq-eqb, leb-true, leb-false, ltb-true, ltb-false, lt-ltb, le-leb, lt-leb}
+use borrow.Author.Tests.{eqb-true, eqb-false, leb-true, leb-false, ltb-true, ltb-false, lt-ltb, le-leb, lt-leb}
 use lib.Bits.{bitAnd, bitOr, and-le-r}
-use lib.Dec.{eqb, leb, ltb}
-use lib.ListN.{length, getD, set, replicate, length-set, length-replicate, getD-replicate, List·getD-eq-default}
+use lib.Dec.{eqb, leb, ltb, leb·zero}
+use lib.ListN.{length, getD, set, replicate, length-set}
 use lib.Seq.{getD-set-same, getD-set-other}
 use Rattle.number_tests.proofs.Tests.{true-false, both-true, both-false}
 use Rattle.number_sets.specs.Sets.{bit, has, among, Taken, Included}
@@ -27,10 +27,6 @@ leb-same a b c d le lt = go (leb c d) refl
 
 -- ---- ranges
 
-pub inside : (a b i : ℕ) → a ≤ i → i < b → among a b i ≡ true
-unfolding among
-inside a b i h k = ap₂ _&&_ (le-leb a i h) (lt-ltb i b k)
-
 pub outside : (a b i : ℕ) → (a ≤ i → i < b → ⊥) → among a b i ≡ false
 unfolding among
 outside a b i d = go (leb a i) (ltb i b) refl refl
@@ -40,9 +36,17 @@ outside a b i d = go (leb a i) (ltb i b) refl refl
     go true false p q = refl
     go false t p q = refl
 
+pub inside : (a b i : ℕ) → a ≤ i → i < b → among a b i ≡ true
+unfolding among
+inside a b i h k = ap₂ _&&_ (le-leb a i h) (lt-ltb i b k)
+
 pub within : (a b i : ℕ) → among a b i ≡ true → (a ≤ i) × (i < b)
 unfolding among
 within a b i e = let t = both-true (leb a i) (ltb i b) e in (leb-true a i (t .0), ltb-true i b (t .1))
+
+-- a number that is not in the range
+apart : (ws : List ℕ) (a b i : ℕ) → (a ≤ i → i < b → ⊥) → has ws i || among a b i ≡ has ws i
+apart ws a b i d = ap (λ (t : Bool). has ws i || t) (outside a b i d) ∙ or-false (has ws i)
 
 -- a range and the one behind it
 meet : (a b c i : ℕ) → a ≤ b → b ≤ c → among a b i || among b c i ≡ among a c i
@@ -59,17 +63,25 @@ meet a b c i h k = go (ltb i b) (among a c i) refl refl
 
 -- ---- masks
 
-pub from-mask : (first : ℕ) → Mask (2 ^ 64 - 2 ^ first) first 64
+-- within a word the range's end at 64 says nothing, nor does its start at 0
+to-top : (first j : ℕ) → j < 64 → among first 64 j ≡ leb first j
 unfolding among
-from-mask first = record { bits = λ j h. high-bit 64 first j h ∙ sym (ap (λ (t : Bool). leb first j && t) (lt-ltb j 64 h) ∙ and-true (leb first j)) }
+to-top first j h = ap (λ (t : Bool). leb first j && t) (lt-ltb j 64 h) ∙ and-true (leb first j)
+
+from-zero : (end j : ℕ) → among 0 end j ≡ ltb j end
+unfolding among
+from-zero end j = ap (λ (t : Bool). t && ltb j end) (leb·zero j)
+
+pub from-mask : (first : ℕ) → Mask (2 ^ 64 - 2 ^ first) first 64
+from-mask first = record { bits = λ j h. high-bit 64 first j h ∙ sym (to-top first j h) }
 
 pub to-mask : (end : ℕ) → Mask (2 ^ end - 1) 0 end
-unfolding among
-to-mask end = record { bits = λ j h. ones-bit end j ∙ sym (ap (λ (t : Bool). t && ltb j end) (le-leb 0 j (omega arith))) }
+to-mask end = record { bits = λ j h. ones-bit end j ∙ sym (from-zero end j) }
 
 pub both-masks : {a b first end : ℕ} → Mask a first 64 → Mask b 0 end → Mask (bitAnd a b) first end
 unfolding among
-both-masks {a} {b} {first} {end} m n = record { bits = λ j h. and-bit a b j ∙ ap₂ _&&_ (m .bits j h ∙ ap (λ (t : Bool). leb first j && t) (lt-ltb j 64 h) ∙ and-true (leb first j)) (n .bits j h ∙ ap (λ (t : Bool). t && ltb j end) (le-leb 0 j (omega arith))) }
+both-masks {a} {b} {first} {end} m n =
+    record { bits = λ j h. and-bit a b j ∙ ap₂ _&&_ (m .bits j h ∙ to-top first j h) (n .bits j h ∙ from-zero end j) }
 
 -- ---- a word
 
@@ -99,8 +111,7 @@ module _ {ws ws′ : List ℕ} {w mask first end a b : ℕ} {free : Bool} (m : M
           ∙ ap₂ _||_ (sym (ap (λ (n : ℕ). bit (getD ws n 0) (i % 64)) here)) (m .bits (i % 64) (omega arith) ∙ ap₂ _&&_ low high)
       go false e =
           let elsewhere = eqb-false (i / 64) w e in
-          set-elsewhere ws w (bitOr word mask) i elsewhere
-          ∙ sym (ap (λ (t : Bool). has ws i || t) (outside a b i (λ h k. elsewhere (omega arith))) ∙ or-false (has ws i))
+          set-elsewhere ws w (bitOr word mask) i elsewhere ∙ sym (apart ws a b i (λ h k. elsewhere (omega arith)))
 
   clear : free ≡ true → (i : ℕ) → a ≤ i → i < b → has ws i ≡ false
   unfolding has word
@@ -146,12 +157,17 @@ pub included-none : (ws : List ℕ) (a : ℕ) → Included ws a a true ws
 included-none ws a =
     record {
       size = refl;
-      joined = λ i. sym (ap (λ (t : Bool). has ws i || t) (outside a a i (λ h k. omega arith)) ∙ or-false (has ws i));
+      joined = λ i. sym (apart ws a a i (λ h k. omega arith));
       clear = λ e i h k. absurd (omega arith);
       taken = λ e. absurd (true-false e);
     }
 
 module _ {ws ws₁ ws₂ : List ℕ} {a b c : ℕ} {r s : Bool} (h : a ≤ b) (k : b ≤ c) (x : Included ws a b r ws₁) (y : Included ws₁ b c s ws₂) where
+  joined-both : (i : ℕ) → has ws₂ i ≡ has ws i || among a c i
+  joined-both i =
+      y .joined i ∙ ap (λ (t : Bool). t || among b c i) (x .joined i) ∙ or-assoc (has ws i) (among a b i) (among b c i)
+      ∙ ap (λ (t : Bool). has ws i || t) (meet a b c i h k)
+
   clear-both : r && s ≡ true → (i : ℕ) → a ≤ i → i < c → has ws i ≡ false
   clear-both e i l u = go (ltb i b) refl (both-true r s e)
     where
@@ -166,19 +182,19 @@ module _ {ws ws₁ ws₂ : List ℕ} {a b c : ℕ} {r s : Bool} (h : a ≤ b) (k
       go false q = let t = x .taken q in record { at = t .at; from = t .from; before = omega arith; there = t .there }
       go true q =
           let t = y .taken (ap (λ (u : Bool). u && s) (sym q) ∙ e) in
-          let new = outside a b (t .at) (λ l u. omega arith) in
+          let before = x .joined (t .at) ∙ apart ws a b (t .at) (λ l u. omega arith) in
           record {
             at = t .at;
             from = omega arith;
             before = t .before;
-            there = sym (x .joined (t .at) ∙ ap (λ (u : Bool). has ws (t .at) || u) new ∙ or-false (has ws (t .at))) ∙ t .there;
+            there = sym before ∙ t .there;
           }
 
   pub then : Included ws a c (r && s) ws₂
   then =
       record {
         size = y .size ∙ x .size;
-        joined = λ i. y .joined i ∙ ap (λ (t : Bool). t || among b c i) (x .joined i) ∙ or-assoc (has ws i) (among a b i) (among b c i) ∙ ap (λ (t : Bool). has ws i || t) (meet a b c i h k);
+        joined = joined-both;
         clear = clear-both;
         taken = taken-one;
       }

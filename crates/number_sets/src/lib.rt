@@ -1,5 +1,4 @@
 // A set of numbers as bits: bit i % 64 of word i / 64 says whether i is in it. A range joins the set word by word, 64 numbers at a step.
-ghost use mathlib.Core.Path.{_≡_};
 ghost use Prim.Native.Nat.{_+_, _*_, _<_, _≤_};
 ghost use lib.ListN.{length};
 ghost use Rattle.number_sets.specs.Sets.{Room, Included};

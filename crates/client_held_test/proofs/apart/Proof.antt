@@ -1,4 +1,4 @@
--- `client_held_test::apart` meets its contract: the loop's invariant says that no two of the first `i` fragments overlap and that the set has their
+-- `client_held_test::apart` meets its contract: the loop's invariant says that no two of the first `k` fragments overlap and that the set has their
 -- places (`Marks`), so the next one overlaps one of them exactly if one of its places is in the set.
 -- Assumes nothing.
 use Prim.Native.Nat.{ℕ, _+_, _*_, _-_, _/_, _≤_, _<_}
@@ -20,17 +20,13 @@ use Rattle.client_held_test.proofs.Sweep.{apartAll}
 use Rattle.client_held_test.proofs.Places.{Marks, sound-some, sound-ends, all-front, marks-more, apart-more, taken-overlaps}
 use Rattle.client_held_test.proofs.apart.Statement.{statement}
 use Rattle.client_held_test.proofs.apart.Tie as tie
-use Rattle.client_held_test.proofs.apart.Reads as reads
-use Rattle.client_held_test.proofs.apart.Lts as lts
-use Rattle.client_fragments.proofs.end_of.Reads as end-of-reads
-use Rattle.number_sets.proofs.include.Reads as include-reads
 
 abbrev Inv-loop : tie.InvT-loop
-Inv-loop n a places₀ i₀ places i =
-    (apartAll (take i (heldFragments a)) ≡ true) × Marks places (take i (heldFragments a)) × (i ≤ n) × (length places ≡ (datagramLimit + 63) / 64)
+Inv-loop held a places₀ k₀ places k =
+    (apartAll (take k (heldFragments a)) ≡ true) × Marks places (take k (heldFragments a)) × (k ≤ held) × (length places ≡ (datagramLimit + 63) / 64)
 
 abbrev μ-loop : tie.MeasureT-loop
-μ-loop n a places₀ i₀ places i = n - i
+μ-loop held a places₀ k₀ places k = held - k
 
 loop-holds : tie.Need-loop-holds Inv-loop μ-loop
 unfolding pairs any datagramLimit
@@ -59,25 +55,25 @@ unfolding datagramLimit
 include-requires c κs =
     let l = c .before .before .before .before .before in
     let a = l .before .args .t1 in
-    let h : l .loop .i < length (heldFragments a) = omega (arith, l .before .pre .held .count) in
-    let same = held-at a (l .loop .i) none h in
-    let sound = all-at soundFragment (heldFragments a) (l .loop .i) none h (l .before .pre .each) in
+    let h : l .loop .k < length (heldFragments a) = omega (arith, l .before .pre .held .count) in
+    let same = held-at a (l .loop .k) none h in
+    let sound = all-at soundFragment (heldFragments a) (l .loop .k) none h (l .before .pre .each) in
     rw (c .end-of .ensures, same)
-    (record { some = sound-some _ sound; room = omega (arith, sound-ends _ sound, l .loop .inv .3) })
+    (record { some = sound-some _ sound; room = omega (arith, sound-ends _ sound, l .loop .knv .3) })
 
 returns : tie.Need-returns Inv-loop μ-loop
 returns c =
     let q = c .before .before in
     let l = q .before .before .before .before .before .before in
     let a = l .before .args .t1 in
-    let h : l .loop .i < length (heldFragments a) = omega (arith, l .before .pre .held .count) in
-    let same = held-at a (l .loop .i) none h in
+    let h : l .loop .k < length (heldFragments a) = omega (arith, l .before .pre .held .count) in
+    let same = held-at a (l .loop .k) none h in
     let inc = rw (q .before .end-of .ensures, same) at (q .include .ensures) in
-    sym (taken-overlaps (heldFragments a) (l .loop .i) none h _ (l .loop .inv .1) (inc .taken (not-true _ (c .if1 .taken))))
+    sym (taken-overlaps (heldFragments a) (l .loop .k) none h _ (l .loop .knv .1) (inc .taken (not-true _ (c .if1 .taken))))
 
-add-i : tie.Need-add-i Inv-loop μ-loop
+add-k : tie.Need-add-k Inv-loop μ-loop
 unfolding fragmentLimit
-add-i c = omega arith
+add-k c = omega arith
 
 loop-less : tie.Need-loop-less Inv-loop μ-loop
 loop-less c = omega arith
@@ -87,23 +83,23 @@ loop-again c =
     let q = c .before .before in
     let l = q .before .before .before .before .before .before in
     let a = l .before .args .t1 in
-    let h : l .loop .i < length (heldFragments a) = omega (arith, l .before .pre .held .count) in
-    let same = held-at a (l .loop .i) none h in
+    let h : l .loop .k < length (heldFragments a) = omega (arith, l .before .pre .held .count) in
+    let same = held-at a (l .loop .k) none h in
     let inc = rw (q .before .end-of .ensures, same) at (q .include .ensures) in
-    let sound = all-at soundFragment (heldFragments a) (l .loop .i) none h (l .before .pre .each) in
-    let each = all-front soundFragment (heldFragments a) (l .loop .i) (l .before .pre .each) in (
-      apart-more (heldFragments a) (l .loop .i) none h _ (l .loop .inv .1) sound each (l .loop .inv .0) (inc .clear (not-false _ (c .if1 .left))),
-      marks-more (heldFragments a) (l .loop .i) none h _ (l .loop .inv .1) _ (inc .joined),
+    let sound = all-at soundFragment (heldFragments a) (l .loop .k) none h (l .before .pre .each) in
+    let each = all-front soundFragment (heldFragments a) (l .loop .k) (l .before .pre .each) in (
+      apart-more (heldFragments a) (l .loop .k) none h _ (l .loop .knv .1) sound each (l .loop .knv .0) (inc .clear (not-false _ (c .if1 .left))),
+      marks-more (heldFragments a) (l .loop .k) none h _ (l .loop .knv .1) _ (inc .joined),
       omega arith,
-      inc .size ∙ l .loop .inv .3,
+      inc .size ∙ l .loop .knv .3,
     )
 
 returns-2 : tie.Need-returns-2 Inv-loop μ-loop
 returns-2 c =
     let l = c .before in
     let a = l .before .args .t1 in
-    let e : l .loop .i ≡ length (heldFragments a) = omega (arith, l .before .pre .held .count) in
-    sym (ap apartAll (sym (take-length (heldFragments a)) ∙ ap (λ (k : ℕ). take k (heldFragments a)) (sym e)) ∙ l .loop .inv .0)
+    let e : l .loop .k ≡ length (heldFragments a) = omega (arith, l .before .pre .held .count) in
+    sym (ap apartAll (sym (take-length (heldFragments a)) ∙ ap (λ (j : ℕ). take j (heldFragments a)) (sym e)) ∙ l .loop .knv .0)
 
 pub apart-spec : {M : Type 1} → statement M
 apart-spec =
@@ -119,7 +115,7 @@ apart-spec =
     end-of-requires
     include-requires
     returns
-    add-i
+    add-k
     loop-less
     loop-again
     returns-2)

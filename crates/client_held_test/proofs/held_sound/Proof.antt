@@ -19,15 +19,6 @@ use Rattle.client_record.proofs.Held.{none, held-at}
 use Rattle.client_held_test.proofs.Sweep.{Swept, swept-none, swept-more, swept-all, unsound-at, two-last, over-end, over-sum, by-overlap}
 use Rattle.client_held_test.proofs.held_sound.Statement.{statement}
 use Rattle.client_held_test.proofs.held_sound.Tie as tie
-use Rattle.client_held_test.proofs.held_sound.Reads as reads
-use Rattle.client_held_test.proofs.held_sound.Lts as lts
-use Rattle.client_fragments.proofs.end_of.Reads as end-of-reads
-use Rattle.client_fragments.proofs.is_last.Reads as is-last-reads
-use Rattle.client_held_test.proofs.chosen.Reads as chosen-reads
-use Rattle.client_held_test.proofs.fragment_sound.Reads as fragment-sound-reads
-use Rattle.client_held_test.proofs.length_of.Reads as length-of-reads
-use Rattle.client_record.proofs.both.Reads as both-reads
-use Rattle.client_record.proofs.either.Reads as either-reads
 
 abbrev Inv-loop : tie.InvT-loop
 Inv-loop n a rising₀ known₀ past₀ high₀ total₀ i₀ rising known past high total i =

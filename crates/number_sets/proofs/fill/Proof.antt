@@ -1,4 +1,4 @@
--- `number_sets::fill` meets its contract. The loop's invariant: the words so far are in, and no bit was seen if none of their numbers was in the set.
+-- `number_sets::fill` meets its contract. The loop's invariant: the numbers of the words so far are in, and `seen` is 0 exactly where none of them was.
 -- Assumes nothing.
 use mathlib.Core.Path.{_≡_}
 use Prim.Native.Nat.{_-_, _*_, _≤_}
