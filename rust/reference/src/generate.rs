@@ -900,7 +900,7 @@ fn plan(random: &mut Random) -> Plan {
 /// A plan with about as many pieces as an assembly may have.
 fn long_plan(random: &mut Random) -> Plan {
     let t = random.pick(&[100, 300, PLACE - 1, PLACE]);
-    let count = random.pick(&[PIECES - 1, PIECES, PIECES, PIECES + 1]);
+    let count = random.pick(&[PIECES - 1, PIECES, PIECES + 1, PIECES + 1]);
     planned(random, t, count)
 }
 
@@ -1062,7 +1062,7 @@ pub fn calls(random: &mut Random, clients: usize, count: usize) -> Vec<Call> {
         };
         let known = client.min(CLIENTS_MOST);
         let ask = match random.below(100) {
-            0 if random.one_in(2) => {
+            0 if random.one_in(if calm { 8 } else { 2 }) => {
                 match random.below(3) {
                     0 => lent = wrong_lent(random, table),
                     1 if lent == table => {
@@ -1084,7 +1084,7 @@ pub fn calls(random: &mut Random, clients: usize, count: usize) -> Vec<Call> {
             _ => {
                 let favoured = calm && !random.one_in(4);
                 let number = if favoured { 0 } else { random.below(keys) };
-                if random.one_in(if calm { 150 } else { 20 }) {
+                if random.one_in(if calm { 300 } else { 20 }) {
                     plans[number] = if favoured {
                         long_plan(random)
                     } else {

@@ -138,7 +138,7 @@ fn run(seed: u64, lists: usize, clients: usize, length: usize) -> BTreeMap<Strin
     }
     for name in LIMIT_SORTS {
         let count = answers.get(name);
-        assert!(count.is_some_and(|&count| count > 20), "{name}");
+        assert!(count.is_some_and(|&count| count > 10), "{name}");
     }
     answers
 }
