@@ -7,10 +7,11 @@ use crate::convert::{
 };
 use crate::counts::Counts;
 use crate::payloads::{same, same_bytes, Check};
-use crate::records::{bytes_of, count_completion, patterned};
+use crate::records::{bytes_of, count_assemblies, patterned};
 use reference as plain;
 use reference::checksum;
 use reference::generate::{self, Ask, Call, Datagram, Lent, Random, World};
+use reference::table::{ASSEMBLIES, PIECES, PLACE};
 use reference::Strictness;
 use wuraketozo::{raw, Arrival, Client, Place, Received, Table};
 
@@ -40,6 +41,12 @@ impl Pair {
             records,
             store,
         }
+    }
+
+    /// Puts a record in the place of the first one, on both sides.
+    pub fn set_record(&mut self, record: plain::Record) {
+        self.records[0] = Client::from_bytes(bytes_of(&record));
+        self.plain.records[0] = record;
     }
 
     /// The table as it is, with other lengths: what is refused with 20 must
@@ -125,7 +132,7 @@ fn forged(random: &mut Random, counts: &mut Counts, way: Way, most: usize) -> Re
         generate::summed(random, &mut world.records[number]);
     }
     for record in &world.records {
-        count_completion(counts, record);
+        count_assemblies(counts, record);
         let sound = plain::record_test(record);
         counts.add("forged record", if sound { "sound" } else { "damaged" });
     }
@@ -196,7 +203,7 @@ fn small(place: usize, length: usize, last: bool, r: usize, other: u8) -> Call {
             bytes,
             last,
             r,
-            out: 4_096,
+            out: PLACE,
         },
     }
 }
@@ -205,8 +212,8 @@ fn small(place: usize, length: usize, last: bool, r: usize, other: u8) -> Call {
 fn wild(random: &mut Random, record: &mut plain::Record) {
     for _ in 0..1 + random.below(3) {
         let number = random.draw() >> random.below(64);
-        let assembly = &mut record.assemblies[random.below(4)];
-        let slot = &mut assembly.pieces[random.below(16)];
+        let assembly = &mut record.assemblies[random.below(ASSEMBLIES)];
+        let slot = &mut assembly.pieces[random.below(PIECES)];
         match random.below(16) {
             0 => record.time = number,
             1 => record.offered = number,
@@ -254,6 +261,7 @@ pub fn run(
     let before = random.byte();
     let mut left = vec![before; call.out_length()];
     let mut right = left.clone();
+    let held = generate::held_before(&pair.plain, call);
     let expected = call.on_table(&mut pair.plain.records, &mut pair.plain.store, &mut left);
     let word = match call.ask {
         Ask::SetUp => "reset",
@@ -262,6 +270,9 @@ pub fn run(
         Ask::Bill { .. } => "account",
     };
     counts.add(word, &answer_word(&expected));
+    for name in generate::limit_sorts(held, &expected) {
+        counts.add(word, name);
+    }
     let found = if random.one_in(2) {
         by_c(random, pair, call, &mut right)
     } else {

@@ -101,7 +101,8 @@ fn run(plan: &Plan, counts: &mut Counts) -> Result<(), String> {
     let swept = if whole {
         calls::sweep(&mut random(seed, 0, 1), counts).map_err(told)?
             + records::sweep(&mut random(seed, 0, 2), counts).map_err(told)?
-            + records::sums(&mut random(seed, 0, 3), counts).map_err(told)?
+            + records::lists(&mut random(seed, 0, 3), counts).map_err(told)?
+            + records::overlaps(&mut random(seed, 0, 7), counts).map_err(told)?
     } else {
         0
     };
