@@ -14,7 +14,7 @@ from reader import crc32c
 
 HERE = os.path.dirname(os.path.abspath(__file__))
 ROOT = os.path.join(HERE, "..", "..")
-PLACE, PLACES, PIECES = 4096, 4, 16
+PLACE, PLACES, PIECES = 8192, 4, 64
 SHARE = PLACE * PLACES
 CLIENTS, LIFETIME, OFFERED = 12, 120000, 10**15
 RECORDS, STORE = CLIENTS + 1, (CLIENTS + 1) * SHARE + 1
