@@ -25,6 +25,7 @@ pub enum Way {
 }
 
 /// The reference's table, and the library's beside it.
+#[derive(Clone)]
 pub struct Pair {
     pub plain: World,
     records: Vec<Client>,
@@ -49,6 +50,15 @@ impl Pair {
         self.plain.records[0] = record;
     }
 
+    /// Takes back calls that changed only the first `reach` bytes of the store:
+    /// the reference says so, and the library was compared with it.
+    fn take_back(&mut self, before: &Pair, reach: usize) {
+        self.plain.records.clone_from(&before.plain.records);
+        self.records.clone_from(&before.records);
+        self.plain.store[..reach].copy_from_slice(&before.plain.store[..reach]);
+        self.store[..reach].copy_from_slice(&before.store[..reach]);
+    }
+
     /// The table as it is, with other lengths: what is refused with 20 must
     /// leave live records alone.
     fn resized(&self, lent: Lent) -> Pair {
@@ -61,10 +71,13 @@ impl Pair {
     /// Compares every byte of every record, and the whole store.
     fn compare(&self, shown: &dyn Fn() -> String) -> Check {
         for (number, record) in self.plain.records.iter().enumerate() {
-            let shown = || format!("{}\n  record {number}", shown());
-            let wanted = Client::from_bytes(bytes_of(record));
-            same(&Some(&wanted), &self.records.get(number), &shown)?;
-            same_bytes(&bytes_of(record), &self.records[number].to_bytes(), &shown)?;
+            let wanted = bytes_of(record);
+            let found = self.records.get(number);
+            if found.map(Client::to_bytes) != Some(wanted) {
+                let shown = || format!("{}\n  record {number}", shown());
+                same(&Some(&Client::from_bytes(wanted)), &found, &shown)?;
+                return Err(shown());
+            }
         }
         let shown = || format!("{}\n  store", shown());
         same_bytes(&self.plain.store, &self.store, &shown)
@@ -144,6 +157,9 @@ fn forged(random: &mut Random, counts: &mut Counts, way: Way, most: usize) -> Re
     Ok(most as u64)
 }
 
+/// The store's bytes that the fragments of `sweep` reach.
+const REACH: usize = 8;
+
 /// Every list of four fragments of one original from a small set: places 0
 /// to 3, one or two bytes, last or not, option start 0 or 1, two with other
 /// bytes. Returns the calls made.
@@ -176,12 +192,9 @@ fn sweep_from(
     if left == 0 {
         return Ok(());
     }
+    let mut next = pair.clone();
     for call in calls {
-        let mut next = Pair {
-            plain: pair.plain.clone(),
-            records: pair.records.clone(),
-            store: pair.store.clone(),
-        };
+        next.take_back(pair, REACH);
         run(random, counts, Way::Offered, &mut next, call)?;
         *made += 1;
         sweep_from(random, counts, calls, &next, left - 1, made)?;
