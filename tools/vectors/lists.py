@@ -350,7 +350,7 @@ ORDERS = (
 
 
 def moved(n):
-    """Changes of one of n equal pieces that touch: words, its number, how far its place moves, what its length grows by, and whether that is sound."""
+    """Changes of one of n equal pieces that touch: words, its number, what its place and its length grow by, and whether that is sound."""
     far = n // 2 * (ORIGINAL // n)
     for i in (1, n // 2, n - 1):
         yield f"piece {i} has the last byte of the one before it too", i, -1, 1, False
