@@ -1,6 +1,6 @@
-/* Holds include/wuraketozo.h to the library: every constant of the header is what the library answers, a fault has the offset that the
- * header says, the options of a reading are found one by one where they stand, and a pointer with length 0 may be NULL in every call that
- * takes one. Prints how many checks were made; a failed one is named by its line. */
+/* Holds include/wuraketozo.h to the library: every constant of the header is what the library answers, every limit what it takes, a fault
+ * has the offset that the header says, the options of a reading are found one by one where they stand, and a pointer with length 0 may be
+ * NULL in every call that takes one. Prints how many checks were made; a failed one is named by its line. */
 #include <stdio.h>
 #include <stdlib.h>
 #include <string.h>

@@ -1,6 +1,6 @@
 #!/bin/sh
-# Holds the C header to the static library: its constants, NULL with length 0, and that a host does not link where the layout's number
-# is another one.
+# Holds the C header to the static library: its constants and limits, NULL with length 0, and that a host does not link where the
+# layout's number is another one.
 set -eu
 cd "$(dirname "$0")/../.."
 library=target/staticlib/libhost_calls.a

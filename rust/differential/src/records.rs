@@ -285,8 +285,9 @@ const ORDERS: [fn(usize) -> usize; 4] = [
 ];
 
 /// Two fragments that share one byte or touch, at every place and in either
-/// order; and full lists in every order, with a byte that two of them share at
-/// every border, or a range twice. Returns the calls made.
+/// order; every range in the first two blocks of 64 places, with a byte in it
+/// or beside it; and full lists in every order, with a byte that two of them
+/// share at every border, or a range twice. Returns the calls made.
 pub fn overlaps(random: &mut Random, counts: &mut Counts) -> Result<u64, String> {
     let mut pair = Pair::of(World::new(Lent::of(1)));
     let mut made = 0;
@@ -304,6 +305,17 @@ pub fn overlaps(random: &mut Random, counts: &mut Counts) -> Result<u64, String>
         let byte = slot(place, place + 1);
         ask(&[slot(place + 1, PLACE), byte, low[0]], true)?;
         ask(&[slot(place + 1, PLACE), byte, low[1]], false)?;
+    }
+    for start in 0..2 * 64 {
+        for end in start + 1..=2 * 64 {
+            let range = slot(start, end);
+            ask(&[slot(end, end + 1), range], true)?;
+            ask(&[slot(end - 1, end), range], false)?;
+            ask(&[range, slot(start, start + 1)], false)?;
+            if start > 0 {
+                ask(&[range, slot(start - 1, start)], true)?;
+            }
+        }
     }
     let step = PLACE / PIECES;
     let full: Vec<plain::Slot> = (0..PIECES)

@@ -1426,7 +1426,8 @@ pub fn damage(random: &mut Random, record: &mut Record, way: usize) -> bool {
 fn cut(random: &mut Random) -> Vec<Slot> {
     let end = random.pick(&[1, 2, 8, 8, 64, 65, 300, PLACE - 1, PLACE]);
     let most = random.pick(&[5, 17, PIECES]);
-    let count = (1 + random.below(most)).min(end);
+    let some = 1 + random.below(most);
+    let count = random.pick(&[some, some, some, PIECES]).min(end);
     let cuts = cuts(random, end, count);
     let one = |pair: &[usize]| Slot {
         offset: pair[0] as u16,
