@@ -144,19 +144,21 @@ def figures():
 
 def misfits():
     begin("20: count and store", CLIENTS)
-    piece(11, 500, 1, 0, 8)
+    most, all_shares = CLIENTS, CLIENTS * SHARE
+    piece(most - 1, 500, 1, 0, 8)
     for records, store in ((0, 0), (0, SHARE), (1, 0), (1, SHARE - 1), (1, SHARE + 1), (1, SHARE // 2), (2, SHARE), (1, 2 * SHARE),
-                           (12, 12 * SHARE - 1), (12, 12 * SHARE + 1), (12, 11 * SHARE), (13, 13 * SHARE), (13, 12 * SHARE)):
+                           (most, all_shares - 1), (most, all_shares + 1), (most, all_shares - SHARE), (most + 1, all_shares + SHARE),
+                           (most + 1, all_shares)):
         table(records, store)
         say("set up")
         piece(0, 0, 1, 0, 8)
         clock(0, 0)
         bill(0)
-    table(12)
-    bill(11)
+    table(most)
+    bill(most - 1)
     end()
-    begin("21: no such client", 12)
-    for k in (12, 13, MOST, 11):
+    begin("21: no such client", CLIENTS)
+    for k in (most, most + 1, MOST, most - 1):
         piece(k, 0, 1, 0, 8)
         clock(k, 0)
         bill(k)
