@@ -157,6 +157,41 @@ fn forged(random: &mut Random, counts: &mut Counts, way: Way, most: usize) -> Re
     Ok(most as u64)
 }
 
+/// How many originals `originals` sends, and how often it sends a fragment that
+/// is not taken.
+const ORIGINALS: u64 = 200;
+const TRIES: usize = 20;
+
+/// Whole originals, many of them in as many fragments as there may be, in any
+/// order and by either way: each fragment is sent until it was taken. Returns
+/// the calls made.
+pub fn originals(random: &mut Random, counts: &mut Counts) -> Result<u64, String> {
+    let mut made = 0;
+    for number in 0..ORIGINALS {
+        let way = [Way::Offered, Way::Received][(number % 2) as usize];
+        let mut pair = Pair::of(World::new(Lent::of(1)));
+        for call in &generate::original_calls(random) {
+            for _ in 0..TRIES {
+                let before = standing(&pair.plain, call);
+                run(random, counts, way, &mut pair, call)
+                    .map_err(|text| format!("original {number}: {text}"))?;
+                made += 1;
+                if standing(&pair.plain, call) != before {
+                    break;
+                }
+            }
+        }
+    }
+    Ok(made)
+}
+
+/// How many fragments of a call's original are held, and what was delivered.
+fn standing(world: &World, call: &Call) -> (usize, u64) {
+    let piece = call.piece_call();
+    let held = piece.map_or(0, |piece| generate::held_before(world, &piece));
+    (held, world.records[0].delivered)
+}
+
 /// The store's bytes that the fragments of `sweep` reach.
 const REACH: usize = 8;
 
@@ -274,7 +309,8 @@ pub fn run(
     let before = random.byte();
     let mut left = vec![before; call.out_length()];
     let mut right = left.clone();
-    let held = generate::held_before(&pair.plain, call);
+    let held = call.piece_call();
+    let held = held.map(|piece| generate::held_before(&pair.plain, &piece));
     let expected = call.on_table(&mut pair.plain.records, &mut pair.plain.store, &mut left);
     let word = match call.ask {
         Ask::SetUp => "reset",
@@ -283,7 +319,7 @@ pub fn run(
         Ask::Bill { .. } => "account",
     };
     counts.add(word, &answer_word(&expected));
-    for name in generate::limit_sorts(held, &expected) {
+    for name in generate::limit_sorts(held.unwrap_or(0), &expected) {
         counts.add(word, name);
     }
     let found = if random.one_in(2) {
@@ -506,8 +542,12 @@ fn receive(
                 r: fragment.option_start,
             };
             let world = &mut pair.plain;
+            let held = generate::held_before(world, &call);
             let came = plain::piece(&mut world.records, &mut world.store, &call, &mut left);
             counts.add("receive", &answer_word(&came));
+            for name in generate::limit_sorts(held, &came) {
+                counts.add("receive", name);
+            }
             raw::Received {
                 what: 2,
                 answer: answer(&came),

@@ -57,6 +57,7 @@ fn wanted() -> Vec<String> {
     add("receive", &["padded before FRAG", "padded behind FRAG"]);
     add("receive", &["stored", "repeated", "conflict", "delivered"]);
     add("receive", &numbers);
+    add("receive", &generate::LIMIT_SORTS);
     add("forged record", &["sound", "damaged"]);
     add("record with one byte changed", &["sound", "damaged"]);
     let word = "forged assembly";

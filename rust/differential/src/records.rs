@@ -223,9 +223,10 @@ pub fn lists(random: &mut Random, counts: &mut Counts) -> Result<u64, String> {
         let records = vec![record];
         let mut pair = Pair::of(World { records, store });
         asks.extend((0..2).map(|_| generate::call_on(random, &pair.plain).ask));
+        let way = random.pick(&[Way::Offered, Way::Offered, Way::Received]);
         for ask in asks {
             let lent = pair.plain.lent();
-            run(random, counts, Way::Offered, &mut pair, &Call { lent, ask })
+            run(random, counts, way, &mut pair, &Call { lent, ask })
                 .map_err(|text| format!("record {number}, {record:?}: {text}"))?;
             made += 1;
         }

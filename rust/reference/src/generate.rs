@@ -816,7 +816,8 @@ impl Call {
         }
     }
 
-    fn piece_call(&self) -> Option<PieceCall<'_>> {
+    /// The arguments of a piece call; none for another call.
+    pub fn piece_call(&self) -> Option<PieceCall<'_>> {
         match &self.ask {
             Ask::Piece {
                 client,
@@ -1106,6 +1107,20 @@ pub fn calls(random: &mut Random, clients: usize, count: usize) -> Vec<Call> {
         list.push(Call { lent, ask });
     }
     list
+}
+
+/// The pieces of one original, at one time and in any order: as many as an
+/// assembly may have, or nearly, or some.
+pub fn original_calls(random: &mut Random) -> Vec<Call> {
+    let t = random.pick(&[100, 300, PLACE - 1, PLACE]);
+    let count = random.pick(&[2, 17, PIECES - 1, PIECES, PIECES]);
+    let plan = planned(random, t, count);
+    let lent = Lent::of(1);
+    let one = |&index: &usize| Call {
+        lent,
+        ask: planned_piece(random, &plan, index, 0, 0, 5, false),
+    };
+    plan.order.iter().map(one).collect()
 }
 
 /// A piece of a plan, as it should be or with one thing changed.
@@ -1726,12 +1741,9 @@ fn count_answer(coverage: &mut Coverage, call: &Call, answer: &Answer) {
     count(coverage, format!("{}: {name}", call.word()));
 }
 
-/// How many pieces the assembly holds that a piece call is for, at the time of
-/// the call.
-pub fn held_before(world: &World, call: &Call) -> usize {
-    let Some(piece) = call.piece_call() else {
-        return 0;
-    };
+/// How many pieces the assembly holds that a piece is for, at the time of its
+/// call.
+pub fn held_before(world: &World, piece: &PieceCall) -> usize {
     let record = world.records.get(piece.client);
     let held = record.and_then(|record| {
         let mut live = record.assemblies.iter().filter(|a| a.count != 0);
@@ -2019,10 +2031,10 @@ pub fn coverage(seed: u64, rounds: usize) -> Coverage {
         let mut world = World::new(Lent::of(1));
         for call in calls(&mut random, clients, 250) {
             let mut out = vec![0; call.out_length()];
-            let held = held_before(&world, &call);
+            let held = call.piece_call().map(|piece| held_before(&world, &piece));
             let answer = world.run(&call, &mut out);
             count_answer(&mut seen, &call, &answer);
-            for name in limit_sorts(held, &answer) {
+            for name in limit_sorts(held.unwrap_or(0), &answer) {
                 count(&mut seen, format!("piece: {name}"));
             }
         }

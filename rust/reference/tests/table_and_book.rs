@@ -108,9 +108,9 @@ fn run(seed: u64, lists: usize, clients: usize, length: usize) -> BTreeMap<Strin
         let mut world = World::new(Lent::of(1));
         let mut books = BTreeMap::new();
         for call in calls(&mut random, clients, length) {
-            let held = held_before(&world, &call);
+            let held = call.piece_call().map(|piece| held_before(&world, &piece));
             let answer = step(&mut world, &mut books, &call);
-            for name in limit_sorts(held, &answer) {
+            for name in limit_sorts(held.unwrap_or(0), &answer) {
                 *answers.entry(name.into()).or_insert(0) += 1;
             }
             let name = match answer {
