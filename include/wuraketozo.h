@@ -186,6 +186,13 @@ wuraketozo_written wuraketozo_write(wuraketozo_address source, wuraketozo_addres
 
 /* ---- the table ---- */
 
+/* The limits. The calls wuraketozo_client_limit, wuraketozo_out_size and wuraketozo_share_size below answer the same of the library. */
+#define WURAKETOZO_CLIENT_LIMIT 12     /* clients of a table */
+#define WURAKETOZO_ASSEMBLY_LIMIT 4    /* originals that are put together at once for a client */
+#define WURAKETOZO_FRAGMENT_LIMIT 64   /* fragments of an original */
+#define WURAKETOZO_ORIGINAL_LIMIT 8192 /* bytes of an original, of the smallest out buffer, and of the store for an original */
+#define WURAKETOZO_SHARE (WURAKETOZO_ASSEMBLY_LIMIT * WURAKETOZO_ORIGINAL_LIMIT) /* bytes of the store for a client */
+
 typedef struct {
     wuraketozo_address source;
     wuraketozo_address destination;
@@ -206,7 +213,7 @@ typedef struct {
     uint32_t identification;
     uint64_t opened;
     uint64_t count;
-    wuraketozo_held fragments[16];
+    wuraketozo_held fragments[WURAKETOZO_FRAGMENT_LIMIT];
 } wuraketozo_assembly;
 
 /* One client's record. A host allocates one for each client, has them set up, and need not look inside. */
@@ -219,14 +226,14 @@ typedef struct {
     uint64_t conflicted;
     uint64_t repeated;
     uint64_t rejected;
-    wuraketozo_assembly assemblies[4];
+    wuraketozo_assembly assemblies[WURAKETOZO_ASSEMBLY_LIMIT];
 } wuraketozo_client;
 
 /* The layout of the structs here has a number, which goes up with every change of one of them or of a call's arguments. A library has
  * the call below with its own layout's number in its name and no other one. The reference to it that stands here goes into every
  * object that includes this header, so that a host does not link against a library of another layout. It answers the bytes of a
  * record, as wuraketozo_record_size does. */
-size_t wuraketozo_layout_5(void);
+size_t wuraketozo_layout_6(void);
 #if defined(__has_attribute)
 #if __has_attribute(retain)
 #define WURAKETOZO_KEPT __attribute__((used, retain))
@@ -236,10 +243,11 @@ size_t wuraketozo_layout_5(void);
 #define WURAKETOZO_KEPT __attribute__((used))
 #endif
 #ifdef WURAKETOZO_KEPT
-static size_t (*const wuraketozo_layout)(void) WURAKETOZO_KEPT = wuraketozo_layout_5;
+static size_t (*const wuraketozo_layout)(void) WURAKETOZO_KEPT = wuraketozo_layout_6;
 #endif
 #if defined(__STDC_VERSION__) && __STDC_VERSION__ >= 201112L
-_Static_assert(sizeof(wuraketozo_client) == 704, "a record is 704 bytes");
+_Static_assert(sizeof(wuraketozo_client) == 64 + WURAKETOZO_ASSEMBLY_LIMIT * (32 + WURAKETOZO_FRAGMENT_LIMIT * 8),
+               "a record has no padding");
 _Static_assert(sizeof(wuraketozo_reading) == 112 && sizeof(wuraketozo_rereading) == 72, "readings are 112 and 72 bytes");
 _Static_assert(sizeof(wuraketozo_option) == 32 && sizeof(wuraketozo_original_option) == 32, "an option is 32 bytes");
 #endif
@@ -281,8 +289,8 @@ typedef struct {
     wuraketozo_figures figures; /* ACCOUNT */
 } wuraketozo_answer;
 
-/* Makes every record fresh and leaves the store. Refusal 20: not 1 to 12 records, or not wuraketozo_share_size() bytes of store for
- * each. */
+/* Makes every record fresh and leaves the store. Refusal 20: not 1 to WURAKETOZO_CLIENT_LIMIT records, or not WURAKETOZO_SHARE bytes
+ * of store for each. */
 wuraketozo_answer wuraketozo_reset(wuraketozo_client *records, size_t count, const uint8_t *store, size_t store_length);
 
 /* A fragment without its bytes. `time` is in milliseconds and must not run backwards for a client. */

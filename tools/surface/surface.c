@@ -1,6 +1,6 @@
-/* Holds include/wuraketozo.h to the library: every constant of the header is what the library answers, a fault has the offset that the
- * header says, the options of a reading are found one by one where they stand, and a pointer with length 0 may be NULL in every call that
- * takes one. Prints how many checks were made; a failed one is named by its line. */
+/* Holds include/wuraketozo.h to the library: every constant of the header is what the library answers, every limit what it takes, a fault
+ * has the offset that the header says, the options of a reading are found one by one where they stand, and a pointer with length 0 may be
+ * NULL in every call that takes one. Prints how many checks were made; a failed one is named by its line. */
 #include <stdio.h>
 #include <stdlib.h>
 #include <string.h>
@@ -265,7 +265,7 @@ static void one_by_one(void)
 /* ---- the table ---- */
 
 static wuraketozo_client records[1];
-static uint8_t store[16384], out[4096];
+static uint8_t store[WURAKETOZO_SHARE], out[WURAKETOZO_ORIGINAL_LIMIT];
 
 static wuraketozo_fragment fragment(size_t place, uint32_t last)
 {
@@ -282,8 +282,6 @@ static wuraketozo_fragment fragment(size_t place, uint32_t last)
 
 static void outcomes(void)
 {
-    CHECK(wuraketozo_record_size() == sizeof records[0] && wuraketozo_layout_5() == sizeof records[0]);
-    CHECK(wuraketozo_share_size() == sizeof store && wuraketozo_out_size() == sizeof out && wuraketozo_client_limit() == 12);
     CHECK(wuraketozo_reset(records, 1, store, sizeof store).outcome == WURAKETOZO_RESET);
     CHECK(OFFER(0, "ab", 0).outcome == WURAKETOZO_STORED);
     CHECK(OFFER(0, "ab", 0).outcome == WURAKETOZO_REPEATED);
@@ -310,6 +308,47 @@ static void outcomes(void)
     CHECK(wuraketozo_account(records, 1, store, sizeof store, 0).figures.offered == 9);
     CHECK(wuraketozo_receive(records, 1, store, sizeof store, 0, 0, here, there, WURAKETOZO_STRICT, none, 7, out, sizeof out).what ==
           WURAKETOZO_UNREAD);
+}
+
+/* ---- the limits ---- */
+
+#define MOST_RECORDS (WURAKETOZO_CLIENT_LIMIT + 1)
+static wuraketozo_client many[MOST_RECORDS];
+static uint8_t long_store[MOST_RECORDS * WURAKETOZO_SHARE], long_report[WURAKETOZO_ORIGINAL_LIMIT + 1];
+
+/* The answer to a fragment of `length` bytes with an identification and a room in out. */
+static wuraketozo_answer offered(uint32_t identification, size_t place, size_t length, uint32_t last, size_t room)
+{
+    wuraketozo_fragment f = fragment(place, last);
+    f.identification = identification;
+    f.option_start = 0;
+    return wuraketozo_offer(records, 1, store, sizeof store, 0, f, long_report, length, out, room);
+}
+
+/* Each limit of the header is the library's: what it says of itself, and what it takes. */
+static void limits(void)
+{
+    CHECK(wuraketozo_record_size() == sizeof records[0] && wuraketozo_layout_6() == sizeof records[0]);
+    CHECK(sizeof records[0] == 64 + WURAKETOZO_ASSEMBLY_LIMIT * (32 + WURAKETOZO_FRAGMENT_LIMIT * 8));
+    CHECK(wuraketozo_share_size() == WURAKETOZO_SHARE && wuraketozo_out_size() == WURAKETOZO_ORIGINAL_LIMIT);
+    CHECK(wuraketozo_client_limit() == WURAKETOZO_CLIENT_LIMIT);
+    for (size_t count = 0; count <= MOST_RECORDS; count++) {
+        const uint32_t refusal = count >= 1 && count <= WURAKETOZO_CLIENT_LIMIT ? 0 : 20;
+        CHECK(wuraketozo_reset(many, count, long_store, count * WURAKETOZO_SHARE).refusal == refusal);
+    }
+    CHECK(wuraketozo_reset(many, 2, long_store, 2 * WURAKETOZO_SHARE - 1).refusal == 20);
+    CHECK(wuraketozo_reset(many, 2, long_store, 2 * WURAKETOZO_SHARE + 1).refusal == 20);
+    CHECK(wuraketozo_reset(records, 1, store, sizeof store).refusal == 0);
+    CHECK(offered(1, 0, 1, 0, WURAKETOZO_ORIGINAL_LIMIT - 1).refusal == 23);
+    CHECK(offered(1, 0, WURAKETOZO_ORIGINAL_LIMIT + 1, 1, sizeof out).refusal == 25);
+    CHECK(offered(1, WURAKETOZO_ORIGINAL_LIMIT, 1, 1, sizeof out).refusal == 25);
+    CHECK(offered(1, 0, WURAKETOZO_ORIGINAL_LIMIT, 1, sizeof out).length == WURAKETOZO_ORIGINAL_LIMIT);
+    for (uint32_t id = 1; id <= WURAKETOZO_ASSEMBLY_LIMIT; id++)
+        CHECK(offered(id, 0, 1, 0, sizeof out).outcome == WURAKETOZO_STORED);
+    CHECK(offered(WURAKETOZO_ASSEMBLY_LIMIT + 1, 0, 1, 0, sizeof out).refusal == 29);
+    for (size_t held = 1; held < WURAKETOZO_FRAGMENT_LIMIT; held++)
+        CHECK(offered(1, 2 * held, 1, 0, sizeof out).outcome == WURAKETOZO_STORED);
+    CHECK(offered(1, 2 * WURAKETOZO_FRAGMENT_LIMIT, 1, 0, sizeof out).refusal == 30);
 }
 
 /* ---- NULL with length 0 ---- */
@@ -400,6 +439,7 @@ int main(void)
     fault_offsets();
     one_by_one();
     outcomes();
+    limits();
     nothing_at_all();
     printf("%u checks, %u failed\n", checks, failures);
     return failures == 0 ? EXIT_SUCCESS : EXIT_FAILURE;

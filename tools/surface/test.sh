@@ -1,6 +1,6 @@
 #!/bin/sh
-# Holds the C header to the static library: its constants, NULL with length 0, and that a host does not link where the layout's number
-# is another one.
+# Holds the C header to the static library: its constants and limits, NULL with length 0, and that a host does not link where the
+# layout's number is another one.
 set -eu
 cd "$(dirname "$0")/../.."
 library=target/staticlib/libhost_calls.a
@@ -28,7 +28,7 @@ C
 cat >"$room/table.c" <<'C'
 #include "wuraketozo.h"
 static wuraketozo_client records[1];
-static uint8_t store[16384];
+static uint8_t store[WURAKETOZO_SHARE];
 int main(void) { return (int)wuraketozo_reset(records, 1, store, sizeof store).refusal; }
 C
 number=$(sed -n 's/^size_t wuraketozo_layout_\([0-9]*\)(void);$/\1/p' include/wuraketozo.h)

@@ -3,7 +3,11 @@ import random
 import sys
 from itertools import permutations
 
-SHARE, MOST, LIMIT = 16384, 2**64 - 1, 10**15
+from reader import crc32c
+
+from table import CLIENTS, OFFERED as LIMIT, PIECES, PLACE as ORIGINAL, SHARE
+
+MOST = 2**64 - 1
 LINES = []
 
 # The fields that `forge` can set.
@@ -16,7 +20,7 @@ def say(text):
     LINES.append(text)
 
 
-def table(records, store=None, out=4096):
+def table(records, store=None, out=ORIGINAL):
     say(f"table of {records}, store {records * SHARE if store is None else store}, out {out}")
 
 
@@ -100,35 +104,38 @@ def figures():
     bill(0)
     end()
     begin("figure 13: place and length")
-    for place, length in ((4095, 1), (4096, 1), (0, 4097), (1, 4096), (4097, 1), (MOST, 1), (MOST, 4096), (2**32, 1)):
+    for place, length in ((ORIGINAL - 1, 1), (ORIGINAL, 1), (0, ORIGINAL + 1), (1, ORIGINAL), (ORIGINAL + 1, 1), (MOST, 1),
+                          (MOST, ORIGINAL), (2**32, 1)):
         piece(0, 0, 1, place, length)
-    piece(0, 0, 2, 0, 4096)
-    last(0, 0, 3, 2048, 2048, 4096)
-    last(0, 0, 4, 2048, 2049, 4096)
+    half = ORIGINAL // 2
+    piece(0, 0, 2, 0, ORIGINAL)
+    last(0, 0, 3, half, half, ORIGINAL)
+    last(0, 0, 4, half, half + 1, ORIGINAL)
     bill(0)
     end()
-    begin("figure 13: the 16th piece, and the 17th")
-    for i in range(17):
+    begin(f"figure 13: the {PIECES}th piece, and the {PIECES + 1}th")
+    for i in range(PIECES + 1):
         piece(0, 0, 1, 2 * i, 1)
-    last(0, 0, 1, 40, 1)
-    piece(0, 0, 1, 30, 1)
+    last(0, 0, 1, 2 * PIECES + 8, 1)
+    piece(0, 0, 1, 2 * PIECES - 2, 1)
     bill(0)
-    piece(0, 0, 1, 30, 2)
+    piece(0, 0, 1, 2 * PIECES - 2, 2)
     bill(0)
     end()
-    begin("the 16th piece delivers, the 17th does not")
-    for i in range(15):
+    begin(f"the {PIECES}th piece delivers, the {PIECES + 1}th does not")
+    for i in range(PIECES - 1):
         piece(0, 0, 1, i, 1)
-    last(0, 0, 1, 15, 1, 3)
-    for i in range(16):
+    last(0, 0, 1, PIECES - 1, 1, 3)
+    for i in range(PIECES):
         piece(0, 0, 2, i, 1)
-    last(0, 0, 2, 16, 1, 3)
+    last(0, 0, 2, PIECES, 1, 3)
     piece(0, 0, 2, 9, 1)
     bill(0)
     end()
-    begin("16 pieces from behind, 4,096 bytes")
-    for i in reversed(range(16)):
-        piece(0, 15 - i, 7, 256 * i, 256, 4000, last=i == 15)
+    begin(f"{PIECES} pieces from behind, {ORIGINAL:,} bytes")
+    step = ORIGINAL // PIECES
+    for i in reversed(range(PIECES)):
+        piece(0, PIECES - 1 - i, 7, step * i, step, ORIGINAL - 96, last=i == PIECES - 1)
     bill(0)
     end()
 
@@ -136,20 +143,22 @@ def figures():
 # ---- refusals
 
 def misfits():
-    begin("20: count and store", 12)
-    piece(11, 500, 1, 0, 8)
-    for records, store in ((0, 0), (0, SHARE), (1, 0), (1, SHARE - 1), (1, SHARE + 1), (2, SHARE), (1, 2 * SHARE), (12, 12 * SHARE - 1),
-                           (12, 12 * SHARE + 1), (12, 11 * SHARE), (13, 13 * SHARE), (13, 12 * SHARE)):
+    begin("20: count and store", CLIENTS)
+    most, all_shares = CLIENTS, CLIENTS * SHARE
+    piece(most - 1, 500, 1, 0, 8)
+    for records, store in ((0, 0), (0, SHARE), (1, 0), (1, SHARE - 1), (1, SHARE + 1), (1, SHARE // 2), (2, SHARE), (1, 2 * SHARE),
+                           (most, all_shares - 1), (most, all_shares + 1), (most, all_shares - SHARE), (most + 1, all_shares + SHARE),
+                           (most + 1, all_shares)):
         table(records, store)
         say("set up")
         piece(0, 0, 1, 0, 8)
         clock(0, 0)
         bill(0)
-    table(12)
-    bill(11)
+    table(most)
+    bill(most - 1)
     end()
-    begin("21: no such client", 12)
-    for k in (12, 13, MOST, 11):
+    begin("21: no such client", CLIENTS)
+    for k in (most, most + 1, MOST, most - 1):
         piece(k, 0, 1, 0, 8)
         clock(k, 0)
         bill(k)
@@ -175,14 +184,14 @@ FORGED = [
     ("an unused place has a port", (PORT, 7, 2)),
     ("an unused place has a time", (OPENED, 200, 2)),
     ("an unused place has a piece", (LENGTH, 1, 2, 0)),
-    ("an unused slot has a place", (PLACE, 9, 0, 15)),
+    ("an unused slot has a place", (PLACE, 9, 0, PIECES - 1)),
     ("an unused slot is last", (LAST, 1, 1, 1)),
     ("an unused slot has an option start", (R, 1, 1, 2)),
     ("a live place has no count", (COUNT, 0, 1), (HELD, 12), (DELIVERED, 5)),
-    ("17 pieces", (COUNT, 17, 1)),
+    (f"{PIECES + 1} pieces", (COUNT, PIECES + 1, 1)),
     ("255 pieces", (COUNT, 255, 0)),
     ("an empty piece", (COUNT, 2, 1), (PLACE, 9, 1, 1)),
-    ("a piece past 4,096", (PLACE, 4092, 1, 0)),
+    (f"a piece past {ORIGINAL:,}", (PLACE, ORIGINAL - 4, 1, 0)),
     ("a piece that ends past 65,536", (PLACE, 65535, 1, 0)),
     ("an overlap", (COUNT, 3, 0), (PLACE, 7, 0, 2), (LENGTH, 2, 0, 2), (HELD, 19), (OFFERED, 19)),
     ("two last pieces", (LAST, 1, 0, 0)),
@@ -197,7 +206,7 @@ FORGED = [
 
 # These pass it.
 SOUND = [
-    ("4,096 is reached", (PLACE, 4091, 1, 0)),
+    (f"{ORIGINAL:,} is reached", (PLACE, ORIGINAL - 5, 1, 0)),
     ("the option start of a piece that is not last", (R, 9, 0, 0)),
     ("an option start at the end", (R, 20, 0, 1)),
     ("opened 119,999 ms before", (TIME, 120099)),
@@ -229,6 +238,7 @@ SOUND_FLOWS = [
 # Counts whose lowest byte would pass.
 FORGED_COUNTS = [
     ("257 pieces", (COUNT, 257, 1)),
+    (f"{256 + PIECES} pieces", (COUNT, 256 + PIECES, 1)),
     ("2^32 + 1 pieces", (COUNT, 2**32 + 1, 1)),
     ("2^64 - 1 pieces", (COUNT, MOST, 0)),
     ("an unused place counts 256", (COUNT, 256, 2)),
@@ -242,7 +252,7 @@ def forged_marks(mark):
         (f"two last pieces, one marked {mark}", (LAST, mark, 0, 0)),
         (f"two last pieces, both marked {mark}", (LAST, mark, 0, 0), (LAST, mark, 0, 1)),
         (f"an unused slot is marked {mark}", (LAST, mark, 1, 1)),
-        (f"an unused place is marked {mark}", (LAST, mark, 2, 15)),
+        (f"an unused place is marked {mark}", (LAST, mark, 2, PIECES - 1)),
         (f"a piece past the end marked {mark}", (LAST, mark, 0, 1), (COUNT, 3, 0), (PLACE, 20, 0, 2), (LENGTH, 1, 0, 2), (HELD, 18), (OFFERED, 18)),
         (f"an option start past the end marked {mark}", (LAST, mark, 0, 1), (R, 21, 0, 1)),
         (f"whole, marked {mark}", (LAST, mark, 0, 1), (PLACE, 8, 0, 1), (R, 8, 0, 1)),
@@ -260,15 +270,25 @@ def sound_marks(mark):
 # Live pieces (from, to, and END for the last one) whose lengths sum to the last one's end T, or nearly; what is offered then; and what stands
 # in a slot behind them.
 END = 1
-SIXTEENTHS = [(256 * i, 256 * i + 256, END * (i == 15)) for i in range(16)]
+
+
+def parts(n):
+    """The longest original in n equal pieces."""
+    step = ORIGINAL // n
+    return [(step * i, step * i + step, END * (i == n - 1)) for i in range(n)]
+
+
+QUARTER, STEP, ALL = ORIGINAL // 4, ORIGINAL // PIECES, parts(PIECES)
 FORGED_SUMS = [
     *(("sum T, an overlap, 4 and 5 open: " + " ".join(f"{p[0]}-{p[1]}" for p in pieces), pieces, (4, 6))
       for pieces in permutations([(0, 4), (0, 2), (6, 8, END)])),
     ("sum T, one piece twice, 4 to 8 open", [(0, 4), (0, 4), (8, 12, END)], (4, 8)),
     ("sum T, one inside another, 6 and 7 open", [(0, 6), (2, 4), (8, 10, END)], (6, 8)),
     ("sum T, the last one overlaps, 2 and 3 open", [(0, 2), (4, 8), (6, 10, END)], (2, 4)),
-    ("sum T of 4,096, an overlap, 2,048 to 3,072 open", [(0, 2048), (0, 1024), (3072, 4096, END)], (2048, 3072)),
-    ("sum T, 16 pieces, the first one in the place of the second", [(0, 256), (0, 256), *SIXTEENTHS[2:]], (256, 512)),
+    (f"sum T of {ORIGINAL:,}, an overlap, {2 * QUARTER:,} to {3 * QUARTER:,} open",
+     [(0, 2 * QUARTER), (0, QUARTER), (3 * QUARTER, ORIGINAL, END)], (2 * QUARTER, 3 * QUARTER)),
+    (f"sum T, {PIECES} pieces, the first one in the place of the second", [ALL[0], ALL[0], *ALL[2:]], (STEP, 2 * STEP)),
+    (f"sum T, {PIECES} pieces from behind, one in the place of another", [*ALL[:1:-1], ALL[9], ALL[0]], (STEP, 2 * STEP)),
     ("sum T, one past the end, 4 and 5 open", [(0, 4), (10, 12), (6, 8, END)], (4, 6)),
     ("sum T, two last ones, 4 and 5 open", [(0, 4), (6, 8, END), (8, 10, END)], (4, 6)),
     ("sum T modulo 65,536, 4 and 5 open", [(0, 4), (0, 65535), (0, 3), (6, 8, END)], (4, 6)),
@@ -282,17 +302,16 @@ FORGED_SUMS = [
     ("covered by two", [(0, 4), (4, 8, END)], (4, 6)),
     ("covered by two, the last one first", [(4, 8, END), (0, 4)], (4, 6)),
     ("covered by two and an empty one", [(0, 4), (2, 2), (4, 8, END)], (4, 6)),
-    ("covered by 16", SIXTEENTHS, (0, 256)),
-    ("covered by 16, from behind", SIXTEENTHS[::-1], (0, 256)),
+    *((f"covered by {n}{words}", parts(n)[::way], (0, ORIGINAL // n)) for n in (16, PIECES) for words, way in (("", 1), (", from behind", -1))),
 ]
 SOUND_SUMS = [
     ("no last one, 0 to 8 covered", [(0, 4), (4, 8)], (8, 9)),
     ("no last one, sum 8 before 10", [(0, 4), (6, 10)], (4, 6)),
-    ("no last one, 0 to 4,096 covered by 16", [(*p[:2], 0) for p in SIXTEENTHS], (0, 256)),
+    *((f"no last one, 0 to {ORIGINAL:,} covered by {n}", [(*p[:2], 0) for p in parts(n)], (0, ORIGINAL // n)) for n in (16, PIECES)),
     ("sum T - 1, the first byte open", [(4, 8, END), (1, 4)], (0, 1)),
     ("sum T - 1, a byte within open", [(0, 4), (5, 8, END)], (4, 5)),
-    ("sum T - 1, 15 pieces", [(0, 511), *SIXTEENTHS[2:]], (511, 512)),
-    ("sum T - 1, 16 pieces", [(0, 255), *SIXTEENTHS[1:]], (255, 256)),
+    (f"sum T - 1, {PIECES - 1} pieces", [(0, 2 * STEP - 1), *ALL[2:]], (2 * STEP - 1, 2 * STEP)),
+    (f"sum T - 1, {PIECES} pieces", [(0, STEP - 1), *ALL[1:]], (STEP - 1, STEP)),
 ]
 
 
@@ -323,9 +342,55 @@ def forged_sums():
     end()
 
 
+# Orders in which pieces come.
+ORDERS = (
+    ("in order", range),
+    ("from behind", lambda n: range(n)[::-1]),
+    ("from both ends inwards", lambda n: [i // 2 if i % 2 == 0 else n - 1 - i // 2 for i in range(n)]),
+    ("mixed", lambda n: sorted(range(n), key=lambda i: crc32c(bytes([n, i])))),
+)
+
+
+def moved(n):
+    """Changes of one of n equal pieces that touch: words, its number, what its place and its length grow by, and whether that is sound."""
+    far = n // 2 * (ORIGINAL // n)
+    for i in (1, n // 2, n - 1):
+        yield f"piece {i} has the last byte of the one before it too", i, -1, 1, False
+        yield f"piece {i} stands a byte too far in front", i, -1, 0, False
+        yield f"piece {i} stands where another one does", i, far if i < n // 2 else -far, 0, False
+        yield f"the first byte of piece {i} is open", i, 1, -1, True
+        yield f"the last byte of piece {i} is open", i, 0, -1, True
+
+
+ORDERED = [(f"{n} pieces {words}: {change[0]}", change[4]) for n in (16, PIECES) for words, _ in ORDERS for change in moved(n)]
+
+
+def forged_orders():
+    """What a list holds counts, not the order in which it came: each change is made and taken back on one record."""
+    for n in (16, PIECES):
+        step = ORIGINAL // n
+        for words, order in ORDERS:
+            came = list(order(n))
+            begin(f"22: {n} pieces, {words}, none of them last", 2)
+            for i in came:
+                piece(1, 100, 1, step * i, step)
+            bill(1)
+            for change, i, on, grown, _ in moved(n):
+                say(f"-- {n} pieces {words}: {change}")
+                slot = came.index(i)
+                for place, length, held in ((step * i + on, step + grown, ORIGINAL + grown), (step * i, step, ORIGINAL)):
+                    forge(1, (PLACE, place, 0, slot), (LENGTH, length, 0, slot), (HELD, held), (OFFERED, held))
+                    bill(1)
+            last(1, 100, 1, 0, 1)
+            bill(1)
+            end()
+
+
 MARKS = (2, 255, 65535)
 BROKEN = FORGED + FORGED_FLOWS + FORGED_COUNTS + [case for mark in MARKS for case in forged_marks(mark)] + FORGED_SUMS
+BROKEN += [case for case in ORDERED if not case[1]]
 PASSING = SOUND + SOUND_FLOWS + [case for mark in MARKS for case in sound_marks(mark)] + SOUND_SUMS
+PASSING += [case for case in ORDERED if case[1]]
 
 
 def tried(cases):
@@ -399,11 +464,11 @@ def forged_fields():
 def forged_records():
     begin("22: forged records, one clause each", 3)
     tried(FORGED + SOUND)
-    say("-- 17 counted where 16 are held")
+    say(f"-- {PIECES + 1} counted where {PIECES} are held")
     say("set up")
-    for i in range(16):
+    for i in range(PIECES):
         piece(1, 0, 1, 2 * i, 1)
-    for n in (17, 16, 255):
+    for n in (PIECES + 1, PIECES, 255, PIECES - 1, 256 + PIECES):
         forge(1, (COUNT, n))
         bill(1)
         piece(1, 0, 1, 0, 1)
@@ -415,7 +480,7 @@ def forged_records():
 
 
 def orders():
-    """Clients: 0 plain, 1 four live, 2 with 16 pieces, 3 unsound, 4 to 6 as 0 to 2 with all offered, 7 four live and unsound."""
+    """Clients: 0 plain, 1 four live, 2 with all pieces, 3 unsound, 4 to 6 as 0 to 2 with all offered, 7 four live and unsound."""
     begin("20 to 30: each against each", 8)
     for k in (0, 4):
         piece(k, 1000, 1, 100, 1)
@@ -423,23 +488,23 @@ def orders():
         for key in range(1, 5):
             piece(k, 1000, key, 100, 1)
     for k in (2, 6):
-        for i in range(16):
+        for i in range(PIECES):
             piece(k, 1000, 1, 100 + 2 * i, 1)
     piece(3, 1000, 1, 100, 1)
     forge(3, (OFFERED, 2))
     forge(7, (OFFERED, 5))
-    for k, held in ((4, 1), (5, 4), (6, 16)):
+    for k, held in ((4, 1), (5, 4), (6, PIECES)):
         forge(k, (OFFERED, LIMIT), (DELIVERED, LIMIT - held))
 
     def call(causes):
         plain = {29: 1, 30: 2}.get(max(causes), 0)
         k = 8 if 21 in causes else 7 if 22 in causes and 29 in causes else 3 if 22 in causes else plain + 4 if 28 in causes else plain
-        place = 4097 if 25 in causes else 200
+        place = ORIGINAL + 1 if 25 in causes else 300
         length = 0 if 24 in causes else 3
         key = 9 if 29 in causes else 1
         if 25 in causes and 24 not in causes:
-            place = 4094
-        table(8, 8 * SHARE + (20 in causes), 4095 if 23 in causes else 4096)
+            place = ORIGINAL - 2
+        table(8, 8 * SHARE + (20 in causes), ORIGINAL - (23 in causes))
         say(f"-- {' '.join(map(str, causes))}")
         if 26 in causes:
             last(k, 999 if 27 in causes else 1000, key, place, length, place + length + 1)
@@ -465,11 +530,11 @@ def orders():
     begin("23 to 26 and what is ignored")
     table(1, out=0)
     piece(0, 0, 1, 0, 8)
-    table(1, out=4095)
+    table(1, out=ORIGINAL - 1)
     last(0, 0, 1, 0, 8)
-    table(1, out=4097)
+    table(1, out=ORIGINAL + 1)
     last(0, 0, 1, 0, 8, 3)
-    table(1, out=4200)
+    table(1, out=ORIGINAL + 104)
     last(0, 0, 1, 0, 8, 3)
     table(1)
     piece(0, 0, 2, 0, 0)
@@ -483,7 +548,7 @@ def orders():
     end()
     begin("20 to 28 set no time, expire nothing, offer nothing")
     piece(0, 10, 1, 0, 8)
-    piece(0, 500000, 2, 4096, 1)
+    piece(0, 500000, 2, ORIGINAL, 1)
     piece(0, 500000, 2, 0, 0)
     last(0, 500000, 2, 0, 1, 2)
     table(1, out=9)
@@ -506,9 +571,9 @@ def orders():
     bill(0)
     say("set up")
     piece(0, 0, 1, 0, 7)
-    for i in range(16):
+    for i in range(PIECES):
         piece(0, 60000, 2, 2 * i, 1)
-    piece(0, 120000, 2, 40, 5)
+    piece(0, 120000, 2, 2 * PIECES + 8, 5)
     bill(0)
     clock(0, 119999)
     end()
@@ -555,7 +620,7 @@ def fates():
         bill(0)
     end()
     begin("clashes")
-    for p, q in (((10, 5), (14, 1)), ((10, 5), (9, 2)), ((10, 5), (0, 4096)), ((10, 5), (12, 1)), ((10, 5), (10, 5))):
+    for p, q in (((10, 5), (14, 1)), ((10, 5), (9, 2)), ((10, 5), (0, ORIGINAL)), ((10, 5), (12, 1)), ((10, 5), (10, 5))):
         piece(0, 0, 1, *p)
         piece(0, 0, 1, *q, other=7)
         bill(0)
@@ -580,7 +645,7 @@ def fates():
     bill(0)
     end()
     begin("a single last piece")
-    for length in (1, 8, 4096):
+    for length in (1, 8, ORIGINAL):
         last(0, 0, 1, 0, length, length)
         last(0, 0, 1, 0, length, 0)
     last(0, 0, 1, 1, 7, 0)
@@ -593,9 +658,9 @@ def fates():
     end()
     begin("no last piece, no delivery")
     for i in range(4):
-        piece(0, 0, 1, 1024 * i, 1024)
+        piece(0, 0, 1, QUARTER * i, QUARTER)
     bill(0)
-    last(0, 0, 1, 4095, 1)
+    last(0, 0, 1, ORIGINAL - 1, 1)
     bill(0)
     piece(0, 0, 2, 8, 4)
     piece(0, 0, 2, 0, 4)
@@ -683,17 +748,17 @@ def offered(key, pieces):
 
 
 def completions():
-    orders = (("in order", [256] * 16, lambda rest: rest), ("from behind", [256] * 16, lambda rest: rest[::-1]),
-              ("1 to 16 bytes long, mixed", [*range(1, 17)], lambda rest: [rest[7 * i % 15] for i in range(15)]))
-    for words, lengths, order in orders:
-        pieces = cut(lengths)
-        for which, late in (("first", 0), ("eighth", 7), ("last", 15)):
-            begin(f"16 pieces, {words}, the {which} one after all others")
-            offered(1, order(pieces[:late] + pieces[late + 1:]))
-            bill(0)
-            offered(1, [pieces[late]])
-            bill(0)
-            end()
+    for n in (16, PIECES):
+        for words, order in ORDERS:
+            pieces = cut([*range(1, n + 1)] if words == "mixed" else [ORIGINAL // n] * n)
+            for which, late in (("first", 0), ("eighth", 7), ("last", n - 1)):
+                begin(f"{n} pieces, {words}, the {which} one after all others")
+                rest = pieces[:late] + pieces[late + 1:]
+                offered(1, [rest[i] for i in order(n - 1)])
+                bill(0)
+                offered(1, [pieces[late]])
+                bill(0)
+                end()
     begin("what does not count for completion")
     say("-- a repeat")
     offered(1, [(0, 4, False), (8, 4, True), (0, 4, False), (8, 4, True), (4, 4, False)])
@@ -710,11 +775,11 @@ def completions():
     bill(0)
     offered(1, [(0, 4, False)])
     say("-- what was turned away")
-    offered(1, [(i, 1, False) for i in range(15)] + [(25, 1, True), (15, 10, False), (15, 10, False)])
+    offered(1, [(i, 1, False) for i in range(PIECES - 1)] + [(PIECES + 9, 1, True)] + 2 * [(PIECES - 1, 10, False)])
     bill(0)
     end()
     begin("the sum is the end so far at every piece, and there is no last one till the end")
-    offered(1, cut([*range(1, 17)]))
+    offered(1, cut([*range(1, PIECES + 1)]))
     bill(0)
     end()
     begin("the sum is the known end at the last of them only")
@@ -731,6 +796,18 @@ def least_sizes():
     last(0, 1, 1, 1460, 1458, 2900)
     last(0, 2, 2, 1460, 1458)
     piece(0, 3, 2, 0, 1460)
+    bill(0)
+    end()
+
+
+# ---- document 02, R-4: reports of 7,000 bytes in small radio frames
+
+def long_reports():
+    begin("7,000 bytes in frames of 112, two reports at once")
+    frames = cut([112] * 62 + [56])
+    for i in range(len(frames)):
+        for key, (place, length, final) in ((1, frames[i]), (2, frames[-1 - i])):
+            piece(0, i, key, place, length, 6990 if final else None, last=final)
     bill(0)
     end()
 
@@ -766,7 +843,7 @@ def others():
             piece(3, time, 100 + (5 * turn + i) % 7, 4 * i, 4)
         piece(8, 10 * turn, turn, 0, 64)
         piece(3, time + 1, 100, 2 * turn, 5)
-        piece(8, 10 * turn + 1, turn, 5000, 64)
+        piece(8, 10 * turn + 1, turn, ORIGINAL, 64)
         last(8, 10 * turn + 2, turn, 64, 36, 70)
         piece(12, time, 1, 0, 1)
         time += 50000
@@ -821,6 +898,11 @@ class Calls:
         self.rng, self.records, self.crumbs, self.fields = rng, records, crumbs, fields
         self.time = dict.fromkeys(range(records + 1), 0)
 
+    def fill(self):
+        """Nearly all pieces that an assembly may have, or all."""
+        for place in self.rng.sample(range(PIECES + 6), PIECES - self.rng.randrange(4)):
+            piece(0, self.time[0], 1, place, 1)
+
     def some(self, n):
         for _ in range(n):
             k = self.rng.randrange(self.records) if self.rng.random() < 0.98 else self.records
@@ -837,17 +919,17 @@ class Calls:
         elif kind < 0.155:
             say("set up")
         elif self.crumbs:
-            place = self.rng.randrange(24)
-            piece(k, when, self.rng.randrange(1, 3), place, 1, last=place > 20 and self.rng.random() < 0.1)
+            place = self.rng.randrange(PIECES + 8)
+            piece(k, when, self.rng.randrange(1, 3), place, 1, last=place > PIECES + 4 and self.rng.random() < 0.1)
         else:
             self.piece(k, when)
 
     def piece(self, k, when):
         rng = self.rng
-        unit = rng.choice([4, 4, 4, 1, 1365])
+        unit = rng.choice([4, 4, 4, 1, ORIGINAL // 3])
         place, length = unit * rng.randrange(4), unit * rng.choice([1, 1, 1, 2, 0 if rng.random() < 0.2 else 1])
         if rng.random() < 0.03:
-            place += rng.choice([1, 4090, 4096, MOST - 8])
+            place += rng.choice([1, ORIGINAL - 6, ORIGINAL, MOST - 8])
         final = rng.random() < 0.35
         r = max(0, place + length - rng.choice([0, 0, 0, 1, 4, -1 if rng.random() < 0.3 else 0])) if final else None
         piece(k, when, rng.randrange(1, 6), place, length, r, int(rng.random() < 0.04), rng.choice([0, 0, 0, 0, 0, 1]), final)
@@ -855,8 +937,8 @@ class Calls:
     def forging(self):
         k = self.rng.randrange(self.records)
         for _ in range(self.rng.randrange(1, 4)):
-            value = self.rng.choice([0, 1, 2, 4, 8, 16, 17, 4095, 4096, 65535, MOST, LIMIT, self.rng.randrange(30)])
-            forge(k, (self.rng.randrange(self.fields), value, self.rng.randrange(4), self.rng.choice([0, 0, 1, 2, 15])))
+            value = self.rng.choice([0, 1, 2, 4, 8, PIECES, PIECES + 1, ORIGINAL - 1, ORIGINAL, 65535, MOST, LIMIT, self.rng.randrange(30)])
+            forge(k, (self.rng.randrange(self.fields), value, self.rng.randrange(4), self.rng.choice([0, 0, 1, 2, PIECES - 1])))
 
 
 def random_list(seed):
@@ -871,11 +953,13 @@ def random_list(seed):
     if rng.random() < 0.1:
         for k in range(records):
             forge(k, (DELIVERED, LIMIT - 40), (OFFERED, LIMIT - 40))
+    if calls.crumbs:
+        calls.fill()
     for _ in range(rng.randrange(1, 4)):
         calls.some(40)
         if rng.random() < 0.2:
             calls.forging()
-        table(records, records * SHARE + (rng.choice([-1, 1]) if rng.random() < 0.05 else 0), 4095 if rng.random() < 0.05 else 4096)
+        table(records, records * SHARE + (rng.choice([-1, 1]) if rng.random() < 0.05 else 0), ORIGINAL - (rng.random() < 0.05))
     end()
     return "\n".join(LINES) + "\n"
 
@@ -891,12 +975,17 @@ def stored():
     others()
     for seed in (1, 2, 3, 12):
         begin(f"random calls, clients: {seed}", seed)
-        Calls(random.Random(seed), seed, seed == 2).some(80)
+        calls = Calls(random.Random(seed), seed, seed == 2)
+        if calls.crumbs:
+            calls.fill()
+        calls.some(80)
         end()
     forged_fields()
     least_sizes()
     forged_sums()
+    forged_orders()
     completions()
+    long_reports()
     return "\n".join(LINES) + "\n"
 
 

@@ -9,12 +9,13 @@ import re
 import subprocess
 import sys
 from collections import Counter
+from functools import lru_cache
 
 from reader import crc32c
 
 HERE = os.path.dirname(os.path.abspath(__file__))
 ROOT = os.path.join(HERE, "..", "..")
-PLACE, PLACES, PIECES = 4096, 4, 16
+PLACE, PLACES, PIECES = 8192, 4, 64
 SHARE = PLACE * PLACES
 CLIENTS, LIFETIME, OFFERED = 12, 120000, 10**15
 RECORDS, STORE = CLIENTS + 1, (CLIENTS + 1) * SHARE + 1
@@ -270,14 +271,38 @@ for value in range(256):
     TABLE.append(value)
 
 
-def crc(data):
-    state = 0xFFFFFFFF
+def fed(state, data):
+    """The CRC's state behind these bytes."""
     for byte in data:
         state = (state >> 8) ^ TABLE[(state ^ byte) & 255]
+    return state
+
+
+# A store is mostly blocks that were met before. What a block makes of a state is what it makes of 0, and beside it what as many zeros make of
+# each bit of the state.
+BLOCK = 1024
+ZEROS = [fed(1 << bit, bytes(BLOCK)) for bit in range(32)]
+
+
+@lru_cache(None)
+def fed_block(block):
+    return fed(0, block)
+
+
+def crc(data):
+    state, whole = 0xFFFFFFFF, len(data) // BLOCK * BLOCK
+    for at in range(0, whole, BLOCK):
+        behind = fed_block(bytes(data[at:at + BLOCK]))
+        for bit in range(32):
+            if state >> bit & 1:
+                behind ^= ZEROS[bit]
+        state = behind
+    state = fed(state, data[whole:])
     return int.from_bytes((state ^ 0xFFFFFFFF).to_bytes(4, "little"), "big")
 
 
 assert crc(b"123456789") == crc32c(b"123456789") == 0x839206E3
+assert crc(bytes(range(251)) * 9) == crc32c(bytes(range(251)) * 9)
 
 
 def pattern(place, length, seed):

@@ -7,10 +7,11 @@ use crate::convert::{
 };
 use crate::counts::Counts;
 use crate::payloads::{same, same_bytes, Check};
-use crate::records::{bytes_of, count_completion, patterned};
+use crate::records::{bytes_of, count_assemblies, patterned};
 use reference as plain;
 use reference::checksum;
 use reference::generate::{self, Ask, Call, Datagram, Lent, Random, World};
+use reference::table::{ASSEMBLIES, PIECES, PLACE};
 use reference::Strictness;
 use wuraketozo::{raw, Arrival, Client, Place, Received, Table};
 
@@ -24,6 +25,7 @@ pub enum Way {
 }
 
 /// The reference's table, and the library's beside it.
+#[derive(Clone)]
 pub struct Pair {
     pub plain: World,
     records: Vec<Client>,
@@ -42,6 +44,21 @@ impl Pair {
         }
     }
 
+    /// Puts a record in the place of the first one, on both sides.
+    pub fn set_record(&mut self, record: plain::Record) {
+        self.records[0] = Client::from_bytes(bytes_of(&record));
+        self.plain.records[0] = record;
+    }
+
+    /// Takes back calls that changed only the first `reach` bytes of the store:
+    /// the reference says so, and the library was compared with it.
+    fn take_back(&mut self, before: &Pair, reach: usize) {
+        self.plain.records.clone_from(&before.plain.records);
+        self.records.clone_from(&before.records);
+        self.plain.store[..reach].copy_from_slice(&before.plain.store[..reach]);
+        self.store[..reach].copy_from_slice(&before.store[..reach]);
+    }
+
     /// The table as it is, with other lengths: what is refused with 20 must
     /// leave live records alone.
     fn resized(&self, lent: Lent) -> Pair {
@@ -54,10 +71,13 @@ impl Pair {
     /// Compares every byte of every record, and the whole store.
     fn compare(&self, shown: &dyn Fn() -> String) -> Check {
         for (number, record) in self.plain.records.iter().enumerate() {
-            let shown = || format!("{}\n  record {number}", shown());
-            let wanted = Client::from_bytes(bytes_of(record));
-            same(&Some(&wanted), &self.records.get(number), &shown)?;
-            same_bytes(&bytes_of(record), &self.records[number].to_bytes(), &shown)?;
+            let wanted = bytes_of(record);
+            let found = self.records.get(number);
+            if found.map(Client::to_bytes) != Some(wanted) {
+                let shown = || format!("{}\n  record {number}", shown());
+                same(&Some(&Client::from_bytes(wanted)), &found, &shown)?;
+                return Err(shown());
+            }
         }
         let shown = || format!("{}\n  store", shown());
         same_bytes(&self.plain.store, &self.store, &shown)
@@ -125,7 +145,7 @@ fn forged(random: &mut Random, counts: &mut Counts, way: Way, most: usize) -> Re
         generate::summed(random, &mut world.records[number]);
     }
     for record in &world.records {
-        count_completion(counts, record);
+        count_assemblies(counts, record);
         let sound = plain::record_test(record);
         counts.add("forged record", if sound { "sound" } else { "damaged" });
     }
@@ -136,6 +156,44 @@ fn forged(random: &mut Random, counts: &mut Counts, way: Way, most: usize) -> Re
     }
     Ok(most as u64)
 }
+
+/// How many originals `originals` sends, and how often it sends a fragment that
+/// is not taken.
+const ORIGINALS: u64 = 200;
+const TRIES: usize = 20;
+
+/// Whole originals, many of them in as many fragments as there may be, in any
+/// order and by either way: each fragment is sent until it was taken. Returns
+/// the calls made.
+pub fn originals(random: &mut Random, counts: &mut Counts) -> Result<u64, String> {
+    let mut made = 0;
+    for number in 0..ORIGINALS {
+        let way = [Way::Offered, Way::Received][(number % 2) as usize];
+        let mut pair = Pair::of(World::new(Lent::of(1)));
+        for call in &generate::original_calls(random) {
+            for _ in 0..TRIES {
+                let before = standing(&pair.plain, call);
+                run(random, counts, way, &mut pair, call)
+                    .map_err(|text| format!("original {number}: {text}"))?;
+                made += 1;
+                if standing(&pair.plain, call) != before {
+                    break;
+                }
+            }
+        }
+    }
+    Ok(made)
+}
+
+/// How many fragments of a call's original are held, and what was delivered.
+fn standing(world: &World, call: &Call) -> (usize, u64) {
+    let piece = call.piece_call();
+    let held = piece.map_or(0, |piece| generate::held_before(world, &piece));
+    (held, world.records[0].delivered)
+}
+
+/// The store's bytes that the fragments of `sweep` reach.
+const REACH: usize = 8;
 
 /// Every list of four fragments of one original from a small set: places 0
 /// to 3, one or two bytes, last or not, option start 0 or 1, two with other
@@ -169,12 +227,9 @@ fn sweep_from(
     if left == 0 {
         return Ok(());
     }
+    let mut next = pair.clone();
     for call in calls {
-        let mut next = Pair {
-            plain: pair.plain.clone(),
-            records: pair.records.clone(),
-            store: pair.store.clone(),
-        };
+        next.take_back(pair, REACH);
         run(random, counts, Way::Offered, &mut next, call)?;
         *made += 1;
         sweep_from(random, counts, calls, &next, left - 1, made)?;
@@ -196,7 +251,7 @@ fn small(place: usize, length: usize, last: bool, r: usize, other: u8) -> Call {
             bytes,
             last,
             r,
-            out: 4_096,
+            out: PLACE,
         },
     }
 }
@@ -205,8 +260,8 @@ fn small(place: usize, length: usize, last: bool, r: usize, other: u8) -> Call {
 fn wild(random: &mut Random, record: &mut plain::Record) {
     for _ in 0..1 + random.below(3) {
         let number = random.draw() >> random.below(64);
-        let assembly = &mut record.assemblies[random.below(4)];
-        let slot = &mut assembly.pieces[random.below(16)];
+        let assembly = &mut record.assemblies[random.below(ASSEMBLIES)];
+        let slot = &mut assembly.pieces[random.below(PIECES)];
         match random.below(16) {
             0 => record.time = number,
             1 => record.offered = number,
@@ -254,6 +309,8 @@ pub fn run(
     let before = random.byte();
     let mut left = vec![before; call.out_length()];
     let mut right = left.clone();
+    let held = call.piece_call();
+    let held = held.map(|piece| generate::held_before(&pair.plain, &piece));
     let expected = call.on_table(&mut pair.plain.records, &mut pair.plain.store, &mut left);
     let word = match call.ask {
         Ask::SetUp => "reset",
@@ -262,6 +319,9 @@ pub fn run(
         Ask::Bill { .. } => "account",
     };
     counts.add(word, &answer_word(&expected));
+    for name in generate::limit_sorts(held.unwrap_or(0), &expected) {
+        counts.add(word, name);
+    }
     let found = if random.one_in(2) {
         by_c(random, pair, call, &mut right)
     } else {
@@ -482,8 +542,12 @@ fn receive(
                 r: fragment.option_start,
             };
             let world = &mut pair.plain;
+            let held = generate::held_before(world, &call);
             let came = plain::piece(&mut world.records, &mut world.store, &call, &mut left);
             counts.add("receive", &answer_word(&came));
+            for name in generate::limit_sorts(held, &came) {
+                counts.add("receive", name);
+            }
             raw::Received {
                 what: 2,
                 answer: answer(&came),

@@ -4,11 +4,14 @@ use reference as plain;
 use reference::generate::Random;
 use wuraketozo::{raw, Account, Flow, PacketOffset, Place};
 
+/// How many bytes are shown.
+const SHOWN: usize = 10_000;
+
 /// Bytes in hex. Of long ones the front: the seed gives the rest.
 pub fn hex(bytes: &[u8]) -> String {
-    let shown = bytes.iter().take(4_096);
+    let shown = bytes.iter().take(SHOWN);
     let mut text: String = shown.map(|byte| format!("{byte:02x}")).collect();
-    if bytes.len() > 4_096 {
+    if bytes.len() > SHOWN {
         text += &format!(".. ({} bytes in all)", bytes.len());
     }
     text

@@ -48,6 +48,7 @@ fn wanted() -> Vec<String> {
     let numbers: Vec<String> = (20..=30).map(|number| number.to_string()).collect();
     let numbers: Vec<&str> = numbers.iter().map(String::as_str).collect();
     add("offer", &numbers);
+    add("offer", &generate::LIMIT_SORTS);
     add("advance", &["taken", "20", "21", "22", "27"]);
     add("account", &["taken", "20", "21", "22"]);
     add("receive", &["datagram", "1", "2", "3", "4"]);
@@ -56,12 +57,14 @@ fn wanted() -> Vec<String> {
     add("receive", &["padded before FRAG", "padded behind FRAG"]);
     add("receive", &["stored", "repeated", "conflict", "delivered"]);
     add("receive", &numbers);
+    add("receive", &generate::LIMIT_SORTS);
     add("forged record", &["sound", "damaged"]);
     add("record with one byte changed", &["sound", "damaged"]);
     let word = "forged assembly";
     add(word, &["no last one", "sum T, covered", "sum T, a gap"]);
     add(word, &["sum T with unused slots, a gap"]);
     add(word, &["other sum, covered", "other sum, a gap"]);
+    add("forged list", &generate::LIST_SORTS);
     names
 }
 

@@ -100,8 +100,10 @@ fn run(plan: &Plan, counts: &mut Counts) -> Result<(), String> {
     let start = Instant::now();
     let swept = if whole {
         calls::sweep(&mut random(seed, 0, 1), counts).map_err(told)?
+            + calls::originals(&mut random(seed, 0, 8), counts).map_err(told)?
             + records::sweep(&mut random(seed, 0, 2), counts).map_err(told)?
-            + records::sums(&mut random(seed, 0, 3), counts).map_err(told)?
+            + records::lists(&mut random(seed, 0, 3), counts).map_err(told)?
+            + records::overlaps(&mut random(seed, 0, 7), counts).map_err(told)?
     } else {
         0
     };

@@ -4,11 +4,12 @@
 use crate::calls::{run, Pair, Way};
 use crate::counts::Counts;
 use reference as plain;
-use reference::generate::{self, Ask, Call, Random, World};
+use reference::generate::{self, Ask, Call, Lent, Random, World};
+use reference::table::{ASSEMBLIES, PIECES, PLACE};
 use wuraketozo::{Client, SHARE};
 
-/// How many records `sums` makes.
-const SUMS: u64 = 10_000;
+/// How many records of each sort `lists` makes.
+const LISTS: u64 = 10_000;
 
 /// The bytes of a record.
 pub type Bytes = [u8; Client::SIZE];
@@ -127,12 +128,15 @@ fn known_end(held: &[plain::Slot]) -> Option<usize> {
     Some(usize::from(last.offset) + usize::from(last.length))
 }
 
-/// A place is held, looked at by itself.
-fn is_held(held: &[plain::Slot], place: usize) -> bool {
-    held.iter().any(|slot| {
+/// Of each place before `end` whether it is held.
+fn painted(held: &[plain::Slot], end: usize) -> Vec<bool> {
+    let mut places = vec![false; end];
+    for slot in held {
         let start = usize::from(slot.offset);
-        (start..start + usize::from(slot.length)).contains(&place)
-    })
+        let past = (start + usize::from(slot.length)).min(end);
+        places[start.min(end)..past].fill(true);
+    }
+    places
 }
 
 fn sum(slots: &[plain::Slot]) -> usize {
@@ -146,7 +150,7 @@ fn completion(assembly: &plain::Assembly) -> &'static str {
     let Some(end) = known_end(held) else {
         return "no last one";
     };
-    let covered = (0..end).all(|place| is_held(held, place));
+    let covered = painted(held, end).iter().all(|&held| held);
     match (sum(held) == end, covered) {
         (true, true) => "sum T, covered",
         (true, false) => "sum T, a gap",
@@ -157,10 +161,13 @@ fn completion(assembly: &plain::Assembly) -> &'static str {
 }
 
 /// Counts the forged assemblies of a record.
-pub fn count_completion(counts: &mut Counts, record: &plain::Record) {
+pub fn count_assemblies(counts: &mut Counts, record: &plain::Record) {
     for assembly in &record.assemblies {
         if assembly.count != 0 {
             counts.add("forged assembly", completion(assembly));
+            for name in generate::list_sorts(&assembly.pieces[..assembly.filled()]) {
+                counts.add("forged list", name);
+            }
         }
     }
 }
@@ -172,10 +179,11 @@ fn filling(random: &mut Random, record: &plain::Record) -> Option<Ask> {
     let live: Vec<_> = live.filter(|assembly| assembly.count != 0).collect();
     let assembly = random.pick(&live);
     let held = &assembly.pieces[..assembly.filled()];
-    let end = known_end(held).unwrap_or(4_096);
-    let place = (0..end).find(|&place| !is_held(held, place))?;
-    let past = (place..end).find(|&place| is_held(held, place));
-    let length = past.unwrap_or(end) - place;
+    let end = known_end(held).unwrap_or(PLACE);
+    let places = painted(held, end);
+    let place = places.iter().position(|&held| !held)?;
+    let open = places[place..].iter().take_while(|&&held| !held);
+    let length = open.count();
     let short = usize::from(length > 1 && random.one_in(4));
     Some(Ask::Piece {
         client: 0,
@@ -186,21 +194,27 @@ fn filling(random: &mut Random, record: &plain::Record) -> Option<Ask> {
         bytes: random.bytes(length - short),
         last: false,
         r: 0,
-        out: 4_096,
+        out: PLACE,
     })
 }
 
-/// Calls on records whose lengths sum to an end, or nearly: an account, the
-/// clock, what fills a gap, and calls that look at what is held. Returns the
-/// calls made.
-pub fn sums(random: &mut Random, counts: &mut Counts) -> Result<u64, String> {
+/// A sound record that was given another list of fragments; false if there is
+/// none to be replaced.
+type Change = fn(&mut Random, &mut plain::Record) -> bool;
+
+/// Calls on records with a list of fragments whose lengths sum to an end, or
+/// nearly, and on records with a list in any order that may overlap: an
+/// account, the clock, what fills a gap, and calls that look at what is held.
+/// Returns the calls made.
+pub fn lists(random: &mut Random, counts: &mut Counts) -> Result<u64, String> {
+    let changes: [Change; 2] = [generate::summed, generate::crossed];
     let mut made = 0;
-    for number in 0..SUMS {
+    for number in 0..2 * LISTS {
         let mut record = generate::sound_record(random);
-        if !generate::summed(random, &mut record) {
+        if !changes[(number % 2) as usize](random, &mut record) {
             continue;
         }
-        count_completion(counts, &record);
+        count_assemblies(counts, &record);
         let mut asks = vec![Ask::Bill { client: 0 }];
         let time = record.time;
         asks.push(Ask::Clock { client: 0, time });
@@ -209,11 +223,123 @@ pub fn sums(random: &mut Random, counts: &mut Counts) -> Result<u64, String> {
         let records = vec![record];
         let mut pair = Pair::of(World { records, store });
         asks.extend((0..2).map(|_| generate::call_on(random, &pair.plain).ask));
+        let way = random.pick(&[Way::Offered, Way::Offered, Way::Received]);
         for ask in asks {
             let lent = pair.plain.lent();
-            run(random, counts, Way::Offered, &mut pair, &Call { lent, ask })
+            run(random, counts, way, &mut pair, &Call { lent, ask })
                 .map_err(|text| format!("record {number}, {record:?}: {text}"))?;
             made += 1;
+        }
+    }
+    Ok(made)
+}
+
+/// A fragment that is held.
+fn slot(start: usize, end: usize) -> plain::Slot {
+    plain::Slot {
+        offset: start as u16,
+        length: (end - start) as u16,
+        ..plain::Slot::default()
+    }
+}
+
+/// Asks for the account of a record with this list of fragments; it passes
+/// exactly if `sound`.
+fn asked(
+    random: &mut Random,
+    counts: &mut Counts,
+    pair: &mut Pair,
+    list: &[plain::Slot],
+    sound: bool,
+) -> Result<(), String> {
+    let mut record = plain::fresh();
+    record.assemblies[0].count = list.len() as u64;
+    record.assemblies[0].pieces[..list.len()].copy_from_slice(list);
+    record.held = sum(list) as u64;
+    record.offered = record.held;
+    let shown = |text: String| format!("fragments {list:?}: {text}");
+    if plain::record_test(&record) != sound {
+        return Err(shown(String::from("the reference's record test is wrong")));
+    }
+    pair.set_record(record);
+    let call = Call {
+        lent: pair.plain.lent(),
+        ask: Ask::Bill { client: 0 },
+    };
+    run(random, counts, Way::Offered, pair, &call).map_err(shown)?;
+    Ok(())
+}
+
+/// The orders of a full list: as it is, from behind, from both ends inwards,
+/// and mixed.
+const ORDERS: [fn(usize) -> usize; 4] = [
+    |at| at,
+    |at| PIECES - 1 - at,
+    |at| {
+        if at % 2 == 0 {
+            at / 2
+        } else {
+            PIECES - 1 - at / 2
+        }
+    },
+    |at| at * 27 % PIECES,
+];
+
+/// Two fragments that share one byte or touch, at every place and in either
+/// order; every range in the first two blocks of 64 places, with a byte in it
+/// or beside it; and full lists in every order, with a byte that two of them
+/// share at every border, or a range twice. Returns the calls made.
+pub fn overlaps(random: &mut Random, counts: &mut Counts) -> Result<u64, String> {
+    let mut pair = Pair::of(World::new(Lent::of(1)));
+    let mut made = 0;
+    let mut ask = |list: &[plain::Slot], sound| {
+        made += 1;
+        asked(random, counts, &mut pair, list, sound)
+    };
+    for place in 1..PLACE - 1 {
+        let low = [slot(0, place), slot(0, place + 1)];
+        let high = slot(place, PLACE);
+        ask(&[low[0], high], true)?;
+        ask(&[high, low[0]], true)?;
+        ask(&[low[1], high], false)?;
+        ask(&[high, low[1]], false)?;
+        let byte = slot(place, place + 1);
+        ask(&[slot(place + 1, PLACE), byte, low[0]], true)?;
+        ask(&[slot(place + 1, PLACE), byte, low[1]], false)?;
+    }
+    for start in 0..2 * 64 {
+        for end in start + 1..=2 * 64 {
+            let range = slot(start, end);
+            ask(&[slot(end, end + 1), range], true)?;
+            ask(&[slot(end - 1, end), range], false)?;
+            ask(&[range, slot(start, start + 1)], false)?;
+            if start > 0 {
+                ask(&[range, slot(start - 1, start)], true)?;
+            }
+        }
+    }
+    let step = PLACE / PIECES;
+    let full: Vec<plain::Slot> = (0..PIECES)
+        .map(|at| slot(step * at, step * at + step))
+        .collect();
+    for order in ORDERS {
+        let put = |list: &[plain::Slot]| -> Vec<plain::Slot> {
+            (0..PIECES).map(|at| list[order(at)]).collect()
+        };
+        ask(&put(&full), true)?;
+        for at in 1..PIECES {
+            let mut gap = full.clone();
+            gap[at].length -= 1;
+            ask(&put(&gap), true)?;
+            let mut list = full.clone();
+            list[at] = slot(step * at - 1, step * at + step);
+            ask(&put(&list), false)?;
+            let mut list = full.clone();
+            list[at - 1].length += 1;
+            ask(&put(&list), false)?;
+            let mut list = full.clone();
+            list[at] = list[PIECES - 1 - at];
+            ask(&put(&list), false)?;
         }
     }
     Ok(made)
@@ -227,11 +353,12 @@ pub fn sweep(random: &mut Random, counts: &mut Counts) -> Result<u64, String> {
         let world = generate::forged_world(random, 1);
         let live = world.records[0].assemblies.iter();
         let live = live.filter(|assembly| assembly.count != 0).count();
-        if plain::record_test(&world.records[0]) && (1..4).contains(&live) {
+        if plain::record_test(&world.records[0]) && (1..ASSEMBLIES).contains(&live) {
             break world;
         }
     };
     let bytes = bytes_of(&sound.records[0]);
+    let mut pair = Pair::of(sound);
     for at in 0..Client::SIZE {
         for value in 0..=u8::MAX {
             let mut changed = bytes;
@@ -245,10 +372,7 @@ pub fn sweep(random: &mut Random, counts: &mut Counts) -> Result<u64, String> {
                     "damaged"
                 },
             );
-            let mut pair = Pair::of(World {
-                records: vec![record],
-                store: sound.store.clone(),
-            });
+            pair.set_record(record);
             let ask = if value % 2 == 0 {
                 Ask::Bill { client: 0 }
             } else {

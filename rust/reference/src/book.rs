@@ -1,10 +1,11 @@
 //! "A client's plain book" (section "The table", last paragraph): the same
 //! answers and figures from a flat list of open pieces. It follows one
 //! client's calls, knows of the table only the record count and the store's
-//! length, and shares no code with the table, only the types of arguments
-//! and answers.
+//! length, and shares no code with the table, only the limits and the types
+//! of arguments and answers.
 
 use crate::table::{Account, Answer, Flow, PieceCall};
+use crate::table::{ASSEMBLIES, CLIENTS_MOST, LIFE, OFFERED_MOST, PIECES, PLACE, SHARE};
 
 /// An open piece.
 #[derive(Clone, Debug, PartialEq, Eq)]
@@ -32,7 +33,7 @@ pub struct Book {
 }
 
 fn table_refused(records: usize, store: usize) -> bool {
-    !(1..=12).contains(&records) || store != 16_384 * records
+    !(1..=CLIENTS_MOST).contains(&records) || store != SHARE * records
 }
 
 impl Book {
@@ -104,13 +105,13 @@ impl Book {
         if self.client >= records {
             return Answer::Refused(21);
         }
-        if out.len() < 4_096 {
+        if out.len() < PLACE {
             return Answer::Refused(23);
         }
         if length == 0 {
             return Answer::Refused(24);
         }
-        if length > 4_096 || call.place > 4_096 - length {
+        if length > PLACE || call.place > PLACE - length {
             return Answer::Refused(25);
         }
         if call.last && call.r > call.place + length {
@@ -119,7 +120,7 @@ impl Book {
         if call.time < self.time {
             return Answer::Refused(27);
         }
-        if u128::from(self.offered) + length as u128 > 1_000_000_000_000_000 {
+        if u128::from(self.offered) + length as u128 > u128::from(OFFERED_MOST) {
             return Answer::Refused(28);
         }
         self.pass_time(call.time);
@@ -127,7 +128,7 @@ impl Book {
 
         let key = (call.flow, call.identification);
         let mine: Vec<&OpenPiece> = self.open.iter().filter(|open| open.key == key).collect();
-        if mine.is_empty() && self.live_keys() >= 4 {
+        if mine.is_empty() && self.live_keys() >= ASSEMBLIES {
             self.turned_away += length as u64;
             return Answer::Refused(29);
         }
@@ -139,7 +140,7 @@ impl Book {
             self.clashed += self.close(key) + length as u64;
             return Answer::Clash;
         }
-        if mine.len() >= 16 {
+        if mine.len() >= PIECES {
             self.turned_away += length as u64;
             return Answer::Refused(30);
         }
@@ -166,7 +167,7 @@ impl Book {
         let keys: Vec<(Flow, u32)> = self.open.iter().map(|open| open.key).collect();
         for key in keys {
             let opened = self.open.iter().find(|open| open.key == key);
-            let old = opened.is_some_and(|first| time.saturating_sub(first.time) >= 120_000);
+            let old = opened.is_some_and(|first| time.saturating_sub(first.time) >= LIFE);
             if old {
                 self.expired += self.close(key);
             }

@@ -11,7 +11,7 @@ use crate::reader::{
 };
 use crate::table::{
     bill, clock, fresh, piece, record_test, set_up, Answer, Assembly, Flow, PieceCall, Record,
-    Slot, ASSEMBLIES, LIFE, OFFERED_MOST, PIECES, PLACE, SHARE,
+    Slot, ASSEMBLIES, CLIENTS_MOST, LIFE, OFFERED_MOST, PIECES, PLACE, SHARE,
 };
 use crate::writer::write;
 use std::collections::BTreeMap;
@@ -724,7 +724,7 @@ impl Lent {
 
     /// Whether 20 lets it pass.
     pub fn passes(&self) -> bool {
-        (1..=12).contains(&self.records) && self.store == self.records * SHARE
+        (1..=CLIENTS_MOST).contains(&self.records) && self.store == self.records * SHARE
     }
 }
 
@@ -816,7 +816,8 @@ impl Call {
         }
     }
 
-    fn piece_call(&self) -> Option<PieceCall<'_>> {
+    /// The arguments of a piece call; none for another call.
+    pub fn piece_call(&self) -> Option<PieceCall<'_>> {
         match &self.ask {
             Ask::Piece {
                 client,
@@ -882,26 +883,74 @@ impl World {
     }
 }
 
-/// The original that a key's pieces are cut from.
+/// The original that a key's pieces are cut from, and the order in which they
+/// mostly come.
 #[derive(Clone, Debug)]
 struct Plan {
     cuts: Vec<usize>,
     r: usize,
+    order: Vec<usize>,
 }
 
 fn plan(random: &mut Random) -> Plan {
-    let t = random.pick(&[1, 2, 12, 24, 40, 40, 300, 4_096]);
-    let inner = random.pick(&[0, 1, 2, 4, 15, 22, 30]).min(t - 1);
+    let t = random.pick(&[1, 2, 12, 40, 40, 100, PLACE - 1, PLACE]);
+    let count = random.pick(&[1, 2, 3, 5, 17, PIECES - 1, PIECES, PIECES + 1]);
+    planned(random, t, count)
+}
+
+/// A plan with about as many pieces as an assembly may have.
+fn long_plan(random: &mut Random) -> Plan {
+    let t = random.pick(&[100, 300, PLACE - 1, PLACE]);
+    let count = random.pick(&[PIECES - 1, PIECES, PIECES + 1, PIECES + 1]);
+    planned(random, t, count)
+}
+
+fn planned(random: &mut Random, t: usize, count: usize) -> Plan {
+    let cuts = cuts(random, t, count.min(t));
+    let mut order: Vec<usize> = (0..cuts.len() - 1).collect();
+    arrange(random, &mut order);
+    let r = random.pick(&[0, t / 2, t]);
+    Plan { cuts, r, order }
+}
+
+/// Where an original of `t` bytes is cut into `count` pieces: both ends, and
+/// what lies between, rising.
+fn cuts(random: &mut Random, t: usize, count: usize) -> Vec<usize> {
     let mut cuts = vec![0, t];
-    while cuts.len() < inner + 2 {
+    while cuts.len() <= count {
         let cut = 1 + random.below(t - 1);
         if !cuts.contains(&cut) {
             cuts.push(cut);
         }
     }
     cuts.sort_unstable();
-    let r = random.pick(&[0, t / 2, t]);
-    Plan { cuts, r }
+    cuts
+}
+
+/// Puts what rises into an order: as it is, from behind, from both ends
+/// inwards, or mixed.
+fn arrange<T: Clone>(random: &mut Random, list: &mut [T]) {
+    let count = list.len();
+    match random.below(4) {
+        0 => {}
+        1 => list.reverse(),
+        2 => {
+            let rising = list.to_vec();
+            for (at, item) in list.iter_mut().enumerate() {
+                let from = if at % 2 == 0 {
+                    at / 2
+                } else {
+                    count - 1 - at / 2
+                };
+                *item = rising[from].clone();
+            }
+        }
+        _ => {
+            for at in (1..count).rev() {
+                list.swap(at, random.below(at + 1));
+            }
+        }
+    }
 }
 
 /// Six keys that differ in one component each.
@@ -933,7 +982,7 @@ fn content(number: usize, place: usize) -> u8 {
 fn wrong_lent(random: &mut Random, right: Lent) -> Lent {
     let wrong = match random.below(7) {
         0 => Lent::of(0),
-        1 => Lent::of(13),
+        1 => Lent::of(CLIENTS_MOST + 1),
         2 => Lent {
             records: right.records + 1,
             ..right
@@ -983,12 +1032,19 @@ fn next_time(random: &mut Random, now: &mut u64, pace: usize) -> u64 {
 /// 20 lets pass gets the table of the last set-up taken.
 pub fn calls(random: &mut Random, clients: usize, count: usize) -> Vec<Call> {
     let mut table = Lent::of(1 + random.below(clients));
-    let mut now = [0u64; 13];
-    let pace = random.pick(&[50, 400]);
-    // A calm list changes little and favours one client and one key, so that
-    // assemblies grow to 16 pieces.
+    // Of each client and of one that is none: the time, and how far it is in
+    // the plan of each key.
+    let mut now = [0u64; CLIENTS_MOST + 1];
+    let mut sent = [[0usize; 6]; CLIENTS_MOST + 1];
+    // A calm list changes little, has a place for each key, and favours one
+    // client and one key, so that assemblies grow to the limit.
     let calm = random.one_in(2);
-    let mut plans: Vec<Plan> = (0..6).map(|_| plan(random)).collect();
+    let keys = if calm { ASSEMBLIES } else { 6 };
+    let pace = if calm { 1_000 } else { random.pick(&[50, 400]) };
+    let mut plans: Vec<Plan> = (0..keys).map(|_| plan(random)).collect();
+    if calm {
+        plans[0] = long_plan(random);
+    }
     let mut list = vec![Call {
         lent: table,
         ask: Ask::SetUp,
@@ -999,14 +1055,15 @@ pub fn calls(random: &mut Random, clients: usize, count: usize) -> Vec<Call> {
             lent = wrong_lent(random, table);
         }
         let client = if random.one_in(50) {
-            random.pick(&[table.records, 12, 13, usize::MAX])
-        } else if calm && random.one_in(2) {
+            random.pick(&[table.records, CLIENTS_MOST, CLIENTS_MOST + 1, usize::MAX])
+        } else if calm && !random.one_in(4) {
             0
         } else {
             random.below(table.records)
         };
+        let known = client.min(CLIENTS_MOST);
         let ask = match random.below(100) {
-            0 if random.one_in(2) => {
+            0 if random.one_in(if calm { 8 } else { 2 }) => {
                 match random.below(3) {
                     0 => lent = wrong_lent(random, table),
                     1 if lent == table => {
@@ -1016,24 +1073,35 @@ pub fn calls(random: &mut Random, clients: usize, count: usize) -> Vec<Call> {
                     _ => {}
                 }
                 if lent == table {
-                    now = [0; 13];
+                    now = [0; CLIENTS_MOST + 1];
                 }
                 Ask::SetUp
             }
             1..=4 => Ask::Clock {
                 client,
-                time: next_time(random, &mut now[client.min(12)], pace),
+                time: next_time(random, &mut now[known], pace),
             },
             5..=8 => Ask::Bill { client },
             _ => {
-                let favoured = calm && random.one_in(2);
-                let number = if favoured { 0 } else { random.below(6) };
-                if random.one_in(if calm { 150 } else { 20 }) {
-                    plans[number] = plan(random);
+                let favoured = calm && !random.one_in(4);
+                let number = if favoured { 0 } else { random.below(keys) };
+                if random.one_in(if calm { 300 } else { 20 }) {
+                    plans[number] = if favoured {
+                        long_plan(random)
+                    } else {
+                        plan(random)
+                    };
                 }
-                let changed = random.one_in(if calm { 100 } else { 7 });
-                let time = next_time(random, &mut now[client.min(12)], pace);
-                planned_piece(random, &plans[number], number, client, time, changed)
+                let changed = random.one_in(if calm { 200 } else { 7 });
+                let time = next_time(random, &mut now[known], pace);
+                let plan = &plans[number];
+                let index = if random.one_in(8) || lent != table {
+                    random.pick(&plan.order)
+                } else {
+                    sent[known][number] += 1;
+                    plan.order[(sent[known][number] - 1) % plan.order.len()]
+                };
+                planned_piece(random, plan, index, number, client, time, changed)
             }
         };
         list.push(Call { lent, ask });
@@ -1041,21 +1109,39 @@ pub fn calls(random: &mut Random, clients: usize, count: usize) -> Vec<Call> {
     list
 }
 
+/// The pieces of one original, at one time and in any order: as many as an
+/// assembly may have, or nearly, or some.
+pub fn original_calls(random: &mut Random) -> Vec<Call> {
+    let t = random.pick(&[100, 300, PLACE - 1, PLACE]);
+    let count = random.pick(&[2, 17, PIECES - 1, PIECES, PIECES]);
+    let plan = planned(random, t, count);
+    let lent = Lent::of(1);
+    let one = |&index: &usize| Call {
+        lent,
+        ask: planned_piece(random, &plan, index, 0, 0, 5, false),
+    };
+    plan.order.iter().map(one).collect()
+}
+
 /// A piece of a plan, as it should be or with one thing changed.
 fn planned_piece(
     random: &mut Random,
     plan: &Plan,
+    index: usize,
     number: usize,
     client: usize,
     time: u64,
     changed: bool,
 ) -> Ask {
     let (flow, identification) = key(number);
-    let index = random.below(plan.cuts.len() - 1);
     let mut place = plan.cuts[index];
     let mut end = plan.cuts[index + 1];
     let mut last = index + 2 == plan.cuts.len();
-    let mut r = if last { plan.r } else { random.below(5_000) };
+    let mut r = if last {
+        plan.r
+    } else {
+        random.below(PLACE + 1_000)
+    };
     let mut out = PLACE;
     let mut altered = false;
     match random.below(9) {
@@ -1133,7 +1219,7 @@ pub fn sound_record(random: &mut Random) -> Record {
         &mut record.repeated,
         &mut record.turned_away,
     ] {
-        *figure = random.pick(&[0, 0, 7, 4_096, 1 << 32]);
+        *figure = random.pick(&[0, 0, 7, PLACE as u64, 1 << 32]);
     }
     if random.one_in(3) {
         // Offered stands at or near its limit.
@@ -1154,38 +1240,60 @@ fn figures(record: &Record) -> u64 {
         + record.turned_away
 }
 
-/// Gives an assembly 1 to 16 pieces that don't overlap and are not whole.
+/// Gives an assembly pieces, up to the limit, that don't overlap and are not
+/// whole.
 fn sound_pieces(random: &mut Random, assembly: &mut Assembly) {
-    let step = random.pick(&[1usize, 2, 16, 256]);
-    let count = random.pick(&[1, 2, 5, 15, 16, 16]).min(PIECES);
-    // Every second cell, so that a gap is always left.
-    let mut cells: Vec<usize> = (0..PLACE / step).filter(|cell| cell % 2 == 1).collect();
-    cells.truncate(40);
-    for index in 0..count {
-        let Some(cell) = (!cells.is_empty()).then(|| cells.remove(random.below(cells.len())))
-        else {
-            break;
-        };
-        assembly.pieces[index] = Slot {
-            offset: (cell * step) as u16,
-            length: (1 + random.below(step)) as u16,
-            // Ignored in a piece that is not last.
-            option_start: random.pick(&[0, 0, 0, 9_999]),
-            last: 0,
-        };
-        assembly.count += 1;
-    }
+    let mut slots = scattered(random);
     if random.one_in(2) {
-        let furthest = assembly
-            .pieces
-            .iter_mut()
-            .max_by_key(|slot| slot.offset + slot.length);
-        if let Some(slot) = furthest {
-            // Any number but 0 says last.
-            slot.last = random.pick(&[1, 1, 2, 255, 256, u16::MAX]);
-            let end = slot.offset + slot.length;
-            slot.option_start = random.pick(&[0, end, end / 2]);
+        mark_last(random, &mut slots);
+    }
+    arrange(random, &mut slots);
+    assembly.count = slots.len() as u64;
+    assembly.pieces[..slots.len()].copy_from_slice(&slots);
+}
+
+/// Pieces that rise, some of them touching, with at least one gap before the
+/// end of the furthest. Many start or end beside a multiple of 64, at the
+/// front or at the limit.
+fn scattered(random: &mut Random) -> Vec<Slot> {
+    let count = random.pick(&[1, 2, 3, 5, 17, PIECES - 1, PIECES, PIECES]);
+    let end = random.pick(&[200, 300, PLACE - 1, PLACE, PLACE]);
+    let mut edges = vec![0, end];
+    while edges.len() < 2 * count + 2 {
+        let block = 64 * random.below(end / 64 + 1);
+        let edge = match random.below(4) {
+            0 => block,
+            1 => block + 1,
+            2 => block + 63,
+            _ => random.below(end),
+        };
+        if edge < end && !edges.contains(&edge) {
+            edges.push(edge);
         }
+    }
+    edges.sort_unstable();
+    // Of the ranges between two edges one stays open, and then as many as are
+    // too many; the last is held.
+    let mut ranges: Vec<&[usize]> = edges.windows(2).collect();
+    while ranges.len() > count {
+        ranges.remove(random.below(ranges.len() - 1));
+    }
+    let one = |range: &&[usize]| Slot {
+        offset: range[0] as u16,
+        length: (range[1] - range[0]) as u16,
+        // Ignored in a piece that is not last.
+        option_start: random.pick(&[0, 0, 0, 9_999]),
+        last: 0,
+    };
+    ranges.iter().map(one).collect()
+}
+
+/// Marks the last of pieces that rise. Any number but 0 says last.
+fn mark_last(random: &mut Random, slots: &mut [Slot]) {
+    if let Some(slot) = slots.last_mut() {
+        slot.last = random.pick(&[1, 1, 2, 255, 256, u16::MAX]);
+        let end = slot.offset + slot.length;
+        slot.option_start = random.pick(&[0, end, end / 2]);
     }
 }
 
@@ -1262,12 +1370,17 @@ pub fn damage(random: &mut Random, record: &mut Record, way: usize) -> bool {
             match way {
                 18 if time < u64::MAX => assembly.opened = time + 1,
                 19 if time >= LIFE => assembly.opened = time - LIFE,
-                20 => assembly.count = random.pick(&[17, 18, 255, 256, 272, u64::MAX]),
+                20 => {
+                    let past = PIECES as u64 + 1;
+                    assembly.count = random.pick(&[past, past + 1, 255, 256, past + 255, u64::MAX]);
+                }
                 // One more piece that is empty, one less that is left behind.
                 21 if count < PIECES => assembly.count += 1,
                 22 => assembly.count -= 1,
                 23 => assembly.pieces[slot].length = 0,
-                24 => assembly.pieces[slot].offset = 4_097 - assembly.pieces[slot].length,
+                24 => {
+                    assembly.pieces[slot].offset = PLACE as u16 + 1 - assembly.pieces[slot].length
+                }
                 25 => assembly.pieces[slot].offset = u16::MAX,
                 26 if count > 1 => {
                     let other = if slot == 0 { 1 } else { 0 };
@@ -1323,19 +1436,14 @@ pub fn damage(random: &mut Random, record: &mut Record, way: usize) -> bool {
     true
 }
 
-/// The pieces of an original of T bytes, mixed, with the last one marked:
-/// their lengths sum to T, and they cover it.
+/// The pieces of an original of T bytes, in any order, with the last one
+/// marked: their lengths sum to T, and they cover it.
 fn cut(random: &mut Random) -> Vec<Slot> {
-    let end = random.pick(&[1, 2, 8, 8, 40, 300, PLACE]);
-    let count = (1 + random.below(PIECES)).min(end);
-    let mut cuts = vec![0, end];
-    while cuts.len() <= count {
-        let cut = 1 + random.below(end - 1);
-        if !cuts.contains(&cut) {
-            cuts.push(cut);
-        }
-    }
-    cuts.sort_unstable();
+    let end = random.pick(&[1, 2, 8, 8, 64, 65, 300, PLACE - 1, PLACE]);
+    let most = random.pick(&[5, 17, PIECES]);
+    let some = 1 + random.below(most);
+    let count = random.pick(&[some, some, some, PIECES]).min(end);
+    let cuts = cuts(random, end, count);
     let one = |pair: &[usize]| Slot {
         offset: pair[0] as u16,
         length: (pair[1] - pair[0]) as u16,
@@ -1344,9 +1452,7 @@ fn cut(random: &mut Random) -> Vec<Slot> {
     let mut slots: Vec<Slot> = cuts.windows(2).map(one).collect();
     slots[count - 1].last = random.pick(&[1, 1, 2, 255, 256, u16::MAX]);
     slots[count - 1].option_start = random.below(end + 1) as u16;
-    for at in (1..count).rev() {
-        slots.swap(at, random.below(at + 1));
-    }
+    arrange(random, &mut slots);
     slots
 }
 
@@ -1393,17 +1499,88 @@ fn bend(random: &mut Random, slots: &mut Vec<Slot>) -> usize {
 /// last one's end, or nearly. The figures fit what is held then. False if none
 /// is live.
 pub fn summed(random: &mut Random, record: &mut Record) -> bool {
+    let mut slots = cut(random);
+    let count = bend(random, &mut slots);
+    replace_pieces(random, record, &slots, count)
+}
+
+/// Gives a live assembly of a sound record pieces that don't overlap, or of
+/// which one was stretched, moved or repeated, mostly by a byte. One may be
+/// marked last, and others may end past it. The figures fit what is held then.
+/// False if none is live.
+pub fn crossed(random: &mut Random, record: &mut Record) -> bool {
+    let mut slots = scattered(random);
+    if random.one_in(3) {
+        mark_last(random, &mut slots);
+    }
+    if !random.one_in(4) {
+        cross(random, &mut slots);
+    }
+    if random.one_in(12) {
+        let at = random.below(slots.len());
+        slots[at].last = 1;
+        slots[at].option_start = 0;
+    }
+    arrange(random, &mut slots);
+    if random.one_in(3) {
+        // Two of them change places, which may be all that does not rise.
+        let (one, other) = (random.below(slots.len()), random.below(slots.len()));
+        slots.swap(one, other);
+    }
+    let count = slots.len();
+    replace_pieces(random, record, &slots, count)
+}
+
+/// Changes one of pieces that rise: a byte more in front or behind, a
+/// neighbour's first or last byte, a range that is there already, or all from
+/// one to another.
+fn cross(random: &mut Random, slots: &mut [Slot]) {
+    let at = random.below(slots.len());
+    let other = slots[random.below(slots.len())];
+    let behind = slots.get(at + 1).copied();
+    let slot = &mut slots[at];
+    match random.below(6) {
+        0 if slot.offset > 0 => {
+            slot.offset -= 1;
+            slot.length += 1;
+        }
+        1 if usize::from(slot.offset + slot.length) < PLACE => slot.length += 1,
+        // Up to the first byte of what is next, that one included.
+        2 => {
+            if let Some(behind) = behind {
+                slot.length = behind.offset + 1 - slot.offset;
+            }
+        }
+        // The last byte of another, by itself.
+        3 => {
+            slot.offset = other.offset + other.length - 1;
+            slot.length = 1;
+        }
+        // The first byte of another, by itself.
+        4 => {
+            slot.offset = other.offset;
+            slot.length = 1;
+        }
+        _ => {
+            slot.offset = other.offset;
+            slot.length = other.length;
+        }
+    }
+}
+
+/// Puts other pieces in the place of a live assembly's, of which `count` are
+/// counted. The figures fit what is held then. False if none is live.
+fn replace_pieces(random: &mut Random, record: &mut Record, slots: &[Slot], count: usize) -> bool {
     let mut live: Vec<_> = record.assemblies.iter_mut().collect();
     live.retain(|assembly| assembly.count != 0);
     if live.is_empty() {
         return false;
     }
-    let mut slots = cut(random);
     let at = random.below(live.len());
     let assembly = &mut live[at];
-    assembly.count = bend(random, &mut slots) as u64;
-    assembly.pieces = Default::default();
-    assembly.pieces[..slots.len()].copy_from_slice(&slots);
+    assembly.count = count as u64;
+    assembly.pieces = [Slot::default(); PIECES];
+    assembly.pieces[..slots.len()].copy_from_slice(slots);
     let held = record.assemblies.iter();
     let held = held.flat_map(|assembly| &assembly.pieces[..assembly.filled()]);
     record.held = held.map(|slot| u64::from(slot.length)).sum();
@@ -1413,15 +1590,21 @@ pub fn summed(random: &mut Random, record: &mut Record) -> bool {
     true
 }
 
-/// A forged table: mostly sound records, a few with one damaged field, and
-/// a store of any bytes.
+/// A forged table: mostly sound records, a few with one damaged field or a
+/// list of pieces that may overlap, and a store of any bytes.
 pub fn forged_world(random: &mut Random, clients: usize) -> World {
     let records = (0..clients)
         .map(|_| {
             let mut record = sound_record(random);
-            if random.one_in(4) {
-                let way = random.below(DAMAGES);
-                damage(random, &mut record, way);
+            match random.below(8) {
+                0 | 1 => {
+                    let way = random.below(DAMAGES);
+                    damage(random, &mut record, way);
+                }
+                2 => {
+                    crossed(random, &mut record);
+                }
+                _ => {}
             }
             record
         })
@@ -1444,8 +1627,9 @@ pub fn call_on(random: &mut Random, world: &World) -> Call {
         1 => Ask::Bill { client },
         2 | 3 => {
             let plan = plan(random);
+            let index = random.pick(&plan.order);
             let number = random.below(6);
-            planned_piece(random, &plan, number, client, time, true)
+            planned_piece(random, &plan, index, number, client, time, true)
         }
         _ => near_piece(random, world, client, time),
     };
@@ -1556,6 +1740,144 @@ fn count_answer(coverage: &mut Coverage, call: &Call, answer: &Answer) {
     };
     count(coverage, format!("{}: {name}", call.word()));
 }
+
+/// How many pieces the assembly holds that a piece is for, at the time of its
+/// call.
+pub fn held_before(world: &World, piece: &PieceCall) -> usize {
+    let record = world.records.get(piece.client);
+    let held = record.and_then(|record| {
+        let mut live = record.assemblies.iter().filter(|a| a.count != 0);
+        live.find(|a| (a.flow, a.identification) == (piece.flow, piece.identification))
+    });
+    match held {
+        Some(assembly) if piece.time.saturating_sub(assembly.opened) < LIFE => assembly.filled(),
+        _ => 0,
+    }
+}
+
+/// What an answer to a piece has to do with the limits: names of
+/// [`LIMIT_SORTS`].
+pub fn limit_sorts(held: usize, answer: &Answer) -> Vec<&'static str> {
+    let mut names = Vec::new();
+    match answer {
+        Answer::Stored if held + 1 == PIECES => names.push("stored in the last slot"),
+        Answer::Stored if held >= 16 => names.push("stored behind 16 or more"),
+        Answer::Delivered { .. } if held + 1 == PIECES => names.push("delivered from all slots"),
+        Answer::Delivered { .. } if held >= 16 => names.push("delivered from 17 or more"),
+        _ => {}
+    }
+    if matches!(answer, Answer::Delivered { t: PLACE, .. }) {
+        names.push("delivered, the longest");
+    }
+    names
+}
+
+/// Every name that [`limit_sorts`] has.
+pub const LIMIT_SORTS: [&str; 5] = [
+    "stored in the last slot",
+    "stored behind 16 or more",
+    "delivered from all slots",
+    "delivered from 17 or more",
+    "delivered, the longest",
+];
+
+/// How a list of pieces is made up: how many, in which order, what overlaps,
+/// and where the last one stands. Names of [`LIST_SORTS`].
+pub fn list_sorts(pieces: &[Slot]) -> Vec<&'static str> {
+    let ranges: Vec<(usize, usize)> = pieces
+        .iter()
+        .map(|piece| (usize::from(piece.offset), usize::from(piece.length)))
+        .map(|(start, length)| (start, start + length))
+        .collect();
+    let mut names = vec![match pieces.len() {
+        0..=1 => "1 piece",
+        2..=16 => "2 to 16 pieces",
+        PIECES.. => "all slots",
+        _ => "17 pieces or more",
+    }];
+    names.push(order_of(&ranges));
+    names.extend(overlaps(&ranges));
+    let lasts = pieces.iter().enumerate().filter(|(_, p)| p.is_last());
+    let lasts: Vec<usize> = lasts.map(|(at, _)| at).collect();
+    names.push(match lasts[..] {
+        [] => "no last one",
+        [at] if ranges.iter().any(|range| range.1 > ranges[at].1) => "one past the last one's end",
+        [0] => "the last one came first",
+        [at] if at + 1 == pieces.len() => "the last one came last",
+        [_] => "the last one came between",
+        _ => "two last ones",
+    });
+    names
+}
+
+/// Rising: each starts where the one before it ends, or behind that.
+fn order_of(ranges: &[(usize, usize)]) -> &'static str {
+    if ranges.windows(2).all(|two| two[0].1 <= two[1].0) {
+        "rising"
+    } else if ranges.windows(2).all(|two| two[1].1 <= two[0].0) {
+        "falling"
+    } else {
+        "neither rising nor falling"
+    }
+}
+
+/// What two pieces have in common.
+fn overlaps(ranges: &[(usize, usize)]) -> Vec<&'static str> {
+    let mut names = Vec::new();
+    let mut shared = Vec::new();
+    for (at, one) in ranges.iter().enumerate() {
+        for (before, other) in ranges[..at].iter().enumerate() {
+            let (start, end) = (one.0.max(other.0), one.1.min(other.1));
+            if start < end {
+                shared.push((start, end - start, at - before));
+            }
+            if one == other && start < end {
+                names.push("a range twice");
+            }
+        }
+    }
+    match shared[..] {
+        [] => names.push("no overlap"),
+        [(place, 1, _)] => {
+            names.push("one byte twice");
+            match place % 64 {
+                0 => names.push("the first byte of 64 twice"),
+                63 => names.push("the last byte of 64 twice"),
+                _ => {}
+            }
+        }
+        _ => names.push("more bytes twice"),
+    }
+    if !shared.is_empty() && shared.iter().all(|&(_, _, apart)| apart > 1) {
+        names.push("overlaps only of others than neighbours");
+    }
+    names.dedup();
+    names
+}
+
+/// Every name that [`list_sorts`] has.
+pub const LIST_SORTS: [&str; 20] = [
+    "1 piece",
+    "2 to 16 pieces",
+    "17 pieces or more",
+    "all slots",
+    "rising",
+    "falling",
+    "neither rising nor falling",
+    "no overlap",
+    "one byte twice",
+    "the first byte of 64 twice",
+    "the last byte of 64 twice",
+    "more bytes twice",
+    "a range twice",
+    "overlaps only of others than neighbours",
+    "no last one",
+    "the last one came first",
+    "the last one came between",
+    "the last one came last",
+    "two last ones",
+    "one past the last one's end",
+];
 
 /// Tail or padded, and where, if FRAG is the first option that is no NOP.
 pub fn fault_led_by_frag(payload: &[u8], reading: &Reading) -> Option<&'static str> {
@@ -1705,15 +2027,24 @@ pub fn coverage(seed: u64, rounds: usize) -> Coverage {
         }
     }
     for round in 0..rounds.div_ceil(100) {
-        let clients = if round % 2 == 0 { 1 } else { 12 };
+        let clients = if round % 2 == 0 { 1 } else { CLIENTS_MOST };
         let mut world = World::new(Lent::of(1));
-        for call in calls(&mut random, clients, 200) {
+        for call in calls(&mut random, clients, 250) {
             let mut out = vec![0; call.out_length()];
+            let held = call.piece_call().map(|piece| held_before(&world, &piece));
             let answer = world.run(&call, &mut out);
             count_answer(&mut seen, &call, &answer);
+            for name in limit_sorts(held.unwrap_or(0), &answer) {
+                count(&mut seen, format!("piece: {name}"));
+            }
         }
         let mut world = forged_world(&mut random, 1 + round % 3);
         for record in &world.records {
+            for assembly in record.assemblies.iter().filter(|a| a.count != 0) {
+                for name in list_sorts(&assembly.pieces[..assembly.filled()]) {
+                    count(&mut seen, format!("forged list: {name}"));
+                }
+            }
             let word = if record_test(record) {
                 "sound"
             } else {
@@ -1788,6 +2119,8 @@ pub fn wanted() -> Vec<String> {
     for number in 20..=30 {
         add("piece", &[&format!("refused {number}")]);
     }
+    add("piece", &LIMIT_SORTS);
     add("forged record", &["sound", "damaged"]);
+    add("forged list", &LIST_SORTS);
     names
 }

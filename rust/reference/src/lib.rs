@@ -1,7 +1,7 @@
-//! A plain reference for document 01 with requests of document
-//! 02: the reader of IPv4 UDP payloads with RFC 9868 options, the writer, the
-//! reassembly table, a client's plain book and the program's text. Section
-//! names in comments are document 01's; "RFC" is RFC 9868.
+//! A plain reference for document 01 with requests of
+//! document 02: the reader of IPv4 UDP payloads with RFC 9868 options, the
+//! writer, the reassembly table, a client's plain book and the program's text.
+//! Section names in comments are document 01's; "RFC" is RFC 9868.
 #![forbid(unsafe_code)]
 
 pub mod book;

@@ -4,10 +4,11 @@
 pub const CLIENTS_MOST: usize = 12;
 /// Assemblies of one client.
 pub const ASSEMBLIES: usize = 4;
-/// Pieces of one assembly.
-pub const PIECES: usize = 16;
-/// Store bytes of one assembly, and the longest original.
-pub const PLACE: usize = 4_096;
+/// The most pieces of one assembly (refusal 30).
+pub const PIECES: usize = 64;
+/// Store bytes of one assembly, the longest original (refusal 25) and the
+/// smallest out buffer (refusal 23).
+pub const PLACE: usize = 8_192;
 /// Store bytes of one client.
 pub const SHARE: usize = ASSEMBLIES * PLACE;
 /// An assembly expires when it was opened this many ms ago or more.
@@ -35,13 +36,26 @@ pub struct Slot {
 }
 
 /// One assembly; it is live if its count is not 0.
-#[derive(Clone, Copy, Debug, PartialEq, Eq, Default)]
+#[derive(Clone, Copy, Debug, PartialEq, Eq)]
 pub struct Assembly {
     pub flow: Flow,
     pub identification: u32,
     pub opened: u64,
     pub count: u64,
     pub pieces: [Slot; PIECES],
+}
+
+impl Default for Assembly {
+    /// As in a fresh record.
+    fn default() -> Assembly {
+        Assembly {
+            flow: Flow::default(),
+            identification: 0,
+            opened: 0,
+            count: 0,
+            pieces: [Slot::default(); PIECES],
+        }
+    }
 }
 
 /// One client's record.
@@ -127,7 +141,8 @@ impl Assembly {
         self.count != 0
     }
 
-    /// How many pieces are held; all slots where a forged count is over 16.
+    /// How many pieces are held; all slots where a forged count is past
+    /// them.
     pub fn filled(&self) -> usize {
         usize::try_from(self.count).unwrap_or(PIECES).min(PIECES)
     }

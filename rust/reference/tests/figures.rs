@@ -1,5 +1,6 @@
 //! Document 01, "Figures to check by hand", 1 to 13.
 
+use reference::table::{PIECES, PLACE, SHARE};
 use reference::*;
 
 const SOURCE: [u8; 4] = [192, 0, 2, 1];
@@ -41,8 +42,8 @@ impl One {
     fn new() -> One {
         let mut one = One {
             records: vec![fresh(); 1],
-            store: vec![0; 16_384],
-            out: vec![0xEE; 4_096],
+            store: vec![0; SHARE],
+            out: vec![0xEE; PLACE],
         };
         assert_eq!(set_up(&mut one.records, &one.store), Answer::SetUp);
         one
@@ -201,22 +202,58 @@ fn figure_12_fifth_key() {
     assert_eq!(one.records[0].assemblies[0].identification, 4);
 }
 
+/// As document 02 has it.
 #[test]
 fn figure_13_limits() {
+    assert_eq!((PLACE, PIECES, SHARE), (8_192, 64, 32_768));
     let mut one = One::new();
-    assert_eq!(one.piece(0, 1, 4_090, &[1; 6], false), Answer::Stored);
-    assert_eq!(one.piece(0, 1, 4_090, &[1; 7], false), Answer::Refused(25));
+    let end = PLACE - 6;
+    assert_eq!(one.piece(0, 1, end, &[1; 6], false), Answer::Stored);
+    assert_eq!(one.piece(0, 1, end, &[1; 7], false), Answer::Refused(25));
+    assert_eq!(one.piece(0, 1, PLACE, &[1], false), Answer::Refused(25));
+    let whole = Answer::Delivered { t: PLACE, r: 0 };
+    assert_eq!(one.piece(0, 2, 0, &[1; PLACE], true), whole);
+    let long = one.piece(0, 2, 0, &[1; PLACE + 1], true);
+    assert_eq!(long, Answer::Refused(25));
     let mut one = One::new();
-    for place in 0..16 {
+    for place in 0..PIECES {
         assert_eq!(one.piece(0, 1, place, &[1], false), Answer::Stored);
     }
-    assert_eq!(one.piece(0, 1, 16, &[1], true), Answer::Refused(30));
-    assert_eq!(one.piece(0, 1, 15, &[1], false), Answer::Repeated);
-    assert_eq!(one.piece(0, 1, 15, &[2], false), Answer::Clash);
+    assert_eq!(one.piece(0, 1, PIECES, &[1], true), Answer::Refused(30));
+    let last = PIECES - 1;
+    assert_eq!(one.piece(0, 1, last, &[1], false), Answer::Repeated);
+    assert_eq!(one.piece(0, 1, last, &[2], false), Answer::Clash);
     let mut area = vec![0, 0];
     area.extend([9, 2].repeat(32));
     assert_eq!(verdict(&[], &area), Verdict::Read);
     area.extend([9, 2]);
     let crowded = Verdict::Crowded(PacketOffset(10 + 2 * 32));
     assert_eq!(verdict(&[], &area), crowded);
+}
+
+/// The longest original in as many pieces as there may be, in four orders:
+/// nothing goes out before the last of them.
+#[test]
+fn the_most_pieces_of_the_longest_original() {
+    let step = PLACE / PIECES;
+    let rising: Vec<usize> = (0..PIECES).collect();
+    let falling: Vec<usize> = (0..PIECES).rev().collect();
+    let inwards = (0..PIECES / 2).flat_map(|at| [at, PIECES - 1 - at]);
+    let mixed = (0..PIECES).map(|at| at * 27 % PIECES);
+    for order in [rising, falling, inwards.collect(), mixed.collect()] {
+        let mut one = One::new();
+        for (number, &at) in order.iter().enumerate() {
+            let bytes = vec![at as u8; step];
+            let answer = one.piece(0, 1, at * step, &bytes, at + 1 == PIECES);
+            if number + 1 == PIECES {
+                assert_eq!(answer, Answer::Delivered { t: PLACE, r: 0 });
+            } else {
+                assert_eq!(answer, Answer::Stored);
+                assert!(one.out.iter().all(|&byte| byte == 0xEE));
+                assert!(record_test(&one.records[0]));
+            }
+        }
+        let wanted: Vec<u8> = (0..PLACE).map(|place| (place / step) as u8).collect();
+        assert!(one.out == wanted);
+    }
 }

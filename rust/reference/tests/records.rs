@@ -1,8 +1,11 @@
 //! The record test against a second one that paints bytes, and on records
 //! with one damaged field.
 
-use reference::generate::{damage, sound_record, summed, Random, DAMAGES};
+use reference::generate::{crossed, damage, list_sorts, sound_record, summed};
+use reference::generate::{Random, DAMAGES, LIST_SORTS};
+use reference::table::{ASSEMBLIES, LIFE, OFFERED_MOST, PIECES, PLACE};
 use reference::*;
+use std::collections::BTreeMap;
 
 /// The record test, spelled over painted bytes and sets.
 fn second_test(record: &Record) -> bool {
@@ -15,7 +18,7 @@ fn second_test(record: &Record) -> bool {
             }
             continue;
         }
-        if assembly.count > 16 {
+        if assembly.count > PIECES as u64 {
             return false;
         }
         let key = (assembly.flow, assembly.identification);
@@ -24,10 +27,11 @@ fn second_test(record: &Record) -> bool {
         }
         keys.push(key);
         let age = i128::from(record.time) - i128::from(assembly.opened);
-        if !(0..120_000).contains(&age) {
+        if !(0..i128::from(LIFE)).contains(&age) {
             return false;
         }
-        let mut painted = vec![0u8; 131_072];
+        // Any 16-bit place and length.
+        let mut painted = vec![0u8; 1 << 17];
         let mut lasts = Vec::new();
         for (index, slot) in assembly.pieces.iter().enumerate() {
             if index as u64 >= assembly.count {
@@ -49,7 +53,7 @@ fn second_test(record: &Record) -> bool {
                 lasts.push((to, usize::from(slot.option_start)));
             }
         }
-        if painted.iter().any(|&times| times > 1) || painted[4_096..].contains(&1) {
+        if painted.iter().any(|&times| times > 1) || painted[PLACE..].contains(&1) {
             return false;
         }
         match lasts[..] {
@@ -73,7 +77,7 @@ fn second_test(record: &Record) -> bool {
     let sum: u128 = others.iter().map(|&figure| u128::from(figure)).sum();
     held == u128::from(record.held)
         && sum + held == u128::from(record.offered)
-        && record.offered <= 1_000_000_000_000_000
+        && record.offered <= OFFERED_MOST
 }
 
 #[test]
@@ -107,9 +111,9 @@ fn one_field_changed() {
             2 => u64::MAX,
             _ => random.draw(),
         };
-        let near = random.pick(&[value, record.time, record.time.wrapping_sub(119_999)]);
-        let a = random.below(4);
-        let s = random.below(16);
+        let near = random.pick(&[value, record.time, record.time.wrapping_sub(LIFE - 1)]);
+        let a = random.below(ASSEMBLIES);
+        let s = random.below(PIECES);
         let assembly = &mut record.assemblies[a];
         let slot = &mut assembly.pieces[s];
         match random.below(18) {
@@ -157,7 +161,7 @@ fn small_assemblies() {
             slot.option_start = random.below(10) as u16;
             slot.last = random.pick(&[0, 0, 0, 0, 0, 0, 1, 2]);
             if random.one_in(40) {
-                slot.offset += 4_090;
+                slot.offset += PLACE as u16 - 6;
             }
             record.held += u64::from(slot.length);
         }
@@ -188,4 +192,142 @@ fn summed_assemblies() {
         }
     }
     assert!(sound > 500 && damaged > 2_000, "{sound} {damaged}");
+}
+
+/// The record test against the second one, and whether it passes. The record
+/// has this list in its first assembly, and figures that fit.
+fn passes(slots: &[Slot]) -> bool {
+    let mut record = fresh();
+    record.assemblies[0].count = slots.len() as u64;
+    record.assemblies[0].pieces[..slots.len()].copy_from_slice(slots);
+    record.held = slots.iter().map(|slot| u64::from(slot.length)).sum();
+    record.offered = record.held;
+    assert_eq!(record_test(&record), second_test(&record), "{record:?}");
+    record_test(&record)
+}
+
+fn slot(start: usize, end: usize) -> Slot {
+    Slot {
+        offset: start as u16,
+        length: (end - start) as u16,
+        ..Slot::default()
+    }
+}
+
+/// Lists of up to the limit in any order, most with one small overlap.
+#[test]
+fn crossed_assemblies() {
+    let mut random = Random::new(16);
+    let mut seen = BTreeMap::new();
+    let mut sound = 0;
+    let mut damaged = 0;
+    for _ in 0..4_000 {
+        let mut record = sound_record(&mut random);
+        if !crossed(&mut random, &mut record) {
+            continue;
+        }
+        assert_eq!(record_test(&record), second_test(&record), "{record:?}");
+        if record_test(&record) {
+            sound += 1;
+        } else {
+            damaged += 1;
+        }
+        for assembly in record.assemblies.iter().filter(|a| a.count != 0) {
+            for name in list_sorts(&assembly.pieces[..assembly.filled()]) {
+                *seen.entry(name).or_insert(0) += 1;
+            }
+        }
+    }
+    println!("{seen:?}");
+    assert!(sound > 500 && damaged > 500, "{sound} {damaged}");
+    for name in LIST_SORTS {
+        assert!(seen.get(name).is_some_and(|&count| count > 20), "{name}");
+    }
+}
+
+/// The order of a list does not count: gaps are sound in every order, and one
+/// byte in two pieces never is.
+#[test]
+fn any_order() {
+    let step = PLACE / PIECES;
+    let gaps: Vec<Slot> = (0..PIECES)
+        .map(|at| slot(step * at, step * at + step - 1))
+        .collect();
+    // Each starts where the one before it ends, and none is last.
+    let touching: Vec<Slot> = (0..PIECES)
+        .map(|at| slot(step * at, step * at + step))
+        .collect();
+    let orders: [fn(usize) -> usize; 4] = [
+        |at| at,
+        |at| PIECES - 1 - at,
+        |at| at * 27 % PIECES,
+        |at| {
+            if at % 2 == 0 {
+                at / 2
+            } else {
+                PIECES - 1 - at / 2
+            }
+        },
+    ];
+    for order in orders {
+        let put = |list: &[Slot]| -> Vec<Slot> { (0..PIECES).map(|at| list[order(at)]).collect() };
+        assert!(passes(&put(&gaps)));
+        assert!(passes(&put(&touching)));
+        for at in 1..PIECES {
+            let mut list = touching.clone();
+            list[at].offset -= 1;
+            assert!(!passes(&put(&list)), "{at}, a byte in front");
+            list[at].length += 1;
+            assert!(!passes(&put(&list)), "{at}, a byte more in front");
+            let mut list = touching.clone();
+            list[at - 1].length += 1;
+            assert!(!passes(&put(&list)), "{at}, a byte behind");
+            let mut list = touching.clone();
+            list[at] = list[PIECES - 1 - at];
+            assert!(!passes(&put(&list)), "{at}, a range twice");
+        }
+    }
+}
+
+/// One byte that two pieces share, at each place; beside it they touch.
+#[test]
+fn one_byte_at_each_place() {
+    for place in 1..PLACE - 1 {
+        let (low, high) = (slot(0, place + 1), slot(place, PLACE));
+        for list in [[low, high], [high, low]] {
+            assert!(!passes(&list), "{place}");
+        }
+        let (low, high) = (slot(0, place), slot(place, PLACE));
+        for list in [[low, high], [high, low]] {
+            assert!(passes(&list), "{place}");
+        }
+        let byte = slot(place, place + 1);
+        assert!(!passes(&[byte, byte]), "{place}");
+        assert!(passes(&[
+            slot(place - 1, place),
+            byte,
+            slot(place + 1, place + 2)
+        ]));
+    }
+}
+
+/// The limits themselves.
+#[test]
+fn at_the_limits() {
+    let most: Vec<Slot> = (0..PIECES).map(|at| slot(at, at + 1)).collect();
+    assert!(passes(&most));
+    let mut record = fresh();
+    record.assemblies[0].pieces.copy_from_slice(&most);
+    record.held = PIECES as u64;
+    record.offered = record.held;
+    for (count, sound) in [(PIECES, true), (PIECES + 1, false), (PIECES - 1, false)] {
+        record.assemblies[0].count = count as u64;
+        assert_eq!(record_test(&record), sound, "{count}");
+        assert_eq!(second_test(&record), sound, "{count}");
+    }
+    assert!(passes(&[slot(PLACE - 1, PLACE)]));
+    assert!(passes(&[slot(0, PLACE)]));
+    assert!(!passes(&[slot(PLACE, PLACE + 1)]));
+    assert!(!passes(&[slot(0, PLACE + 1)]));
+    assert!(!passes(&[slot(1, PLACE + 1)]));
 }

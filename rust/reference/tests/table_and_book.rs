@@ -3,10 +3,10 @@
 use reference::generate::{
     book_of, call_on, calls, forged_world, sound_record, Call, Lent, Random, World,
 };
+use reference::generate::{held_before, limit_sorts, LIMIT_SORTS};
+use reference::table::{OFFERED_MOST, PLACE, SHARE};
 use reference::*;
 use std::collections::BTreeMap;
-
-const SHARE: usize = 16_384;
 
 /// Runs one call on both sides and compares the answer, every out byte, the
 /// figures, and what may not change.
@@ -108,7 +108,11 @@ fn run(seed: u64, lists: usize, clients: usize, length: usize) -> BTreeMap<Strin
         let mut world = World::new(Lent::of(1));
         let mut books = BTreeMap::new();
         for call in calls(&mut random, clients, length) {
+            let held = call.piece_call().map(|piece| held_before(&world, &piece));
             let answer = step(&mut world, &mut books, &call);
+            for name in limit_sorts(held.unwrap_or(0), &answer) {
+                *answers.entry(name.into()).or_insert(0) += 1;
+            }
             let name = match answer {
                 Answer::Billed(_) => "Billed".into(),
                 Answer::Delivered { .. } => "Delivered".into(),
@@ -131,6 +135,10 @@ fn run(seed: u64, lists: usize, clients: usize, length: usize) -> BTreeMap<Strin
         "Clocked",
     ] {
         assert!(answers.contains_key(name), "{name}");
+    }
+    for name in LIMIT_SORTS {
+        let count = answers.get(name);
+        assert!(count.is_some_and(|&count| count > 10), "{name}");
     }
     answers
 }
@@ -195,7 +203,7 @@ fn offered_reaches_its_limit() {
     record.assemblies = fresh().assemblies;
     (record.held, record.expired, record.clashed) = (0, 0, 0);
     (record.repeated, record.turned_away) = (0, 0);
-    record.delivered = 999_999_999_999_992;
+    record.delivered = OFFERED_MOST - 8;
     record.offered = record.delivered;
     record.time = 5;
     world.records[0] = record;
@@ -210,11 +218,11 @@ fn offered_reaches_its_limit() {
             last: true,
             r: 0,
         };
-        let mut out = [0; 4_096];
+        let mut out = [0; PLACE];
         let answer = piece(&mut world.records, &mut world.store, &call, &mut out);
         (answer, world.records[0].time, world.records[0].offered)
     };
-    let at_limit = 1_000_000_000_000_000;
+    let at_limit = OFFERED_MOST;
     let refused = Answer::Refused(28);
     assert_eq!(call(&[1; 9], 9), (refused, 5, at_limit - 8));
     // 27 before 28.
@@ -229,11 +237,11 @@ fn offered_reaches_its_limit() {
 fn checks_in_order() {
     let mut records = vec![fresh(); 2];
     records[1].time = 5;
-    records[1].delivered = 1_000_000_000_000_000;
-    records[1].offered = 1_000_000_000_000_001;
+    records[1].delivered = OFFERED_MOST;
+    records[1].offered = OFFERED_MOST + 1;
     let mut store = vec![0; 3 * SHARE];
-    let mut out = vec![0; 4_096];
-    let bytes = vec![1; 4_097];
+    let mut out = vec![0; PLACE];
+    let bytes = vec![1; PLACE + 1];
     let mut at = |records: &mut [Record], shares: usize, client, room: usize, call: PieceCall| {
         let call = PieceCall { client, ..call };
         let store = &mut store[..shares * SHARE];
@@ -244,32 +252,32 @@ fn checks_in_order() {
         time: 4,
         flow: Flow::default(),
         identification: 1,
-        place: 4_000,
+        place: PLACE - 96,
         bytes: &[],
         last: true,
-        r: 9_999,
+        r: PLACE + 1,
     };
-    assert_eq!(at(&mut records, 3, 2, 4_095, none), Answer::Refused(20));
-    assert_eq!(at(&mut records, 2, 2, 4_095, none), Answer::Refused(21));
-    assert_eq!(at(&mut records, 2, 1, 4_095, none), Answer::Refused(22));
-    records[1].offered = 1_000_000_000_000_000;
-    assert_eq!(at(&mut records, 2, 1, 4_095, none), Answer::Refused(23));
-    assert_eq!(at(&mut records, 2, 1, 4_096, none), Answer::Refused(24));
+    assert_eq!(at(&mut records, 3, 2, PLACE - 1, none), Answer::Refused(20));
+    assert_eq!(at(&mut records, 2, 2, PLACE - 1, none), Answer::Refused(21));
+    assert_eq!(at(&mut records, 2, 1, PLACE - 1, none), Answer::Refused(22));
+    records[1].offered = OFFERED_MOST;
+    assert_eq!(at(&mut records, 2, 1, PLACE - 1, none), Answer::Refused(23));
+    assert_eq!(at(&mut records, 2, 1, PLACE, none), Answer::Refused(24));
     let long = PieceCall {
         bytes: &bytes,
         ..none
     };
-    assert_eq!(at(&mut records, 2, 1, 4_096, long), Answer::Refused(25));
+    assert_eq!(at(&mut records, 2, 1, PLACE, long), Answer::Refused(25));
     let end = PieceCall {
         bytes: &bytes[..96],
         ..none
     };
-    assert_eq!(at(&mut records, 2, 1, 4_096, end), Answer::Refused(26));
-    let end = PieceCall { r: 4_096, ..end };
-    assert_eq!(at(&mut records, 2, 1, 4_096, end), Answer::Refused(27));
+    assert_eq!(at(&mut records, 2, 1, PLACE, end), Answer::Refused(26));
+    let end = PieceCall { r: PLACE, ..end };
+    assert_eq!(at(&mut records, 2, 1, PLACE, end), Answer::Refused(27));
     let end = PieceCall { time: 5, ..end };
-    assert_eq!(at(&mut records, 2, 1, 4_096, end), Answer::Refused(28));
+    assert_eq!(at(&mut records, 2, 1, PLACE, end), Answer::Refused(28));
     records[1].offered -= 96;
     records[1].delivered -= 96;
-    assert_eq!(at(&mut records, 2, 1, 4_096, end), Answer::Stored);
+    assert_eq!(at(&mut records, 2, 1, PLACE, end), Answer::Stored);
 }

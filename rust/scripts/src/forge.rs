@@ -1,7 +1,7 @@
 //! A record with one field set, as no call leaves it. A value that is too wide
 //! for its field loses its upper bits.
 
-use wuraketozo::{Assembly, Client, Held};
+use wuraketozo::{Assembly, Client, Held, ASSEMBLY_LIMIT, FRAGMENT_LIMIT};
 
 /// Fields 0 to 7 are the time and the figures, in document 01's order.
 pub fn forge(record: &mut Client, field: u64, place: usize, slot: usize, value: u64) {
@@ -14,7 +14,10 @@ pub fn forge(record: &mut Client, field: u64, place: usize, slot: usize, value: 
         5 => record.conflicted = value,
         6 => record.repeated = value,
         7 => record.rejected = value,
-        _ => forge_assembly(&mut record.assemblies[place % 4], field, slot, value),
+        _ => {
+            let assembly = &mut record.assemblies[place % ASSEMBLY_LIMIT];
+            forge_assembly(assembly, field, slot, value);
+        }
     }
 }
 
@@ -28,7 +31,10 @@ fn forge_assembly(assembly: &mut Assembly, field: u64, slot: usize, value: u64) 
         16 => assembly.flow.source = (value as u32).to_be_bytes(),
         17 => assembly.flow.destination = (value as u32).to_be_bytes(),
         18 => assembly.flow.destination_port = value as u16,
-        _ => forge_fragment(&mut assembly.fragments[slot % 16], field, value),
+        _ => {
+            let held = &mut assembly.fragments[slot % FRAGMENT_LIMIT];
+            forge_fragment(held, field, value);
+        }
     }
 }
 

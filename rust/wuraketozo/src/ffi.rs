@@ -202,7 +202,7 @@ mod c {
             buffer: *mut u8,
             room: usize,
         ) -> Written;
-        pub fn wuraketozo_layout_5() -> usize;
+        pub fn wuraketozo_layout_6() -> usize;
         pub fn wuraketozo_share_size() -> usize;
         pub fn wuraketozo_out_size() -> usize;
         pub fn wuraketozo_client_limit() -> usize;
@@ -260,7 +260,7 @@ mod c {
 /// A library of another layout has no symbol of this name, so that nothing
 /// that uses this crate links against it.
 #[used]
-static LAYOUT: unsafe extern "C" fn() -> usize = c::wuraketozo_layout_5;
+static LAYOUT: unsafe extern "C" fn() -> usize = c::wuraketozo_layout_6;
 
 #[inline]
 pub fn read(payload: &[u8], source: [u8; 4], destination: [u8; 4], strictness: u32) -> Reading {
@@ -363,7 +363,7 @@ pub fn sizes() -> [usize; 4] {
     // SAFETY: these take nothing and touch nothing.
     unsafe {
         [
-            c::wuraketozo_layout_5(),
+            c::wuraketozo_layout_6(),
             c::wuraketozo_share_size(),
             c::wuraketozo_out_size(),
             c::wuraketozo_client_limit(),
@@ -484,8 +484,10 @@ pub fn record_of(bytes: [u8; size_of::<Client>()]) -> Client {
 const NO_GAP: () = {
     assert!(size_of::<Flow>() == 4 + 4 + 2 + 2);
     assert!(size_of::<Held>() == 2 + 2 + 2 + 2);
-    assert!(size_of::<Assembly>() == size_of::<Flow>() + 4 + 8 + 8 + 16 * size_of::<Held>());
-    assert!(size_of::<Client>() == 8 * 8 + 4 * size_of::<Assembly>());
+    assert!(
+        size_of::<Assembly>() == size_of::<Flow>() + 4 + 8 + 8 + FRAGMENT_LIMIT * size_of::<Held>()
+    );
+    assert!(size_of::<Client>() == 8 * 8 + ASSEMBLY_LIMIT * size_of::<Assembly>());
 };
 
 /// A struct's name in C, its size, and where its fields stand.
@@ -509,15 +511,15 @@ macro_rules! layouts {
     };
 }
 
-use crate::record::{Assembly, Held};
+use crate::record::{Assembly, Held, ASSEMBLY_LIMIT, FRAGMENT_LIMIT};
 
 layouts! {
     Address "wuraketozo_address" 4 1: octets 0;
     Flow "wuraketozo_flow" 12 2: source 0, destination 4, source_port 8, destination_port 10;
     Held "wuraketozo_held" 8 2: offset 0, length 2, option_start 4, last 6;
-    Assembly "wuraketozo_assembly" 160 8:
+    Assembly "wuraketozo_assembly" 544 8:
         flow 0, identification 12, opened 16, count 24, fragments 32;
-    Client "wuraketozo_client" 704 8:
+    Client "wuraketozo_client" 2240 8:
         time 0, offered 8, held 16, delivered 24, expired 32, conflicted 40, repeated 48,
         rejected 56, assemblies 64;
     Account "wuraketozo_figures" 56 8:
@@ -544,7 +546,7 @@ layouts! {
 mod tests {
     use super::LAYOUTS;
     use crate::reading::tests::verdicts;
-    use crate::Strictness;
+    use crate::{Strictness, ASSEMBLY_LIMIT, CLIENT_LIMIT, FRAGMENT_LIMIT, ORIGINAL_LIMIT, SHARE};
     use std::io::Write;
     use std::process::{Command, Stdio};
 
@@ -570,6 +572,15 @@ mod tests {
             let (word, number) = (format!("{strictness:?}"), strictness.number());
             let name = format!("WURAKETOZO_{}", word.to_uppercase());
             text += &format!("_Static_assert({name} == {number}, \"{word}\");\n");
+        }
+        for (name, number) in [
+            ("CLIENT_LIMIT", CLIENT_LIMIT),
+            ("ASSEMBLY_LIMIT", ASSEMBLY_LIMIT),
+            ("FRAGMENT_LIMIT", FRAGMENT_LIMIT),
+            ("ORIGINAL_LIMIT", ORIGINAL_LIMIT),
+            ("SHARE", SHARE),
+        ] {
+            text += &format!("_Static_assert(WURAKETOZO_{name} == {number}, \"{name}\");\n");
         }
         let include = concat!(env!("CARGO_MANIFEST_DIR"), "/../../include");
         let spawned = Command::new("gcc")

@@ -23,7 +23,8 @@ pub use reading::{
     read, reread, Apc, Fragment, PacketOffset, Reading, Rereading, Strictness, Verdict,
 };
 pub use record::{
-    Account, Assembly, Client, Flow, Held, Place, CLIENT_LIMIT, ORIGINAL_LIMIT, SHARE,
+    Account, Assembly, Client, Flow, Held, Place, ASSEMBLY_LIMIT, CLIENT_LIMIT, FRAGMENT_LIMIT,
+    ORIGINAL_LIMIT, SHARE,
 };
 pub use refusal::Refusal;
 pub use table::{Answer, Arrival, Received, Table};

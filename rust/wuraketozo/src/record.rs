@@ -2,9 +2,13 @@
 
 /// The longest original that is put together, the smallest out buffer, and
 /// the bytes of the store for one assembly.
-pub const ORIGINAL_LIMIT: usize = 4_096;
-/// The bytes of the store for one client: four assemblies.
-pub const SHARE: usize = 16_384;
+pub const ORIGINAL_LIMIT: usize = 8_192;
+/// The most fragments of an original.
+pub const FRAGMENT_LIMIT: usize = 64;
+/// The most originals that are put together at once for a client.
+pub const ASSEMBLY_LIMIT: usize = 4;
+/// The bytes of the store for one client.
+pub const SHARE: usize = ASSEMBLY_LIMIT * ORIGINAL_LIMIT;
 /// The most clients of a table.
 pub const CLIENT_LIMIT: usize = 12;
 
@@ -46,7 +50,7 @@ pub struct Held {
 
 /// An original that is being put together. It is live if its count is not 0.
 #[repr(C)]
-#[derive(Clone, Copy, Debug, Default, PartialEq, Eq)]
+#[derive(Clone, Copy, Debug, PartialEq, Eq)]
 pub struct Assembly {
     /// With the identification, the key.
     pub flow: Flow,
@@ -57,7 +61,20 @@ pub struct Assembly {
     /// Fragments held.
     pub count: u64,
     /// The first `count` of them are in use, in order of arrival.
-    pub fragments: [Held; 16],
+    pub fragments: [Held; FRAGMENT_LIMIT],
+}
+
+impl Default for Assembly {
+    /// As in a fresh record.
+    fn default() -> Assembly {
+        Assembly {
+            flow: Flow::default(),
+            identification: 0,
+            opened: 0,
+            count: 0,
+            fragments: [Held::default(); FRAGMENT_LIMIT],
+        }
+    }
 }
 
 /// One client's record. `Client::default()` is a fresh one. A host need not
@@ -84,7 +101,7 @@ pub struct Client {
     /// Bytes turned away (refusals 29 and 30).
     pub rejected: u64,
     /// What is being put together.
-    pub assemblies: [Assembly; 4],
+    pub assemblies: [Assembly; ASSEMBLY_LIMIT],
 }
 
 impl Client {

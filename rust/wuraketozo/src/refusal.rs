@@ -58,17 +58,17 @@ refusals! {
     7 UnreadableList "the encoded option list can't be read",
     8 TooLarge "the result is too large for the buffer or for a payload",
     9 KindNotWritten "the encoded option list has a kind that is not to be written",
-    20 TableMisfit "not 1 to 12 records, or not 16,384 bytes of store for each",
+    20 TableMisfit "not 1 to 12 records, or not 32,768 bytes of store for each",
     21 NoSuchClient "there is no such client",
     22 UnsoundRecord "the client's record fails the record test",
-    23 OutTooShort "the out buffer is under 4,096 bytes",
+    23 OutTooShort "the out buffer is under 8,192 bytes",
     24 EmptyFragment "the fragment has no bytes",
-    25 EndPastLimit "the fragment ends past 4,096",
+    25 EndPastLimit "the fragment ends past 8,192",
     26 OptionStartPastEnd "the last fragment's option start is past its end",
     27 TimeBeforeLast "the time is before the client's last time",
     28 OfferedPastLimit "the client would have offered more than 10^15 bytes",
     29 NoFreeAssembly "the client has four originals under way already",
-    30 AssemblyFull "the original has 16 fragments already",
+    30 AssemblyFull "the original has 64 fragments already",
 }
 
 impl fmt::Display for Refusal {

@@ -335,23 +335,101 @@ fn figure_12_fifth_key() {
     assert_eq!((account.rejected, account.expired), (1, 1));
 }
 
+/// As document 02 has it.
 #[test]
 fn figure_13_limits() {
+    assert_eq!((ORIGINAL_LIMIT, FRAGMENT_LIMIT, SHARE), (8_192, 64, 32_768));
     let mut one = One::new();
-    assert_eq!(one.offer(0, 1, 4_095, b"x", false), Ok(Answer::Stored));
-    assert_eq!(
-        one.offer(0, 1, 4_096, b"x", false),
-        Err(Refusal::EndPastLimit)
-    );
-    for number in 0..16 {
+    let end = ORIGINAL_LIMIT - 1;
+    assert_eq!(one.offer(0, 1, end, b"x", false), Ok(Answer::Stored));
+    let past = Err(Refusal::EndPastLimit);
+    assert_eq!(one.offer(0, 1, ORIGINAL_LIMIT, b"x", false), past);
+    let delivered = Ok(Answer::Delivered {
+        length: ORIGINAL_LIMIT,
+        option_start: Place(0),
+    });
+    assert_eq!(one.offer(0, 3, 0, &[7; ORIGINAL_LIMIT], true), delivered);
+    assert_eq!(one.offer(0, 3, 0, &[7; ORIGINAL_LIMIT + 1], true), past);
+    for number in 0..FRAGMENT_LIMIT {
         assert_eq!(one.offer(0, 2, 2 * number, b"x", false), Ok(Answer::Stored));
     }
-    assert_eq!(one.offer(0, 2, 32, b"x", false), Err(Refusal::AssemblyFull));
+    let full = Err(Refusal::AssemblyFull);
+    assert_eq!(one.offer(0, 2, 2 * FRAGMENT_LIMIT, b"x", false), full);
+    let mut one = One::new();
+    one.out.pop();
+    assert_eq!(one.offer(0, 1, 0, b"x", true), Err(Refusal::OutTooShort));
+    one.store.pop();
+    assert_eq!(one.table().reset(), Err(Refusal::TableMisfit));
     let mut options = vec![0, 0];
     options.extend([9, 2].repeat(32));
     assert_eq!(verdict(&[], &options), Verdict::Read);
     options.extend([9, 2]);
     assert_eq!(verdict(&[], &options), crowded(74));
+}
+
+/// A number as the texts of refusals have it.
+fn grouped(number: usize) -> String {
+    match number / 1_000 {
+        0 => number.to_string(),
+        thousands => format!("{thousands},{:03}", number % 1_000),
+    }
+}
+
+/// The texts of refusals name the limits.
+#[test]
+fn texts_have_the_limits() {
+    for (refusal, limit) in [
+        (Refusal::TableMisfit, CLIENT_LIMIT),
+        (Refusal::TableMisfit, SHARE),
+        (Refusal::OutTooShort, ORIGINAL_LIMIT),
+        (Refusal::EndPastLimit, ORIGINAL_LIMIT),
+        (Refusal::AssemblyFull, FRAGMENT_LIMIT),
+    ] {
+        let (text, number) = (refusal.to_string(), grouped(limit));
+        let mut words = text.split([' ', ':']);
+        assert!(words.any(|word| word == number), "{text}: {number}");
+    }
+}
+
+/// As many fragments as an original may have, of the longest one, in four
+/// orders: nothing is handed out before the last of them.
+#[test]
+fn the_most_fragments_of_the_longest_original() {
+    const MOST: usize = FRAGMENT_LIMIT;
+    let step = ORIGINAL_LIMIT / MOST;
+    let orders: [fn(usize) -> usize; 4] = [
+        |at| at,
+        |at| MOST - 1 - at,
+        |at| at * 27 % MOST,
+        |at| {
+            if at % 2 == 0 {
+                at / 2
+            } else {
+                MOST - 1 - at / 2
+            }
+        },
+    ];
+    for order in orders {
+        let mut one = One::new();
+        for number in 0..MOST {
+            let at = order(number);
+            let answer = one.offer(0, 1, at * step, &vec![at as u8; step], at + 1 == MOST);
+            if number + 1 < MOST {
+                assert_eq!(answer, Ok(Answer::Stored));
+                assert!(one.out.iter().all(|&byte| byte == 0xEE));
+                assert_eq!(one.account().held, ((number + 1) * step) as u64);
+            } else {
+                let delivered = Answer::Delivered {
+                    length: ORIGINAL_LIMIT,
+                    option_start: Place(0),
+                };
+                assert_eq!(answer, Ok(delivered));
+            }
+        }
+        let wanted: Vec<u8> = (0..ORIGINAL_LIMIT).map(|at| (at / step) as u8).collect();
+        assert!(one.out == wanted);
+        assert_eq!(one.account().held, 0);
+    }
 }
 
 /// Document 02, R-7: the offset where a fault was met, behind other options and
