@@ -59,7 +59,7 @@ include-requires c κs =
     let same = held-at a (l .loop .k) none h in
     let sound = all-at soundFragment (heldFragments a) (l .loop .k) none h (l .before .pre .each) in
     rw (c .end-of .ensures, same)
-    (record { some = sound-some _ sound; room = omega (arith, sound-ends _ sound, l .loop .knv .3) })
+    (record { some = sound-some _ sound; room = omega (arith, sound-ends _ sound, l .loop .inv .3) })
 
 returns : tie.Need-returns Inv-loop μ-loop
 returns c =
@@ -69,7 +69,7 @@ returns c =
     let h : l .loop .k < length (heldFragments a) = omega (arith, l .before .pre .held .count) in
     let same = held-at a (l .loop .k) none h in
     let inc = rw (q .before .end-of .ensures, same) at (q .include .ensures) in
-    sym (taken-overlaps (heldFragments a) (l .loop .k) none h _ (l .loop .knv .1) (inc .taken (not-true _ (c .if1 .taken))))
+    sym (taken-overlaps (heldFragments a) (l .loop .k) none h _ (l .loop .inv .1) (inc .taken (not-true _ (c .if1 .taken))))
 
 add-k : tie.Need-add-k Inv-loop μ-loop
 unfolding fragmentLimit
@@ -88,10 +88,10 @@ loop-again c =
     let inc = rw (q .before .end-of .ensures, same) at (q .include .ensures) in
     let sound = all-at soundFragment (heldFragments a) (l .loop .k) none h (l .before .pre .each) in
     let each = all-front soundFragment (heldFragments a) (l .loop .k) (l .before .pre .each) in (
-      apart-more (heldFragments a) (l .loop .k) none h _ (l .loop .knv .1) sound each (l .loop .knv .0) (inc .clear (not-false _ (c .if1 .left))),
-      marks-more (heldFragments a) (l .loop .k) none h _ (l .loop .knv .1) _ (inc .joined),
+      apart-more (heldFragments a) (l .loop .k) none h _ (l .loop .inv .1) sound each (l .loop .inv .0) (inc .clear (not-false _ (c .if1 .left))),
+      marks-more (heldFragments a) (l .loop .k) none h _ (l .loop .inv .1) _ (inc .joined),
       omega arith,
-      inc .size ∙ l .loop .knv .3,
+      inc .size ∙ l .loop .inv .3,
     )
 
 returns-2 : tie.Need-returns-2 Inv-loop μ-loop
@@ -99,7 +99,7 @@ returns-2 c =
     let l = c .before in
     let a = l .before .args .t1 in
     let e : l .loop .k ≡ length (heldFragments a) = omega (arith, l .before .pre .held .count) in
-    sym (ap apartAll (sym (take-length (heldFragments a)) ∙ ap (λ (j : ℕ). take j (heldFragments a)) (sym e)) ∙ l .loop .knv .0)
+    sym (ap apartAll (sym (take-length (heldFragments a)) ∙ ap (λ (j : ℕ). take j (heldFragments a)) (sym e)) ∙ l .loop .inv .0)
 
 pub apart-spec : {M : Type 1} → statement M
 apart-spec =
