@@ -11,6 +11,7 @@ pub mod docket;
 pub mod generate;
 pub mod program;
 pub mod reader;
+pub mod swift;
 pub mod table;
 pub mod writer;
 
