@@ -16,14 +16,24 @@ pub trait Side {
 /// Makes one side of a case.
 pub type Make = Box<dyn Fn() -> Box<dyn Side>>;
 
-/// A case: its name, the calls of one `run`, both sides, and whether they
-/// answer alike.
+/// A case: its name, the calls of one `run`, its sides, and whether they
+/// answer alike. The table has a second reference, the good one.
 pub struct Case {
     pub name: String,
     pub calls: usize,
     pub library: Make,
     pub reference: Make,
+    pub good: Option<Make>,
     pub alike: Box<dyn Fn() -> bool>,
+}
+
+impl Case {
+    /// The names of the sides, and how each is made.
+    pub fn sides(&self) -> Vec<(&'static str, &Make)> {
+        let mut sides = vec![("library", &self.library), ("reference", &self.reference)];
+        sides.extend(self.good.iter().map(|make| ("good", make)));
+        sides
+    }
 }
 
 pub const FLOW: Flow = Flow {
@@ -98,6 +108,7 @@ fn case<S: 'static>(
                 call: reference,
             })
         }),
+        good: None,
         alike: Box::new(move || alike(&mut shared.borrow_mut())),
     }
 }

@@ -1,9 +1,11 @@
-//! Times the proved library beside the plain reference.
+//! Times the proved library beside the plain reference, and its table beside
+//! the good reference too.
 //!
-//!     bench [FILE]                 prints the table; puts it into FILE too
-//!     bench --count NUMBER SIDE N  runs case NUMBER, `library` or
-//!                                  `reference`, N times, for callgrind
-//!     bench --names                prints the numbers and names of the cases
+//!     bench [FILE]                 prints the tables; puts them into FILE too
+//!     bench --count NUMBER SIDE N  runs case NUMBER, `library`, `reference` or
+//!                                  `good`, N times, for callgrind
+//!     bench --names                prints the cases: number, calls, sides, name
+//!     bench --alike                has all sides of all cases answer alike
 #![deny(unsafe_code)]
 
 mod cases;
@@ -17,7 +19,7 @@ use std::time::Instant;
 const WARM_UP: usize = 50;
 const ROUNDS: usize = 1_001;
 
-/// Between these lines of FILE the table stands.
+/// Between these lines of FILE the tables stand.
 const BEGIN: &str = "<!-- table: written by make bench -->";
 const END: &str = "<!-- end of table -->";
 
@@ -34,39 +36,45 @@ fn median(mut values: Vec<f64>) -> f64 {
     values.get(values.len() / 2).copied().unwrap_or(0.0)
 }
 
+/// What came of a case: the nanoseconds of each side, and the library's over
+/// those of each other side.
 struct Result {
     name: String,
-    library: f64,
-    reference: f64,
-    ratio: f64,
+    times: Vec<f64>,
+    ratios: Vec<f64>,
 }
 
-/// Batches of both sides in turns, the first side changing each round.
+/// Batches of all sides in turns, the first side changing each round.
 fn measure(case: &Case) -> Result {
-    assert!((case.alike)(), "{}: the answers differ", case.name);
-    let (mut one, mut two) = ((case.library)(), (case.reference)());
-    let (mut library, mut reference, mut ratios) = (Vec::new(), Vec::new(), Vec::new());
+    check(case);
+    let mut sides: Vec<Box<dyn Side>> = case.sides().iter().map(|(_, make)| make()).collect();
+    let count = sides.len();
+    let mut times = vec![Vec::new(); count];
+    let mut ratios = vec![Vec::new(); count - 1];
     for round in 0..WARM_UP + ROUNDS {
-        let (left, right);
-        if round % 2 == 0 {
-            left = time(one.as_mut(), case.calls);
-            right = time(two.as_mut(), case.calls);
-        } else {
-            right = time(two.as_mut(), case.calls);
-            left = time(one.as_mut(), case.calls);
+        let mut taken = vec![0.0; count];
+        for turn in 0..count {
+            let at = (round + turn) % count;
+            taken[at] = time(sides[at].as_mut(), case.calls);
         }
         if round >= WARM_UP {
-            library.push(left);
-            reference.push(right);
-            ratios.push(left / right);
+            for (times, &taken) in times.iter_mut().zip(&taken) {
+                times.push(taken);
+            }
+            for (ratios, other) in ratios.iter_mut().zip(&taken[1..]) {
+                ratios.push(taken[0] / other);
+            }
         }
     }
     Result {
         name: case.name.clone(),
-        library: median(library),
-        reference: median(reference),
-        ratio: median(ratios),
+        times: times.into_iter().map(median).collect(),
+        ratios: ratios.into_iter().map(median).collect(),
     }
+}
+
+fn check(case: &Case) {
+    assert!((case.alike)(), "{}: the answers differ", case.name);
 }
 
 /// Nanoseconds, with a decimal where they are few.
@@ -78,23 +86,62 @@ fn nanoseconds(value: f64) -> String {
     }
 }
 
-fn table(results: &[Result]) -> String {
-    let mut text =
-        String::from("| work | library, ns | reference, ns | ratio |\n|---|---|---|---|\n");
-    for result in results {
-        text += &format!(
-            "| {} | {} | {} | {:.2} |\n",
-            result.name,
-            nanoseconds(result.library),
-            nanoseconds(result.reference),
-            result.ratio
-        );
+/// A line of a table: the name, the times, the ratios.
+fn line(result: &Result) -> String {
+    let times = result.times.iter().map(|&time| nanoseconds(time));
+    let ratios = result.ratios.iter().map(|ratio| format!("{ratio:.2}"));
+    let cells: Vec<String> = times.chain(ratios).collect();
+    format!("| {} | {} |\n", result.name, cells.join(" | "))
+}
+
+/// The lines of the results with so many sides, under a head.
+fn table(head: &str, sides: usize, results: &[Result]) -> String {
+    let mut text = format!("{head}\n|{}\n", "---|".repeat(2 * sides));
+    let lines = results.iter().filter(|result| result.times.len() == sides);
+    text.extend(lines.map(line));
+    text
+}
+
+/// How much longer a call takes with 63 fragments held of each original than
+/// with 16.
+fn growth(results: &[Result]) -> String {
+    let mut text = String::from(
+        "| 4 x 63 held over 4 x 16 held | library | plain | good |\n|---|---|---|---|\n",
+    );
+    for many in results {
+        let few = many.name.replace("4 x 63", "4 x 16");
+        let few = results.iter().find(|result| result.name == few);
+        if let Some(few) = few.filter(|few| few.name != many.name) {
+            let name = many.name.replace(" 4 x 63 held,", "");
+            let times = many.times.iter().zip(&few.times);
+            let cells: Vec<String> = times
+                .map(|(many, few)| format!("{:.2}", many / few))
+                .collect();
+            text += &format!("| {name} | {} |\n", cells.join(" | "));
+        }
     }
     text
 }
 
-/// Puts the table between the two marks of the file.
-fn update(path: &str, table: &str) -> std::io::Result<bool> {
+fn tables(results: &[Result]) -> String {
+    [
+        table(
+            "| work | library, ns | reference, ns | ratio |",
+            2,
+            results,
+        ),
+        table(
+            "| table call | library, ns | plain, ns | good, ns | library / plain | library / good |",
+            3,
+            results,
+        ),
+        growth(results),
+    ]
+    .join("\n")
+}
+
+/// Puts the tables between the two marks of the file.
+fn update(path: &str, tables: &str) -> std::io::Result<bool> {
     let text = std::fs::read_to_string(path)?;
     let Some((head, rest)) = text.split_once(BEGIN) else {
         return Ok(false);
@@ -102,7 +149,7 @@ fn update(path: &str, table: &str) -> std::io::Result<bool> {
     let Some((_, tail)) = rest.split_once(END) else {
         return Ok(false);
     };
-    std::fs::write(path, format!("{head}{BEGIN}\n{table}{END}{tail}"))?;
+    std::fs::write(path, format!("{head}{BEGIN}\n{tables}{END}{tail}"))?;
     Ok(true)
 }
 
@@ -113,11 +160,9 @@ fn count(words: &[String]) -> Option<()> {
     };
     let cases = cases::all();
     let case = cases.get(number.parse::<usize>().ok()?)?;
-    let mut side = match side.as_str() {
-        "library" => (case.library)(),
-        "reference" => (case.reference)(),
-        _ => return None,
-    };
+    let sides = case.sides();
+    let (_, make) = sides.iter().find(|(name, _)| name == side)?;
+    let mut side = make();
     for _ in 0..times.parse::<usize>().ok()? {
         side.prepare();
         side.run();
@@ -130,8 +175,18 @@ fn main() -> ExitCode {
     match words.first().map(String::as_str) {
         Some("--names") => {
             for (number, case) in cases::all().iter().enumerate() {
-                println!("{number} {} {}", case.calls, case.name);
+                println!(
+                    "{number} {} {} {}",
+                    case.calls,
+                    case.sides().len(),
+                    case.name
+                );
             }
+            return ExitCode::SUCCESS;
+        }
+        Some("--alike") => {
+            cases::all().iter().for_each(check);
+            println!("all sides answer alike");
             return ExitCode::SUCCESS;
         }
         Some("--count") => {
@@ -142,21 +197,21 @@ fn main() -> ExitCode {
         }
         _ => {}
     }
-    println!("{WARM_UP} rounds of warm-up, then {ROUNDS} rounds; in each one batch of either side in turns.");
+    println!("{WARM_UP} rounds of warm-up, then {ROUNDS} rounds; in each one batch of each side in turns.");
     println!(
-        "The figures are medians over the rounds; the ratio is the median of the rounds' ratios.\n"
+        "The figures are medians over the rounds; a ratio is the median of the rounds' ratios.\n"
     );
     let results: Vec<Result> = cases::all().iter().map(measure).collect();
-    let table = table(&results);
-    print!("{table}");
-    match words.first().map(|path| (path, update(path, &table))) {
+    let tables = tables(&results);
+    print!("{tables}");
+    match words.first().map(|path| (path, update(path, &tables))) {
         None => ExitCode::SUCCESS,
         Some((path, Ok(true))) => {
             println!("\nwritten to {path}");
             ExitCode::SUCCESS
         }
         Some((path, _)) => {
-            println!("\n{path} has no place for the table");
+            println!("\n{path} has no place for the tables");
             ExitCode::FAILURE
         }
     }

@@ -1,12 +1,16 @@
 //! The table's cases: the same calls on the library's table and on the
-//! reference's, on each of 12 clients.
+//! reference's two, the plain one and the good one, on each of 12 clients.
 
-use crate::cases::{bytes, Case, Side, FLOW, PLAIN, PLAIN_FLOW};
+use crate::cases::{bytes, Case, Make, Side, FLOW, PLAIN, PLAIN_FLOW};
 use reference as plain;
-use reference::Answer;
+use reference::generate::Random;
+use reference::{swift, Answer};
 use std::hint::black_box;
 use std::rc::Rc;
-use wuraketozo::{Arrival, Client, Place, Received, Refusal, Table, ORIGINAL_LIMIT, SHARE};
+use wuraketozo::{Arrival, Client, Place, Received, Refusal, ORIGINAL_LIMIT, SHARE};
+
+/// When every call comes, in ms.
+const TIME: u64 = 1_000;
 
 /// A fragment's numbers.
 #[derive(Clone, Copy)]
@@ -24,6 +28,7 @@ enum Work {
     Offer(Vec<Piece>),
     /// Hands these over as payloads.
     Receive(Vec<Vec<u8>>),
+    Clock,
     Account,
 }
 
@@ -32,7 +37,7 @@ impl Work {
         12 * match self {
             Work::Offer(pieces) => pieces.len(),
             Work::Receive(payloads) => payloads.len(),
-            Work::Account => 1,
+            Work::Clock | Work::Account => 1,
         }
     }
 }
@@ -43,11 +48,11 @@ struct Plan {
     work: Work,
 }
 
-/// A table with records of one side, and the calls on it; `start` is what the
-/// records are put back to.
-struct Host<R> {
-    start: Vec<R>,
-    records: Vec<R>,
+/// A side's table, and the calls on it; `start` is what the records are put
+/// back to.
+struct Host<T: Table> {
+    start: Vec<T::Record>,
+    records: Vec<T::Record>,
     store: Vec<u8>,
     out: Vec<u8>,
     bytes: Vec<u8>,
@@ -57,24 +62,26 @@ struct Host<R> {
 /// The answer to a payload that is no fragment.
 const NO_FRAGMENT: Answer = Answer::Refused(0);
 
-/// A side's record, by which its table is called.
-trait Record: Copy + Default + 'static {
+/// A side's table.
+trait Table: Sized + 'static {
+    type Record: Copy + Default + 'static;
+
     /// Does the host's work. `note` may ask for each answer, in the
     /// reference's words; it is not worked out unless asked for.
     fn run(host: &mut Host<Self>, note: impl FnMut(&dyn Fn() -> Answer));
 }
 
-impl<R: Record> Host<R> {
-    fn new(plan: &Plan) -> Host<R> {
+impl<T: Table> Host<T> {
+    fn new(plan: &Plan) -> Host<T> {
         let mut host = Host {
-            start: vec![R::default(); 12],
-            records: vec![R::default(); 12],
+            start: vec![T::Record::default(); 12],
+            records: vec![T::Record::default(); 12],
             store: vec![0; 12 * SHARE],
             out: vec![0; ORIGINAL_LIMIT],
             bytes: bytes(ORIGINAL_LIMIT),
             work: Work::Offer(plan.before.clone()),
         };
-        R::run(&mut host, |answer| assert_eq!(answer(), Answer::Stored));
+        T::run(&mut host, |answer| assert_eq!(answer(), Answer::Stored));
         host.start.copy_from_slice(&host.records);
         host.work = plan.work.clone();
         host
@@ -83,18 +90,18 @@ impl<R: Record> Host<R> {
     /// The answers of one run, and the store and the out buffer after it.
     fn outcome(mut self) -> (Vec<Answer>, Vec<u8>, Vec<u8>) {
         let mut answers = Vec::new();
-        R::run(&mut self, |answer| answers.push(answer()));
+        T::run(&mut self, |answer| answers.push(answer()));
         (answers, self.store, self.out)
     }
 }
 
-impl<R: Record> Side for Host<R> {
+impl<T: Table> Side for Host<T> {
     fn prepare(&mut self) {
         self.records.copy_from_slice(&self.start);
     }
 
     fn run(&mut self) {
-        R::run(self, |_| ());
+        T::run(self, |_| ());
     }
 }
 
@@ -131,15 +138,19 @@ fn billed(answer: &Result<wuraketozo::Account, Refusal>) -> Answer {
     }
 }
 
-impl Record for Client {
-    fn run(host: &mut Host<Client>, mut note: impl FnMut(&dyn Fn() -> Answer)) {
-        let mut table = Table::new(&mut host.records, &mut host.store);
+struct Library;
+
+impl Table for Library {
+    type Record = Client;
+
+    fn run(host: &mut Host<Library>, mut note: impl FnMut(&dyn Fn() -> Answer)) {
+        let mut table = wuraketozo::Table::new(&mut host.records, &mut host.store);
         for client in 0..12 {
             match &host.work {
                 Work::Offer(pieces) => {
                     for piece in pieces {
                         let arrival = Arrival {
-                            time: 1_000,
+                            time: TIME,
                             flow: FLOW,
                             identification: piece.identification,
                             place: Place(piece.place),
@@ -157,13 +168,20 @@ impl Record for Client {
                         let (from, to, plain) = (FLOW.source, FLOW.destination, PLAIN.library);
                         let payload = black_box(payload);
                         let received =
-                            table.receive(client, 1_000, from, to, plain, payload, &mut host.out);
+                            table.receive(client, TIME, from, to, plain, payload, &mut host.out);
                         let received = black_box(received);
                         note(&|| match &received {
                             Received::Fragment(answer) => told(answer),
                             _ => NO_FRAGMENT,
                         });
                     }
+                }
+                Work::Clock => {
+                    let answer = black_box(table.advance(black_box(client), TIME));
+                    note(&|| match answer {
+                        Ok(()) => Answer::Clocked,
+                        Err(refusal) => Answer::Refused(refusal.number()),
+                    });
                 }
                 Work::Account => {
                     let answer = black_box(table.account(black_box(client)));
@@ -174,8 +192,59 @@ impl Record for Client {
     }
 }
 
-impl Record for plain::Record {
-    fn run(host: &mut Host<plain::Record>, mut note: impl FnMut(&dyn Fn() -> Answer)) {
+/// One of the reference's two tables.
+trait Reference: 'static {
+    fn piece(
+        records: &mut [plain::Record],
+        store: &mut [u8],
+        call: &plain::PieceCall,
+        out: &mut [u8],
+    ) -> Answer;
+    fn clock(records: &mut [plain::Record], store: &[u8], client: usize, time: u64) -> Answer;
+    fn bill(records: &[plain::Record], store: &[u8], client: usize) -> Answer;
+}
+
+/// Names the functions of a reference's table.
+macro_rules! reference {
+    ($name:ident, $table:ident) => {
+        struct $name;
+
+        impl Reference for $name {
+            #[inline]
+            fn piece(
+                records: &mut [plain::Record],
+                store: &mut [u8],
+                call: &plain::PieceCall,
+                out: &mut [u8],
+            ) -> Answer {
+                $table::piece(records, store, call, out)
+            }
+
+            #[inline]
+            fn clock(
+                records: &mut [plain::Record],
+                store: &[u8],
+                client: usize,
+                time: u64,
+            ) -> Answer {
+                $table::clock(records, store, client, time)
+            }
+
+            #[inline]
+            fn bill(records: &[plain::Record], store: &[u8], client: usize) -> Answer {
+                $table::bill(records, store, client)
+            }
+        }
+    };
+}
+
+reference!(Plain, plain);
+reference!(Good, swift);
+
+impl<T: Reference> Table for T {
+    type Record = plain::Record;
+
+    fn run(host: &mut Host<T>, mut note: impl FnMut(&dyn Fn() -> Answer)) {
         let (records, store) = (&mut host.records, &mut host.store);
         for client in 0..12 {
             match &host.work {
@@ -183,7 +252,7 @@ impl Record for plain::Record {
                     for piece in pieces {
                         let call = plain::PieceCall {
                             client,
-                            time: 1_000,
+                            time: TIME,
                             flow: PLAIN_FLOW,
                             identification: piece.identification,
                             place: piece.place,
@@ -191,7 +260,7 @@ impl Record for plain::Record {
                             last: piece.last,
                             r: 0,
                         };
-                        let answer = plain::piece(records, store, black_box(&call), &mut host.out);
+                        let answer = T::piece(records, store, black_box(&call), &mut host.out);
                         let answer = black_box(answer);
                         note(&|| answer);
                     }
@@ -210,7 +279,7 @@ impl Record for plain::Record {
                             let port = |at| u16::from_be_bytes([payload[at], payload[at + 1]]);
                             let call = plain::PieceCall {
                                 client,
-                                time: 1_000,
+                                time: TIME,
                                 flow: plain::Flow {
                                     source_port: port(0),
                                     destination_port: port(2),
@@ -222,14 +291,18 @@ impl Record for plain::Record {
                                 last: fragment.last,
                                 r: fragment.option_start,
                             };
-                            answer = plain::piece(records, store, &call, &mut host.out);
+                            answer = T::piece(records, store, &call, &mut host.out);
                         }
                         let answer = black_box(answer);
                         note(&|| answer);
                     }
                 }
+                Work::Clock => {
+                    let answer = black_box(T::clock(records, store, black_box(client), TIME));
+                    note(&|| answer);
+                }
                 Work::Account => {
-                    let answer = black_box(plain::bill(records, store, black_box(client)));
+                    let answer = black_box(T::bill(records, store, black_box(client)));
                     note(&|| answer);
                 }
             }
@@ -241,16 +314,21 @@ impl Record for plain::Record {
 fn case(name: String, before: Vec<Piece>, work: Work, wanted: fn(&Answer) -> bool) -> Case {
     let calls = work.calls();
     let plan = Rc::new(Plan { before, work });
-    let (left, right) = (plan.clone(), plan.clone());
+    fn make<T: Table>(plan: &Rc<Plan>) -> Make {
+        let plan = plan.clone();
+        Box::new(move || Box::new(Host::<T>::new(&plan)))
+    }
     Case {
         name,
         calls,
-        library: Box::new(move || Box::new(Host::<Client>::new(&left))),
-        reference: Box::new(move || Box::new(Host::<plain::Record>::new(&right))),
+        library: make::<Library>(&plan),
+        reference: make::<Plain>(&plan),
+        good: Some(make::<Good>(&plan)),
         alike: Box::new(move || {
-            let one = Host::<Client>::new(&plan).outcome();
-            let two = Host::<plain::Record>::new(&plan).outcome();
-            one == two && one.0.iter().all(wanted)
+            let one = Host::<Library>::new(&plan).outcome();
+            let two = Host::<Plain>::new(&plan).outcome();
+            let three = Host::<Good>::new(&plan).outcome();
+            one == two && one == three && one.0.iter().all(wanted)
         }),
     }
 }
@@ -261,6 +339,10 @@ fn is_stored(answer: &Answer) -> bool {
 
 fn is_delivery(answer: &Answer) -> bool {
     matches!(answer, Answer::Delivered { t, .. } if *t == ORIGINAL_LIMIT)
+}
+
+fn is_clock(answer: &Answer) -> bool {
+    *answer == Answer::Clocked
 }
 
 fn is_account(answer: &Answer) -> bool {
@@ -301,69 +383,145 @@ fn fragment_payload(identification: u32, length: usize) -> Vec<u8> {
     payload
 }
 
-/// Four originals under way, each with `count` fragments of 20 bytes that
-/// follow one another from 0 on. If the ends are known, the one marked last
-/// ends at 4,096 instead; what is between is open, so that a walk from 0 on
-/// meets every other fragment before it meets the gap.
-fn crowd(count: usize, ends: bool) -> Vec<Piece> {
-    let one = move |identification, number: usize| {
-        if ends && number + 1 == count {
-            piece(identification, ORIGINAL_LIMIT - 20, 20, true)
-        } else {
-            piece(identification, 20 * number, 20, false)
+/// The order in which an original's fragments come.
+#[derive(Clone, Copy)]
+enum Order {
+    Rising,
+    Random,
+    Reversed,
+    /// First, last, second, last but one and so on.
+    Inwards,
+}
+
+const ORDERS: [Order; 4] = [
+    Order::Rising,
+    Order::Random,
+    Order::Reversed,
+    Order::Inwards,
+];
+
+impl Order {
+    fn words(self) -> &'static str {
+        match self {
+            Order::Rising => "in order",
+            Order::Random => "random",
+            Order::Reversed => "reversed",
+            Order::Inwards => "both ends inwards",
         }
-    };
-    let pieces = |identification| (0..count).map(move |number| one(identification, number));
-    (0..4).flat_map(pieces).collect()
+    }
+
+    /// The numbers of so many fragments as they come; a random order is the
+    /// seed's.
+    fn of(self, count: usize, seed: u32) -> Vec<usize> {
+        let mut numbers: Vec<usize> = (0..count).collect();
+        match self {
+            Order::Rising => {}
+            Order::Random => {
+                let mut random = Random::new(u64::from(seed));
+                for at in (1..count).rev() {
+                    numbers.swap(at, random.below(at + 1));
+                }
+            }
+            Order::Reversed => numbers.reverse(),
+            Order::Inwards => {
+                let nth = |n: usize| if n % 2 == 0 { n / 2 } else { count - 1 - n / 2 };
+                numbers = (0..count).map(nth).collect();
+            }
+        }
+        numbers
+    }
 }
 
-/// A crowd, in words.
-fn held(count: usize, ends: bool) -> String {
-    let known = if ends { "ends known" } else { "no end known" };
-    format!("4 x {count} fragments held, {known}")
+/// The fragments of an original as they come: so many of one length, the one
+/// at the end marked last.
+fn fragments(identification: u32, count: usize, length: usize, order: Order) -> Vec<Piece> {
+    let one = |number| piece(identification, length * number, length, number + 1 == count);
+    let numbers = order.of(count, identification);
+    numbers.into_iter().map(one).collect()
 }
 
-/// An original of 4,096 bytes in 16 fragments, all but one held: the n-th to
-/// come is fragment `step * n` modulo 16.
-fn delivery(order: &str, step: usize) -> Case {
-    let one = |n| {
-        let number = step * n % 16;
-        piece(7, 256 * number, 256, number == 15)
-    };
+/// The bytes of a fragment of a crowd: 64 of them are 8,000.
+const FRAGMENT: usize = 125;
+
+/// Four originals under way, each with `count` fragments held and one open,
+/// and 20 bytes of each open one. They come last, so that the order goes on.
+fn crowd(count: usize, order: Order) -> (Vec<Piece>, Vec<Piece>) {
+    let (mut held, mut next) = (Vec::new(), Vec::new());
+    for identification in 0..4 {
+        let mut pieces = fragments(identification, count + 1, FRAGMENT, order);
+        let open = pieces.pop().map_or(0, |piece| piece.place);
+        held.extend(pieces);
+        next.push(piece(identification, open, 20, false));
+    }
+    (held, next)
+}
+
+/// A crowd, in words; one fragment has no order.
+fn crowd_words(count: usize, order: Order) -> String {
+    match count {
+        1 => "4 x 1 held".into(),
+        _ => format!("4 x {count} held, {}", order.words()),
+    }
+}
+
+/// The crowds: 63 fragments leave room for one more.
+fn crowds() -> Vec<(usize, Order)> {
+    let mut crowds = vec![(1, Order::Rising)];
+    for count in [16, 63] {
+        crowds.extend(ORDERS.map(|order| (count, order)));
+    }
+    crowds
+}
+
+/// An original of 8,192 bytes in 64 fragments, all but one held.
+fn delivery(order: Order) -> Case {
+    let mut before = fragments(7, 64, ORIGINAL_LIMIT / 64, order);
+    let completing = before.split_off(63);
     case(
-        format!("fragment call that delivers 4,096 bytes of 16 fragments, {order}"),
-        (0..15).map(one).collect(),
-        Work::Offer(vec![one(15)]),
+        format!(
+            "fragment call that delivers 8,192 bytes of 64 fragments, {}",
+            order.words()
+        ),
+        before,
+        Work::Offer(completing),
         is_delivery,
     )
 }
 
-pub fn all() -> Vec<Case> {
-    let mut cases = vec![case(
-        "fragment call, 1,400 bytes stored".into(),
-        vec![],
-        Work::Offer(of_each(0, 1_400)),
-        is_stored,
-    )];
-    // With 15 held the 16th is stored, which is the most.
-    for count in [1, 8, 15] {
-        for ends in [false, true] {
-            cases.push(case(
-                format!("fragment call, 20 bytes stored, {}", held(count, ends)),
-                crowd(count, ends),
-                Work::Offer(of_each(2_000, 20)),
-                is_stored,
-            ));
-        }
+fn offers() -> Vec<Case> {
+    let mut cases = Vec::new();
+    for (words, length) in [("1,400", 1_400), ("20", 20)] {
+        cases.push(case(
+            format!("fragment call, {words} bytes stored, nothing held"),
+            vec![],
+            Work::Offer(of_each(0, length)),
+            is_stored,
+        ));
+    }
+    for (count, order) in crowds() {
+        let (held, next) = crowd(count, order);
+        cases.push(case(
+            format!(
+                "fragment call, 20 bytes stored, {}",
+                crowd_words(count, order)
+            ),
+            held,
+            Work::Offer(next),
+            is_stored,
+        ));
     }
     cases.push(case(
-        "fragment call that delivers 4,096 bytes of 3 fragments".into(),
-        vec![piece(7, 0, 1_400, false), piece(7, 1_400, 1_400, false)],
-        Work::Offer(vec![piece(7, 2_800, 1_296, true)]),
+        "fragment call that delivers 8,192 bytes of 3 fragments".into(),
+        vec![piece(7, 0, 3_000, false), piece(7, 3_000, 3_000, false)],
+        Work::Offer(vec![piece(7, 6_000, ORIGINAL_LIMIT - 6_000, true)]),
         is_delivery,
     ));
-    cases.push(delivery("in order", 1));
-    cases.push(delivery("out of order", 5));
+    cases.extend([Order::Rising, Order::Random].map(delivery));
+    cases
+}
+
+pub fn all() -> Vec<Case> {
+    let mut cases = offers();
     let payloads = (0..4).map(|number| fragment_payload(number, 1_400));
     cases.push(case(
         "receive, a fragment of 1,400 bytes stored".into(),
@@ -372,20 +530,24 @@ pub fn all() -> Vec<Case> {
         is_stored,
     ));
     cases.push(case(
+        "clock, nothing held".into(),
+        vec![],
+        Work::Clock,
+        is_clock,
+    ));
+    cases.push(case(
         "account, nothing held".into(),
         vec![],
         Work::Account,
         is_account,
     ));
-    for count in [1, 8, 16] {
-        for ends in [false, true] {
-            cases.push(case(
-                format!("account, {}", held(count, ends)),
-                crowd(count, ends),
-                Work::Account,
-                is_account,
-            ));
-        }
+    for (count, order) in crowds() {
+        cases.push(case(
+            format!("account, {}", crowd_words(count, order)),
+            crowd(count, order).0,
+            Work::Account,
+            is_account,
+        ));
     }
     cases
 }
