@@ -41,7 +41,7 @@ pub fn record_test(record: &Record) -> bool {
             return false;
         }
         match sound_bytes(assembly) {
-            Some(bytes) => held += bytes as u64,
+            Some(bytes) => held += bytes,
             None => return false,
         }
     }
@@ -86,42 +86,72 @@ fn word(slot: &Slot) -> u64 {
         | u64::from(slot.last) << 48
 }
 
+/// What one pass over an assembly's held pieces gathers. It has no branch, so
+/// that the compiler takes several pieces at a time: a test is the sign of a
+/// difference, and the differences are or-ed.
+#[derive(Default)]
+struct Pass {
+    /// Below 0 if a piece is empty or ends past 8,192.
+    wrong: i32,
+    /// Below 0 if a piece starts before the one in front of it ends.
+    falls: i32,
+    /// The sum of the lengths, and the highest end.
+    total: i32,
+    high: i32,
+    /// How many are last; the sums of those ones' ends and option starts.
+    lasts: i32,
+    end: i32,
+    option_start: i32,
+}
+
+impl Pass {
+    fn over(held: &[Slot]) -> Pass {
+        let mut pass = Pass::default();
+        let mut before = 0;
+        for piece in held {
+            let (start, length) = (i32::from(piece.offset), i32::from(piece.length));
+            let end = start + length;
+            let mask = last_mask(piece);
+            pass.wrong |= (length - 1) | (PLACE as i32 - end);
+            pass.falls |= start - before;
+            pass.total += length;
+            pass.high = pass.high.max(end);
+            pass.lasts -= mask;
+            pass.end += end & mask;
+            pass.option_start += i32::from(piece.option_start) & mask;
+            before = end;
+        }
+        pass
+    }
+}
+
+/// All bits of a piece that is last, else none.
+fn last_mask(piece: &Slot) -> i32 {
+    -((i32::from(piece.last) + 0xFFFF) >> 16)
+}
+
 /// The bytes of a live assembly, if its pieces pass the record test.
-fn sound_bytes(assembly: &Assembly) -> Option<usize> {
+fn sound_bytes(assembly: &Assembly) -> Option<u64> {
     if assembly.count > PIECES as u64 {
         return None;
     }
     let (held, spare) = assembly.pieces.split_at(assembly.count as usize);
-    let (mut total, mut high) = (0, 0);
-    let mut rising = true;
-    let mut last: Option<(usize, usize)> = None;
-    for piece in held {
-        let (start, end) = (start(piece), end(piece));
-        if start == end || end > PLACE {
-            return None;
-        }
-        rising &= start >= high;
-        high = high.max(end);
-        total += end - start;
-        if piece.last != 0 {
-            if last.is_some() {
-                return None;
-            }
-            last = Some((end, usize::from(piece.option_start)));
-        }
-    }
-    if let Some((t, r)) = last {
-        // Not yet whole: pieces without overlap in 0 to T cover it exactly if
-        // they have T bytes.
-        if high > t || r > t || total == t {
-            return None;
-        }
-    }
-    // Pieces that rise don't overlap.
-    if !are_spare(spare) || !(rising || are_apart(held)) {
+    let pass = Pass::over(held);
+    if pass.wrong < 0 || pass.lasts > 1 || !are_spare(spare) {
         return None;
     }
-    Some(total)
+    // None past the end, r not over it, not yet whole: pieces without overlap
+    // in 0 to T cover it exactly if they have T bytes.
+    if pass.lasts == 1
+        && (pass.high > pass.end || pass.option_start > pass.end || pass.total == pass.end)
+    {
+        return None;
+    }
+    // Pieces that rise don't overlap.
+    if pass.falls < 0 && !are_apart(held) {
+        return None;
+    }
+    Some(pass.total as u64)
 }
 
 /// Whether pieces, none empty and each within an original, don't overlap.
@@ -130,31 +160,23 @@ fn are_apart(held: &[Slot]) -> bool {
     held.iter().all(|piece| occupy(&mut taken, piece))
 }
 
-/// Takes a piece's bytes; false if one was taken before.
+/// Takes a piece's bytes, word by word; false if one was taken before. The
+/// remainders change nothing and spare the tests of the index.
 fn occupy(taken: &mut Occupancy, piece: &Slot) -> bool {
     let (first, final_) = (start(piece), end(piece) - 1);
-    let head = u64::MAX << (first % 64);
-    let tail = u64::MAX >> (63 - final_ % 64);
-    let words = &mut taken[first / 64..=final_ / 64];
-    match words {
-        [] => false,
-        [word] => {
-            let mask = head & tail;
-            let apart = *word & mask == 0;
-            *word |= mask;
-            apart
-        }
-        [one, between @ .., two] => {
-            let mut met = *one & head | *two & tail;
-            *one |= head;
-            *two |= tail;
-            for word in between {
-                met |= *word;
-                *word = u64::MAX;
-            }
-            met == 0
-        }
+    let (mut at, to) = (first / 64 % taken.len(), final_ / 64 % taken.len());
+    let mut mask = u64::MAX << (first % 64);
+    let mut met = 0;
+    while at < to {
+        met |= taken[at] & mask;
+        taken[at] |= mask;
+        mask = u64::MAX;
+        at += 1;
     }
+    mask &= u64::MAX >> (63 - final_ % 64);
+    met |= taken[to] & mask;
+    taken[to] |= mask;
+    met == 0
 }
 
 fn start(piece: &Slot) -> usize {
