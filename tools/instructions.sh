@@ -1,10 +1,11 @@
 #!/bin/sh
-# Instructions per call, counted by valgrind's callgrind: what four more runs of a case add to what four runs take. Prints a table, and
-# with a file puts it between the marks there. Build the benchmark first (make bench).
+# Instructions per call, counted by valgrind's callgrind: what four more runs of a case add to what four runs take. Prints tables as the
+# benchmark has them, and with a file puts them between the marks there. Build the benchmark first (make bench).
 set -eu
 cd "$(dirname "$0")/.."
 bench=target/rust/release/bench
-table=target/instructions.md
+counts=target/instructions.txt
+tables=target/instructions.md
 
 # total CASE SIDE RUNS: instructions of the whole program.
 total() {
@@ -18,16 +19,35 @@ each() {
     echo $(((many - few) / (4 * $3)))
 }
 
-{
-    echo "| work | library | reference | ratio |"
-    echo "|---|---|---|---|"
-    "$bench" --names | while read -r number calls name; do
-        library=$(each "$number" library "$calls")
-        reference=$(each "$number" reference "$calls")
-        ratio=$((library * 100 / reference))
-        printf '| %s | %d | %d | %d.%02d |\n' "$name" "$library" "$reference" $((ratio / 100)) $((ratio % 100))
-    done
-} | tee "$table"
+# A line for each case: the name and the instructions of each side, with bars between.
+"$bench" --names | while read -r number calls sides name; do
+    line="$name|$(each "$number" library "$calls")|$(each "$number" reference "$calls")"
+    if [ "$sides" = 3 ]; then
+        line="$line|$(each "$number" good "$calls")"
+    fi
+    echo "$line"
+    echo "$name" >&2
+done >"$counts"
+
+awk -F '|' '
+    NF == 3 { two = two sprintf("| %s | %d | %d | %.2f |\n", $1, $2, $3, $2 / $3) }
+    NF == 4 {
+        three = three sprintf("| %s | %d | %d | %d | %.2f | %.2f |\n", $1, $2, $3, $4, $2 / $3, $2 / $4)
+        names[++count] = $1
+        library[$1] = $2; plain[$1] = $3; good[$1] = $4
+    }
+    END {
+        printf "| work | library | reference | ratio |\n|---|---|---|---|\n%s\n", two
+        printf "| table call | library | plain | good | library / plain | library / good |\n|---|---|---|---|---|---|\n%s\n", three
+        printf "| 4 x 63 held over 4 x 16 held | library | plain | good |\n|---|---|---|---|\n"
+        for (i = 1; i <= count; i++) {
+            many = few = name = names[i]
+            if (sub(/4 x 63/, "4 x 16", few) && few in library) {
+                sub(/ 4 x 63 held,/, "", name)
+                printf "| %s | %.2f | %.2f | %.2f |\n", name, library[many] / library[few], plain[many] / plain[few], good[many] / good[few]
+            }
+        }
+    }' "$counts" | tee "$tables"
 if [ $# -gt 0 ]; then
-    sed -i -e "/^<!-- instructions:/,/^<!-- end of instructions -->/{//!d}" -e "/^<!-- instructions:/r $table" "$1"
+    sed -i -e "/^<!-- instructions:/,/^<!-- end of instructions -->/{//!d}" -e "/^<!-- instructions:/r $tables" "$1"
 fi
