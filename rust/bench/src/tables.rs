@@ -87,11 +87,14 @@ impl<T: Table> Host<T> {
         host
     }
 
-    /// The answers of one run, and the store and the out buffer after it.
-    fn outcome(mut self) -> (Vec<Answer>, Vec<u8>, Vec<u8>) {
-        let mut answers = Vec::new();
+    /// The answers of one run, and the accounts, the store and the out buffer
+    /// after it.
+    fn outcome(mut self) -> (Vec<Answer>, Vec<Answer>, Vec<u8>, Vec<u8>) {
+        let (mut answers, mut accounts) = (Vec::new(), Vec::new());
         T::run(&mut self, |answer| answers.push(answer()));
-        (answers, self.store, self.out)
+        self.work = Work::Account;
+        T::run(&mut self, |answer| accounts.push(answer()));
+        (answers, accounts, self.store, self.out)
     }
 }
 
@@ -328,7 +331,7 @@ fn case(name: String, before: Vec<Piece>, work: Work, wanted: fn(&Answer) -> boo
             let one = Host::<Library>::new(&plan).outcome();
             let two = Host::<Plain>::new(&plan).outcome();
             let three = Host::<Good>::new(&plan).outcome();
-            one == two && one == three && one.0.iter().all(wanted)
+            one == two && one == three && one.0.iter().all(wanted) && one.1.iter().all(is_account)
         }),
     }
 }

@@ -163,8 +163,8 @@ fn are_apart(held: &[Slot]) -> bool {
 /// Takes a piece's bytes, word by word; false if one was taken before. The
 /// remainders change nothing and spare the tests of the index.
 fn occupy(taken: &mut Occupancy, piece: &Slot) -> bool {
-    let (first, final_) = (start(piece), end(piece) - 1);
-    let (mut at, to) = (first / 64 % taken.len(), final_ / 64 % taken.len());
+    let (first, last) = (start(piece), end(piece) - 1);
+    let (mut at, to) = (first / 64 % taken.len(), last / 64 % taken.len());
     let mut mask = u64::MAX << (first % 64);
     let mut met = 0;
     while at < to {
@@ -173,7 +173,7 @@ fn occupy(taken: &mut Occupancy, piece: &Slot) -> bool {
         mask = u64::MAX;
         at += 1;
     }
-    mask &= u64::MAX >> (63 - final_ % 64);
+    mask &= u64::MAX >> (63 - last % 64);
     met |= taken[to] & mask;
     taken[to] |= mask;
     met == 0
