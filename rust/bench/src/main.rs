@@ -18,6 +18,8 @@ use std::time::Instant;
 
 const WARM_UP: usize = 50;
 const ROUNDS: usize = 1_001;
+/// How often a side is prepared to be counted.
+const PREPARED: usize = 8;
 
 /// Between these lines of FILE the tables stand.
 const BEGIN: &str = "<!-- table: written by make bench -->";
@@ -153,7 +155,8 @@ fn update(path: &str, tables: &str) -> std::io::Result<bool> {
     Ok(true)
 }
 
-/// One side of one case, again and again.
+/// One side of one case, again and again. It is prepared as often for few runs
+/// as for many, so that their difference is the runs'.
 fn count(words: &[String]) -> Option<()> {
     let [number, side, times] = words else {
         return None;
@@ -163,9 +166,12 @@ fn count(words: &[String]) -> Option<()> {
     let sides = case.sides();
     let (_, make) = sides.iter().find(|(name, _)| name == side)?;
     let mut side = make();
-    for _ in 0..times.parse::<usize>().ok()? {
+    let times = times.parse::<usize>().ok()?;
+    for round in 0..PREPARED.max(times) {
         side.prepare();
-        side.run();
+        if round < times {
+            side.run();
+        }
     }
     Some(())
 }

@@ -34,11 +34,22 @@ enum Work {
 
 impl Work {
     fn calls(&self) -> usize {
-        12 * match self {
-            Work::Offer(pieces) => pieces.len(),
-            Work::Receive(payloads) => payloads.len(),
-            Work::Clock | Work::Account => 1,
-        }
+        self.clients().count()
+            * match self {
+                Work::Offer(pieces) => pieces.len(),
+                Work::Receive(payloads) => payloads.len(),
+                Work::Clock | Work::Account => 1,
+            }
+    }
+
+    /// The clients in turn: eight times where the work changes nothing, so
+    /// that short calls make a long batch.
+    fn clients(&self) -> impl Iterator<Item = usize> {
+        let rounds = match self {
+            Work::Offer(_) | Work::Receive(_) => 1,
+            Work::Clock | Work::Account => 8,
+        };
+        (0..rounds).flat_map(|_| 0..12)
     }
 }
 
@@ -148,7 +159,7 @@ impl Table for Library {
 
     fn run(host: &mut Host<Library>, mut note: impl FnMut(&dyn Fn() -> Answer)) {
         let mut table = wuraketozo::Table::new(&mut host.records, &mut host.store);
-        for client in 0..12 {
+        for client in host.work.clients() {
             match &host.work {
                 Work::Offer(pieces) => {
                     for piece in pieces {
@@ -249,7 +260,7 @@ impl<T: Reference> Table for T {
 
     fn run(host: &mut Host<T>, mut note: impl FnMut(&dyn Fn() -> Answer)) {
         let (records, store) = (&mut host.records, &mut host.store);
-        for client in 0..12 {
+        for client in host.work.clients() {
             match &host.work {
                 Work::Offer(pieces) => {
                     for piece in pieces {
