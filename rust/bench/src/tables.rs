@@ -438,7 +438,10 @@ impl Order {
             }
             Order::Reversed => numbers.reverse(),
             Order::Inwards => {
-                let nth = |n: usize| if n % 2 == 0 { n / 2 } else { count - 1 - n / 2 };
+                let nth = |n: usize| match n % 2 {
+                    0 => n / 2,
+                    _ => count - 1 - n / 2,
+                };
                 numbers = (0..count).map(nth).collect();
             }
         }

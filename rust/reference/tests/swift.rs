@@ -131,12 +131,9 @@ fn arrange(random: &mut Random, order: Order, rising: &[Slot]) -> Vec<Slot> {
         Order::Rising => {}
         Order::Falling => slots.reverse(),
         Order::Inwards => {
-            let ends = |n: usize| {
-                if n % 2 == 0 {
-                    n / 2
-                } else {
-                    slots.len() - 1 - n / 2
-                }
+            let ends = |n: usize| match n % 2 {
+                0 => n / 2,
+                _ => rising.len() - 1 - n / 2,
             };
             slots = (0..rising.len()).map(|n| rising[ends(n)]).collect();
         }
