@@ -1,2 +1,2 @@
-pub mod Sweep
+pub mod OnePass
 pub mod Places

@@ -18,7 +18,7 @@ use Rattle.client_record.specs.Ranges.{holds, meets}
 use Rattle.client_record.specs.Record.{end, nonEmpty, fits, startsOptionsInside, covers, overlaps, soundFragment}
 use Rattle.client_record.proofs.Lists.{all-append, any-next, pairs-next}
 use Rattle.client_record.proofs.Ranges.{held-meets}
-use Rattle.client_held_test.proofs.Sweep.{apartAll, never-both, not-yes, pairs-front}
+use Rattle.client_held_test.proofs.OnePass.{apartAll, never-both, not-yes, pairs-front}
 
 -- the set has the places that the fragments take
 abbrev pub Marks : List ℕ → List Fragment → Type 0

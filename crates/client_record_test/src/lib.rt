@@ -1,59 +1,56 @@
-// The record test of document 01 (refusal 22): one function for each clause of its sentence.
+// The record test of document 01 (refusal 22): one function for each clause of its sentence. What it asks of the held fragments of an assembly
+// is `client_held_test`'s.
+use client_held_test::Tested;
 use client_record::Assembly;
 use client_record::Client;
 use client_record::Fragment;
 ghost use mathlib.Core.Path.{_≡_};
 ghost use Prim.Native.Nat.{_+_, _≤_};
+ghost use lib.Dec.{eqb};
 ghost use lib.ListN.{take};
 ghost use Rattle.client_record.specs.Limits.{assemblyLimit};
-ghost use Rattle.client_record.specs.Lists.{all, any, sum};
-ghost use Rattle.client_record.specs.Record.{soundFragment, isFreshFragment, compatible, heldFragments, spareSlots, bytesHeld};
-ghost use Rattle.client_record.specs.Record.{isFreshAssembly, openedWithin, soundLive, soundAssembly, sameLiveKey, keysDiffer, sumsTo, balanced, soundRecord};
+ghost use Rattle.client_record.specs.Lists.{all, any};
+ghost use Rattle.client_record.specs.Record.{isFreshFragment, spareSlots, bytesHeld};
+ghost use Rattle.client_record.specs.Record.{openedWithin, soundAssembly, sameLiveKey, keysDiffer, sumsTo, balanced, soundRecord};
+ghost use Rattle.client_held_test.specs.Held.{Tests};
+ghost use Rattle.client_record_test.specs.Parts.{unusedFields, soundFields, AllTest};
 
 // ---- the slots of one assembly
 
-fn fresh_slot(f: Fragment) -> bool
-    ensures { λ r. ⌜ r ≡ isFreshFragment f ⌝ }
+// The fields of a slot as one number: 0 exactly if it is as in a fresh record.
+fn slot_word(f: Fragment) -> u64
+    ensures { λ r. ⌜ eqb r 0 ≡ isFreshFragment f ⌝ }
 {
-    client_record::both(
-        f.offset == 0,
-        client_record::both(
-            f.length == 0,
-            client_record::both(f.option_start == 0, f.last == 0),
-        ),
-    )
+    let length = (f.length as u64) << 16;
+    let options = (f.option_start as u64) << 32;
+    let last = (f.last as u64) << 48;
+    (f.offset as u64) | length | options | last
 }
 
 // The slots behind the held fragments are as in a fresh record.
 fn spare_fresh(a: Assembly) -> bool
     ensures { λ r. ⌜ r ≡ all isFreshFragment (spareSlots a) ⌝ }
 {
-    let mut ok = true;
+    let mut stray = 0u64;
     let mut i = client_fragments::held_count(a);
     while i < client_record::FRAGMENT_LIMIT {
         let f = a.fragments[i];
-        ok = client_record::both(ok, fresh_slot(f));
+        stray = stray | slot_word(f);
         i += 1;
     }
-    ok
+    stray == 0
 }
 
 // ---- one assembly
 
-// It is as in a fresh record.
+// Its fields beside the slots are as in a fresh record.
 fn unused(a: Assembly) -> bool
-    ensures { λ r. ⌜ r ≡ isFreshAssembly a ⌝ }
+    ensures { λ r. ⌜ r ≡ unusedFields a ⌝ }
 {
-    if client_record::live(a) {
-        return false;
-    }
     let flows = client_record::same_flow(a.flow, client_record::fresh_flow());
     client_record::both(
         flows,
-        client_record::both(
-            a.identification == 0,
-            client_record::both(a.opened == 0, spare_fresh(a)),
-        ),
+        client_record::both(a.identification == 0, a.opened == 0),
     )
 }
 
@@ -68,44 +65,64 @@ fn opened_within(a: Assembly, time: u64) -> bool
     time - opened < client_record::LIFETIME
 }
 
-// What the record test asks of a live assembly.
-fn live_sound(a: Assembly, time: u64) -> bool
-    ensures { λ r. ⌜ r ≡ soundLive time a ⌝ }
+// What the record test asks of a live assembly, but for its spare slots.
+fn live_tested(a: Assembly, time: u64) -> Tested
+    ensures { λ r. ⌜ Tests (soundFields time a) (bytesHeld a) r ⌝ }
 {
     let count = a.count as usize;
     if client_record::FRAGMENT_LIMIT < count {
-        return false;
+        return client_held_test::refused();
     }
-    if client_held_test::held_sound(a, count) {
-        return client_record::both(opened_within(a, time), spare_fresh(a));
+    let held = client_held_test::held_tested(a, count);
+    Tested {
+        sound: client_record::both(held.sound, opened_within(a, time)),
+        bytes: held.bytes,
     }
-    false
 }
 
-fn assembly_sound(a: Assembly, time: u64) -> bool
-    ensures { λ r. ⌜ r ≡ soundAssembly time a ⌝ }
+fn assembly_tested(a: Assembly, time: u64) -> Tested
+    ensures { λ r. ⌜ Tests (soundAssembly time a) (bytesHeld a) r ⌝ }
 {
+    let spare = spare_fresh(a);
     if client_record::live(a) {
-        live_sound(a, time)
-    } else {
-        unused(a)
+        let held = live_tested(a, time);
+        return Tested {
+            sound: client_record::both(held.sound, spare),
+            bytes: held.bytes,
+        };
+    }
+    Tested {
+        sound: client_record::both(unused(a), spare),
+        bytes: 0,
     }
 }
 
 // ---- the record
 
-fn assemblies_sound(c: Client) -> bool
-    ensures { λ r. ⌜ r ≡ all (soundAssembly (c .time)) (c .assemblies) ⌝ }
+// Whether each assembly passes, and then the bytes of the live fragments.
+struct Assemblies {
+    sound: bool,
+    held: u64,
+}
+
+fn assemblies_tested(c: Client) -> Assemblies
+    ensures { λ r. ⌜ AllTest c r ⌝ }
 {
     let time = c.time;
     let mut ok = true;
+    let mut total = 0u64;
     let mut i = 0;
     while i < client_record::ASSEMBLY_LIMIT {
         let a = c.assemblies[i];
-        ok = client_record::both(ok, assembly_sound(a, time));
+        let tested = assembly_tested(a, time);
+        ok = client_record::both(ok, tested.sound);
+        total += tested.bytes as u64;
         i += 1;
     }
-    ok
+    Assemblies {
+        sound: ok,
+        held: total,
+    }
 }
 
 // Both are live and have one key.
@@ -146,21 +163,6 @@ fn keys_differ(c: Client) -> bool
         i += 1;
     }
     ok
-}
-
-// The bytes of the live fragments.
-fn total_held(c: Client) -> u64
-    ensures { λ r. ⌜ r ≡ sum bytesHeld (c .assemblies) ⌝ }
-{
-    let mut total = 0u64;
-    let mut i = 0;
-    while i < client_record::ASSEMBLY_LIMIT {
-        let a = c.assemblies[i];
-        let bytes = client_fragments::bytes_held(a);
-        total += bytes as u64;
-        i += 1;
-    }
-    total
 }
 
 // The six figures sum to `offered`, at most the limit: with a figure over the limit they cannot.
@@ -217,10 +219,10 @@ fn balanced(c: Client) -> bool
 pub fn sound(c: Client) -> bool
     ensures { λ r. ⌜ r ≡ soundRecord c ⌝ }
 {
-    let held = total_held(c);
-    let figures = client_record::both(c.held == held, balanced(c));
+    let assemblies = assemblies_tested(c);
+    let figures = client_record::both(c.held == assemblies.held, balanced(c));
     client_record::both(
-        assemblies_sound(c),
+        assemblies.sound,
         client_record::both(keys_differ(c), figures),
     )
 }

@@ -16,7 +16,7 @@ use Rattle.client_record.specs.Lists.{all, any, pairs}
 use Rattle.client_record.specs.Record.{soundFragment, heldFragments}
 use Rattle.client_record.proofs.Held.{none, held-at}
 use Rattle.client_record.proofs.SoundParts.{all-at}
-use Rattle.client_held_test.proofs.Sweep.{apartAll}
+use Rattle.client_held_test.proofs.OnePass.{apartAll}
 use Rattle.client_held_test.proofs.Places.{Marks, sound-some, sound-ends, all-front, marks-more, apart-more, taken-overlaps}
 use Rattle.client_held_test.proofs.apart.Statement.{statement}
 use Rattle.client_held_test.proofs.apart.Tie as tie

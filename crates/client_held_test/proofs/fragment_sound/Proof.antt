@@ -6,8 +6,8 @@ use borrow.Author.Needs.{needs}
 use Rattle.client_held_test.proofs.fragment_sound.Statement.{statement}
 use Rattle.client_held_test.proofs.fragment_sound.Tie as tie
 
-end-of-requires : tie.Need-end-of-requires
-end-of-requires c κs = search needs
+past-of-requires : tie.Need-past-of-requires
+past-of-requires c κs = search needs
 
 cast-options : tie.Need-cast-options
 cast-options c = search needs
@@ -33,10 +33,10 @@ returns c =
       c .before .both .ensures,
       e .either .ensures,
       e .before .is-last .ensures,
-      e .before .before .before .end-of .ensures,
+      e .before .before .before .past-of .ensures .value,
     )
 
 pub fragment-sound-spec : {M : Type 1} → statement M
 fragment-sound-spec =
     tie.close
-    (tie.spec end-of-requires cast-options is-last-requires either-requires both-requires both-requires-2 returns)
+    (tie.spec past-of-requires cast-options is-last-requires either-requires both-requires both-requires-2 returns)

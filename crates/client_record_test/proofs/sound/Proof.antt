@@ -1,21 +1,38 @@
--- `client_record_test::sound` meets its contract: the four tests are the definition's.
+-- `client_record_test::sound` meets its contract: the four tests are the definition's; what is held counts where each assembly passes.
 -- Assumes nothing.
-use Rattle.client_record.specs.Record.{soundRecord, heldRight}
+use Prim.Native.Nat.{ℕ}
+use mathlib.Core.Bool.{Bool, true, false, _&&_}
+use mathlib.Core.Path.{_≡_, refl, sym, ap, ap₂, _∙_}
+use lib.Dec.{eqb}
 use borrow.Author.Needs.{needs}
+use Rattle.client_record.specs.declared.Client.{Client}
+use Rattle.client_record.specs.Lists.{all, sum}
+use Rattle.client_record.specs.Record.{bytesHeld, soundAssembly, keysDiffer, heldRight, balanced, soundRecord}
+use Rattle.client_record_test.specs.declared.Assemblies.{Assemblies}
+use Rattle.client_record_test.specs.Parts.{AllTest}
 use Rattle.client_record_test.proofs.sound.Statement.{statement}
 use Rattle.client_record_test.proofs.sound.Tie as tie
 
-total-held-requires : tie.Need-total-held-requires
-total-held-requires c κs = search needs
+-- the four tests
+tests : (c : Client) (r : Assemblies) → AllTest c r → r .sound && (keysDiffer (c .assemblies) && (eqb (c .held) (r .held) && balanced c)) ≡ soundRecord c
+unfolding soundRecord heldRight
+tests c r t = go (r .sound) (t .sound) (t .held)
+  where
+    go : (b : Bool) → b ≡ all (soundAssembly (c .time)) (c .assemblies) → (b ≡ true → r .held ≡ sum bytesHeld (c .assemblies))
+        → b && (keysDiffer (c .assemblies) && (eqb (c .held) (r .held) && balanced c))
+        ≡ all (soundAssembly (c .time)) (c .assemblies) && (keysDiffer (c .assemblies) && (eqb (c .held) (sum bytesHeld (c .assemblies)) && balanced c))
+    go true e h =
+        ap₂ (λ (x : Bool) (n : ℕ). x && (keysDiffer (c .assemblies) && (eqb (c .held) n && balanced c))) e (h refl)
+    go false e h = ap (λ (x : Bool). x && (keysDiffer (c .assemblies) && (eqb (c .held) (sum bytesHeld (c .assemblies)) && balanced c))) e
+
+assemblies-tested-requires : tie.Need-assemblies-tested-requires
+assemblies-tested-requires c κs = search needs
 
 balanced-requires : tie.Need-balanced-requires
 balanced-requires c κs = search needs
 
 both-requires : tie.Need-both-requires
 both-requires c κs = search needs
-
-assemblies-sound-requires : tie.Need-assemblies-sound-requires
-assemblies-sound-requires c κs = search needs
 
 keys-differ-requires : tie.Need-keys-differ-requires
 keys-differ-requires c κs = search needs
@@ -26,34 +43,21 @@ both-requires-2 c κs = search needs
 both-requires-3 : tie.Need-both-requires-3
 both-requires-3 c κs = search needs
 
--- the sum, from where the figures were compared
-sum-of : tie.After-balanced → tie.After-total-held
-sum-of c = search needs
-
 returns : tie.Need-returns
-unfolding soundRecord heldRight sum-of
 returns c =
     let k = c .before .before in
-    let f = k .before .before in
+    let f = k .before in
+    let a = f .before .before .before .before in
+    let x = a .before .args .c in
     rw (
       c .both3 .ensures,
       c .before .both2 .ensures,
       k .keys-differ .ensures,
-      k .before .assemblies-sound .ensures,
       f .both .ensures,
       f .before .balanced .ensures,
-      sum-of (f .before) .total-held .ensures,
-    )
+    ) (tests x _ (a .assemblies-tested .ensures))
 
 pub sound-spec : {M : Type 1} → statement M
 sound-spec =
     tie.close
-    (tie.spec
-    total-held-requires
-    balanced-requires
-    both-requires
-    assemblies-sound-requires
-    keys-differ-requires
-    both-requires-2
-    both-requires-3
-    returns)
+    (tie.spec assemblies-tested-requires balanced-requires both-requires keys-differ-requires both-requires-2 both-requires-3 returns)

@@ -1,4 +1,5 @@
--- `client_record_test::spare_fresh` meets its contract: the loop's invariant says that `ok` and the test of the slots from `i` on make the test of all (`all-left`).
+-- `client_record_test::spare_fresh` meets its contract: the loop's invariant says that no bit in `stray`
+-- and the test of the slots from `i` on make the test of all (`all-left`, `or-zero`).
 -- Assumes nothing.
 use Rattle.client_record.proofs.Shapes.{slots}
 use Rattle.client_record.proofs.Lists.{all-left}
@@ -9,7 +10,9 @@ use Rattle.client_record.specs.declared.Fragment.{Fragment}
 use mathlib.Core.List.{List}
 use Rattle.client_record.specs.Limits.{fragmentLimit}
 use lib.Seq.{drop-length}
+use lib.Dec.{eqb}
 use lib.ListN.{length, drop}
+use Rattle.number_octets.proofs.ZeroBytes.{or-zero}
 use Prim.Native.Nat.{ℕ, _+_, _-_, _≤_, _<_}
 use mathlib.Core.Bool.{Bool, _&&_, and-assoc, and-true}
 use mathlib.Core.Path.{_≡_, sym, ap, _∙_}
@@ -19,11 +22,11 @@ use Rattle.client_record_test.proofs.spare_fresh.Statement.{statement}
 use Rattle.client_record_test.proofs.spare_fresh.Tie as tie
 
 abbrev Inv-loop : tie.InvT-loop
-Inv-loop a ok₀ i₀ ok i = ((ok && all isFreshFragment (drop i (a .fragments))) ≡ all isFreshFragment (spareSlots a)) × (i ≤ fragmentLimit)
+Inv-loop a stray₀ i₀ stray i = ((eqb stray 0 && all isFreshFragment (drop i (a .fragments))) ≡ all isFreshFragment (spareSlots a)) × (i ≤ fragmentLimit)
     × (length (a .fragments) ≡ fragmentLimit)
 
 abbrev μ-loop : tie.MeasureT-loop
-μ-loop a ok₀ i₀ ok i = fragmentLimit - i
+μ-loop a stray₀ i₀ stray i = fragmentLimit - i
 
 held-count-requires : tie.Need-held-count-requires Inv-loop μ-loop
 held-count-requires c κs = search needs
@@ -45,11 +48,8 @@ element-copy-out-f : tie.Need-element-copy-out-f Inv-loop μ-loop
 unfolding fragmentLimit
 element-copy-out-f c = omega arith
 
-fresh-slot-requires : tie.Need-fresh-slot-requires Inv-loop μ-loop
-fresh-slot-requires c κs = search needs
-
-both-requires : tie.Need-both-requires Inv-loop μ-loop
-both-requires c κs = search needs
+slot-word-requires : tie.Need-slot-word-requires Inv-loop μ-loop
+slot-word-requires c κs = search needs
 
 add-i : tie.Need-add-i Inv-loop μ-loop
 unfolding fragmentLimit
@@ -62,13 +62,14 @@ loop-less c = omega arith
 loop-again : tie.Need-loop-again Inv-loop μ-loop
 unfolding fragmentLimit
 loop-again c =
-    let l = c .before .before .before .before in
+    let l = c .before .before .before in
     let a = l .before .before .args .t1 in
     let i = l .loop .i in
     let h : i < length (a .fragments) = omega arith in (
-      ap (λ (b : Bool). b && all isFreshFragment (drop (i + 1) (a .fragments))) (c .both .ensures
-          ∙ ap (λ (b : Bool). l .loop .ok && b) (c .before .fresh-slot .ensures))
-          ∙ and-assoc (l .loop .ok) _ _ ∙ ap (λ (b : Bool). l .loop .ok && b) (sym (all-left (a .fragments) i _ h isFreshFragment)) ∙ l .loop .inv .0,
+      ap (λ (b : Bool). b && all isFreshFragment (drop (i + 1) (a .fragments))) (or-zero (l .loop .stray) (c .slot-word .result)
+          ∙ ap (λ (b : Bool). eqb (l .loop .stray) 0 && b) (c .slot-word .ensures))
+          ∙ and-assoc (eqb (l .loop .stray) 0) _ _ ∙ ap (λ (b : Bool). eqb (l .loop .stray) 0 && b) (sym (all-left (a .fragments) i _ h isFreshFragment))
+          ∙ l .loop .inv .0,
       omega arith,
       l .loop .inv .2,
     )
@@ -79,8 +80,8 @@ returns c =
     let l = c .before in
     let a = l .before .before .args .t1 in
     let e : l .loop .i ≡ length (a .fragments) = omega arith in
-    sym (ap (λ (s : List Fragment). l .loop .ok && all isFreshFragment s) (ap (λ (k : ℕ). drop k (a .fragments)) e ∙ drop-length (a .fragments))
-    ∙ and-true (l .loop .ok)) ∙ l .loop .inv .0
+    sym (ap (λ (s : List Fragment). eqb (l .loop .stray) 0 && all isFreshFragment s) (ap (λ (k : ℕ). drop k (a .fragments)) e ∙ drop-length (a .fragments))
+    ∙ and-true (eqb (l .loop .stray) 0)) ∙ l .loop .inv .0
 
 pub spare-fresh-spec : {M : Type 1} → statement M
 spare-fresh-spec =
@@ -92,8 +93,7 @@ spare-fresh-spec =
     loop-holds
     mul-f
     element-copy-out-f
-    fresh-slot-requires
-    both-requires
+    slot-word-requires
     add-i
     loop-less
     loop-again
