@@ -1,6 +1,6 @@
--- Why one pass over the held fragments decides. It keeps the highest end, the known end and the sum of the lengths. Fragments that each
--- start at or behind the end of the one in front of them do not overlap; a known end under the highest end is passed by some fragment; and without
--- overlap the sum is the known end exactly if the original is whole (R-3).
+-- Why a pass over the held fragments decides. Fragments that each start at or behind the end of the one in front of them do not overlap, and none
+-- ends behind the one that is listed last. Of a known end the one that is marked says where it lies; and without overlap the sum of the lengths is the
+-- known end exactly if the original is whole (R-3).
 -- Assumes nothing.
 use Prim.Native.Nat.{ℕ, _+_, _<_, _≤_}
 use mathlib.Core.Path.{_≡_, refl, sym, ap, ap₂, _∙_}
@@ -9,14 +9,15 @@ use mathlib.Core.List.{List, [], _∷_, _++_}
 use native.Mathlib.Nat.{zero-add}
 use native.Mathlib.Omega.{arith}
 use lib.Dec.{eqb, leb, ltb}
-use lib.ListN.{length, take, getD}
-use borrow.Author.Tests.{leb-true, ltb-true, ltb-false, eqb-true, eqb-false, le-leb, le-ltb, lt-ltb, eq-eqb, ne-eqb, not-true, not-false}
+use lib.ListN.{length, take, drop, getD, take-append-drop}
+use borrow.Author.Tests.{leb-true, leb-false, ltb-false, eqb-true, eqb-false, le-leb, lt-leb, le-ltb, lt-ltb, eq-eqb, ne-eqb, not-true, not-false}
 use Rattle.number_tests.proofs.Tests.{true-false, both-true}
 use Rattle.client_record.specs.declared.Fragment.{Fragment}
 use Rattle.client_record.specs.Lists.{all, any, pairs, sum}
-use Rattle.client_record.specs.Record.{isLast, end, soundFragment, overlaps, bothLast, outruns, conflicts, compatible, lastOf, whole}
-use Rattle.client_held_test.specs.declared.Pass.{Pass}
-use Rattle.client_held_test.specs.Held.{risesFrom, lastsOf, lastEnds, Highest, Passed}
+use Rattle.client_record.specs.Limits.{datagramLimit}
+use Rattle.client_record.specs.Record.{isLast, end, nonEmpty, fits, startsOptionsInside, soundFragment, overlaps, bothLast, outruns, conflicts}
+use Rattle.client_record.specs.Record.{compatible, lastOf, whole}
+use Rattle.client_held_test.specs.Held.{risesFrom, behind, lastSum, lastsOf, lastEnd, lastStart, endsWell, mostOf}
 use Rattle.client_record.specs.Ranges.{meets}
 use Rattle.client_record.proofs.Completion.{agree, last-ends, last-passes, last-marked, by-sum}
 use Rattle.client_record.proofs.Lists.{take-next, all-append, any-append, sum-append, pairs-append, pairs-next, all-not}
@@ -75,6 +76,11 @@ module _ {A : Type 0} where
       let b = both-true (all (q x) (l ++ m)) (pairs q (l ++ m)) e in
       ap₂ _&&_ (both-true (all (q x) l) (all (q x) m) (sym (all-append (q x) l m) ∙ b .0) .0) (pairs-front q l m (b .1))
 
+  -- and what all pass, the front passes
+  pub all-front : (p : A → Bool) (l : List A) (i : ℕ) → all p l ≡ true → all p (take i l) ≡ true
+  all-front p l i e =
+      both-true (all p (take i l)) (all p (drop i l)) (sym (all-append p (take i l) (drop i l)) ∙ ap (all p) (take-append-drop i l) ∙ e) .0
+
   both-all : (p q : A → Bool) (l : List A) → all p l ≡ true → all q l ≡ true → all (λ x. p x && q x) l ≡ true
   unfolding all
   both-all p q [] e f = refl
@@ -89,11 +95,6 @@ apartAll fs = pairs (λ f g. not (overlaps f g)) fs
 
 -- ---- one more fragment
 
--- the end of the last one in the list; e if there is none
-unfoldable pub behind : ℕ → List Fragment → ℕ
-behind e [] = e
-behind e (f ∷ fs) = behind (end f) fs
-
 module _ (f : Fragment) where
   rises-append : (e : ℕ) (fs : List Fragment) → risesFrom e (fs ++ (f ∷ [])) ≡ risesFrom e fs && leb (behind e fs) (f .offset)
   unfolding risesFrom behind
@@ -106,30 +107,6 @@ module _ (f : Fragment) where
   behind-append e [] = refl
   behind-append e (g ∷ fs) = behind-append (end g) fs
 
-  highest-append : (fs : List Fragment) (h : ℕ) → Highest fs h → Highest (fs ++ (f ∷ [])) (cond (ltb h (end f)) (end f) h)
-  unfolding all any
-  highest-append fs h k = record {
-    over = all-append (λ g. leb (end g) (cond (ltb h (end f)) (end f) h)) fs (f ∷ [])
-        ∙ ap₂ _&&_ (more (ltb h (end f)) refl) (ap (λ (x : Bool). x && true) (new (ltb h (end f)) refl));
-    reached = λ n l. any-append (λ g. ltb n (end g)) fs (f ∷ []) ∙ ap (λ (x : Bool). any (λ g. ltb n (end g)) fs || x) (or-false (ltb n (end f)))
-        ∙ still (ltb h (end f)) refl n l;
-  }
-    where
-      more : (b : Bool) → ltb h (end f) ≡ b → all (λ g. leb (end g) (cond b (end f) h)) fs ≡ true
-      more true e =
-          all-weaker (λ g. leb (end g) h) (λ g. leb (end g) (end f))
-          (λ g q. le-leb (end g) (end f) (omega (arith, leb-true (end g) h q, ltb-true h (end f) e))) fs (k .over)
-      more false e = k .over
-
-      new : (b : Bool) → ltb h (end f) ≡ b → leb (end f) (cond b (end f) h) ≡ true
-      new true e = le-leb (end f) (end f) (omega arith)
-      new false e = le-leb (end f) h (ltb-false h (end f) e)
-
-      still : (b : Bool) → ltb h (end f) ≡ b → (n : ℕ) → n < cond b (end f) h → any (λ g. ltb n (end g)) fs || ltb n (end f) ≡ true
-      still true e n l =
-          ap (λ (x : Bool). any (λ g. ltb n (end g)) fs || x) (lt-ltb n (end f) l) ∙ or-true (any (λ g. ltb n (end g)) fs)
-      still false e n l = ap (λ (x : Bool). x || ltb n (end f)) (k .reached n l)
-
 module _ (l : List Fragment) (i : ℕ) (d : Fragment) (h : i < length l) where
   pub rises-next : risesFrom 0 (take (i + 1) l) ≡ risesFrom 0 (take i l) && leb (behind 0 (take i l)) (getD l i d .offset)
   rises-next = ap (risesFrom 0) (take-next l i d h) ∙ rises-append (getD l i d) 0 (take i l)
@@ -137,17 +114,58 @@ module _ (l : List Fragment) (i : ℕ) (d : Fragment) (h : i < length l) where
   pub behind-next : behind 0 (take (i + 1) l) ≡ end (getD l i d)
   behind-next = ap (behind 0) (take-next l i d h) ∙ behind-append (getD l i d) 0 (take i l)
 
-  pub highest-next : (m : ℕ) → Highest (take i l) m → Highest (take (i + 1) l) (cond (ltb m (end (getD l i d))) (end (getD l i d)) m)
-  highest-next m k = rw (take-next l i d h) (highest-append (getD l i d) (take i l) m k)
+-- ---- rising fragments
 
-pub highest-none : Highest [] 0
-unfolding all
-highest-none = record { over = refl; reached = λ n h. absurd (omega arith) }
+offset-end : (f : Fragment) → f .offset ≤ end f
+unfolding end
+offset-end f = omega arith
+
+-- each starts where the first may or behind it
+starts-behind : (e : ℕ) (fs : List Fragment) → risesFrom e fs ≡ true → all (λ f. leb e (f .offset)) fs ≡ true
+unfolding all risesFrom
+starts-behind e [] r = refl
+starts-behind e (f ∷ fs) r =
+    let b = both-true (leb e (f .offset)) (risesFrom (end f) fs) r in
+    let far : e ≤ end f = omega (arith, leb-true e (f .offset) (b .0), offset-end f) in
+    ap₂ _&&_ (b .0)
+    (all-weaker (λ g. leb (end f) (g .offset)) (λ g. leb e (g .offset))
+    (λ g q. le-leb e (g .offset) (omega (arith, leb-true (end f) (g .offset) q))) fs (starts-behind (end f) fs (b .1)))
+
+-- so no two overlap
+pub rising-apart : (e : ℕ) (fs : List Fragment) → risesFrom e fs ≡ true → apartAll fs ≡ true
+unfolding pairs overlaps risesFrom
+rising-apart e [] r = refl
+rising-apart e (f ∷ fs) r =
+    let b = both-true (leb e (f .offset)) (risesFrom (end f) fs) r in
+    ap₂ _&&_
+    (all-weaker (λ g. leb (end f) (g .offset)) (λ g. not (ltb (f .offset) (end g) && ltb (g .offset) (end f)))
+    (λ g q. ap (λ (x : Bool). not (ltb (f .offset) (end g) && x)) (le-ltb (g .offset) (end f) (leb-true (end f) (g .offset) q))
+    ∙ ap not (and-false (ltb (f .offset) (end g)))) fs (starts-behind (end f) fs (b .1)))
+    (rising-apart (end f) fs (b .1))
+
+-- and the one that is listed last says where they end
+rising-far : (e : ℕ) (fs : List Fragment) → risesFrom e fs ≡ true → e ≤ behind e fs
+unfolding risesFrom behind
+rising-far e [] r = omega arith
+rising-far e (f ∷ fs) r =
+    let b = both-true (leb e (f .offset)) (risesFrom (end f) fs) r in
+    omega (arith, leb-true e (f .offset) (b .0), offset-end f, rising-far (end f) fs (b .1))
+
+pub rising-ends : (m e : ℕ) (fs : List Fragment) → risesFrom e fs ≡ true → e ≤ m → leb (behind e fs) m ≡ all (λ f. leb (end f) m) fs
+unfolding risesFrom behind all
+rising-ends m e [] r h = le-leb e m h
+rising-ends m e (f ∷ fs) r h =
+    let b = both-true (leb e (f .offset)) (risesFrom (end f) fs) r in go (leb (end f) m) refl (b .1) (rising-ends m (end f) fs (b .1))
+  where
+    go : (t : Bool) → leb (end f) m ≡ t → risesFrom (end f) fs ≡ true → (end f ≤ m → leb (behind (end f) fs) m ≡ all (λ g. leb (end g) m) fs)
+        → leb (behind (end f) fs) m ≡ t && all (λ g. leb (end g) m) fs
+    go true k s ih = ih (leb-true (end f) m k)
+    go false k s ih = lt-leb (behind (end f) fs) m (omega (arith, leb-false (end f) m k, rising-far (end f) fs s))
 
 -- ---- marks
 
 marks-any : (fs : List Fragment) → any isLast fs ≡ ltb 0 (lastsOf fs)
-unfolding any sum lastsOf
+unfolding any sum lastSum
 marks-any [] = refl
 marks-any (f ∷ fs) = go (isLast f) (marks-any fs)
   where
@@ -159,21 +177,21 @@ marks-any (f ∷ fs) = go (isLast f) (marks-any fs)
 no-marks : (fs : List Fragment) → lastsOf fs ≡ 0 → all (λ g. not (isLast g)) fs ≡ true
 no-marks fs e = all-not isLast fs ∙ ap not (marks-any fs ∙ ap (ltb 0) e)
 
--- none is marked: no end is known
-no-ends : (fs : List Fragment) → lastsOf fs ≡ 0 → lastEnds fs ≡ 0
-unfolding lastsOf lastEnds sum
-no-ends [] e = refl
-no-ends (f ∷ fs) e = go (isLast f) e (no-ends fs)
+-- none is marked: nothing is summed
+none-summed : (g : Fragment → ℕ) (fs : List Fragment) → lastsOf fs ≡ 0 → lastSum g fs ≡ 0
+unfolding lastSum sum
+none-summed g [] e = refl
+none-summed g (f ∷ fs) e = go (isLast f) e (none-summed g fs)
   where
-    go : (b : Bool) → cond b 1 0 + sum (λ g. cond (isLast g) 1 0) fs ≡ 0
-        → (sum (λ g. cond (isLast g) 1 0) fs ≡ 0 → sum (λ g. cond (isLast g) (end g) 0) fs ≡ 0)
-        → cond b (end f) 0 + sum (λ g. cond (isLast g) (end g) 0) fs ≡ 0
+    go : (b : Bool) → cond b 1 0 + sum (λ h. cond (isLast h) 1 0) fs ≡ 0
+        → (sum (λ h. cond (isLast h) 1 0) fs ≡ 0 → sum (λ h. cond (isLast h) (g h) 0) fs ≡ 0)
+        → cond b (g f) 0 + sum (λ h. cond (isLast h) (g h) 0) fs ≡ 0
     go true e ih = absurd (omega arith)
     go false e ih = omega (arith, ih (omega arith))
 
 -- at most one is marked: not two of them
 one-mark : (fs : List Fragment) → lastsOf fs ≤ 1 → pairs (λ f g. not (bothLast f g)) fs ≡ true
-unfolding lastsOf sum pairs bothLast
+unfolding lastSum sum pairs bothLast
 one-mark [] e = refl
 one-mark (f ∷ fs) e = go (isLast f) refl e (one-mark fs)
   where
@@ -187,28 +205,28 @@ one-mark (f ∷ fs) e = go (isLast f) refl e (one-mark fs)
         (ih (omega arith))
     go false k e ih = ap₂ _&&_ (all-pass (λ g. not (isLast f && isLast g)) (λ g. ap (λ (x : Bool). not (x && isLast g)) k) fs) (ih (omega arith))
 
--- and where it ends is known
-mark-ends : (fs : List Fragment) → lastsOf fs ≤ 1 → all (λ f. not (isLast f) || eqb (end f) (lastEnds fs)) fs ≡ true
-unfolding lastsOf lastEnds sum all
-mark-ends [] e = refl
-mark-ends (f ∷ fs) e = go (isLast f) e (mark-ends fs)
+-- and what is summed is its own
+mark-is : (g : Fragment → ℕ) (fs : List Fragment) → lastsOf fs ≤ 1 → all (λ f. not (isLast f) || eqb (g f) (lastSum g fs)) fs ≡ true
+unfolding lastSum sum all
+mark-is g [] e = refl
+mark-is g (f ∷ fs) e = go (isLast f) e (mark-is g fs)
   where
     rest : ℕ
-    rest = sum (λ g. cond (isLast g) (end g) 0) fs
+    rest = sum (λ h. cond (isLast h) (g h) 0) fs
 
-    go : (b : Bool) → cond b 1 0 + sum (λ g. cond (isLast g) 1 0) fs ≤ 1
-        → (sum (λ g. cond (isLast g) 1 0) fs ≤ 1 → all (λ g. not (isLast g) || eqb (end g) rest) fs ≡ true)
-        → (not b || eqb (end f) (cond b (end f) 0 + rest)) && all (λ g. not (isLast g) || eqb (end g) (cond b (end f) 0 + rest)) fs ≡ true
+    go : (b : Bool) → cond b 1 0 + sum (λ h. cond (isLast h) 1 0) fs ≤ 1
+        → (sum (λ h. cond (isLast h) 1 0) fs ≤ 1 → all (λ h. not (isLast h) || eqb (g h) rest) fs ≡ true)
+        → (not b || eqb (g f) (cond b (g f) 0 + rest)) && all (λ h. not (isLast h) || eqb (g h) (cond b (g f) 0 + rest)) fs ≡ true
     go true e ih =
         let none : lastsOf fs ≡ 0 = omega arith in
-        ap₂ _&&_ (eq-eqb (end f) (end f + rest) (omega (arith, no-ends fs none)))
-        (all-weaker (λ g. not (isLast g)) (λ g. not (isLast g) || eqb (end g) (end f + rest))
-        (λ g q. ap (λ (x : Bool). x || eqb (end g) (end f + rest)) q) fs (no-marks fs none))
-    go false e ih = ap (λ (m : ℕ). all (λ g. not (isLast g) || eqb (end g) m) fs) (zero-add rest) ∙ ih (omega arith)
+        ap₂ _&&_ (eq-eqb (g f) (g f + rest) (omega (arith, none-summed g fs none)))
+        (all-weaker (λ h. not (isLast h)) (λ h. not (isLast h) || eqb (g h) (g f + rest))
+        (λ h q. ap (λ (x : Bool). x || eqb (g h) (g f + rest)) q) fs (no-marks fs none))
+    go false e ih = ap (λ (m : ℕ). all (λ h. not (isLast h) || eqb (g h) m) fs) (zero-add rest) ∙ ih (omega arith)
 
 -- fragments of which none contradicts another have at most one mark
 marks-most : (fs : List Fragment) → compatible fs ≡ true → lastsOf fs ≤ 1
-unfolding compatible pairs lastsOf sum
+unfolding compatible pairs lastSum sum
 marks-most [] c = omega arith
 marks-most (f ∷ fs) c =
     let b = both-true (all (λ g. not (conflicts f g)) fs) (pairs (λ x y. not (conflicts x y)) fs) c in
@@ -222,129 +240,30 @@ marks-most (f ∷ fs) c =
         omega (arith, ltb-false 0 (lastsOf fs) (sym (marks-any fs) ∙ none))
     go false k row e = omega arith
 
--- ---- rising fragments don't overlap
+-- the one that is marked last has what is summed
+the-last : (g : Fragment → ℕ) (fs : List Fragment) → lastsOf fs ≤ 1 → any isLast fs ≡ true → g (lastOf fs) ≡ lastSum g fs
+the-last g fs few some =
+    eqb-true (g (lastOf fs)) (lastSum g fs)
+    (so (isLast (lastOf fs)) (last-marked fs ∙ some) (last-passes (λ f. not (isLast f) || eqb (g f) (lastSum g fs)) fs (mark-is g fs few) some))
+  where
+    so : {y : Bool} (x : Bool) → x ≡ true → not x || y ≡ true → y ≡ true
+    so true e m = m
+    so false e m = absurd (true-false (sym e))
 
-offset-end : (f : Fragment) → f .offset ≤ end f
-unfolding end
-offset-end f = omega arith
+-- ---- what is known where each fragment is sound and at most one is last
 
-starts-behind : (e : ℕ) (fs : List Fragment) → all soundFragment fs ≡ true → risesFrom e fs ≡ true → all (λ f. leb e (f .offset)) fs ≡ true
-unfolding all risesFrom
-starts-behind e [] s r = refl
-starts-behind e (f ∷ fs) s r =
-    let a = both-true (soundFragment f) (all soundFragment fs) s in
-    let b = both-true (leb e (f .offset)) (risesFrom (end f) fs) r in
-    let far : e ≤ end f = omega (arith, leb-true e (f .offset) (b .0), offset-end f) in
-    ap₂ _&&_ (b .0)
-    (all-weaker (λ g. leb (end f) (g .offset)) (λ g. leb e (g .offset))
-    (λ g q. le-leb e (g .offset) (omega (arith, leb-true (end f) (g .offset) q))) fs (starts-behind (end f) fs (a .1) (b .1)))
-
-rising-apart : (e : ℕ) (fs : List Fragment) → all soundFragment fs ≡ true → risesFrom e fs ≡ true → apartAll fs ≡ true
-unfolding pairs overlaps all risesFrom
-rising-apart e [] s r = refl
-rising-apart e (f ∷ fs) s r =
-    let a = both-true (soundFragment f) (all soundFragment fs) s in
-    let b = both-true (leb e (f .offset)) (risesFrom (end f) fs) r in
-    ap₂ _&&_
-    (all-weaker (λ g. leb (end f) (g .offset)) (λ g. not (ltb (f .offset) (end g) && ltb (g .offset) (end f)))
-    (λ g q. ap (λ (x : Bool). not (ltb (f .offset) (end g) && x)) (le-ltb (g .offset) (end f) (leb-true (end f) (g .offset) q))
-    ∙ ap not (and-false (ltb (f .offset) (end g)))) fs (starts-behind (end f) fs (a .1) (b .1)))
-    (rising-apart (end f) fs (a .1) (b .1))
-
--- ---- what the pass knows, where each fragment is sound and at most one is last
-
--- it ends at or before the highest end; if it is the last one, the known end is its own
-unfoldable pub bounded : Bool → ℕ → ℕ → Fragment → Bool
+-- it ends at or before `high`; if it is the last one, the known end is its own
+unfoldable bounded : Bool → ℕ → ℕ → Fragment → Bool
 bounded known past high f = leb (end f) high && (not (isLast f) || (known && eqb (end f) past))
 
-pub record Swept (fs : List Fragment) (known : Bool) (past high total : ℕ) : Type 0 where
-  pub each : all soundFragment fs ≡ true
-  pub marked : any isLast fs ≡ known
-  pub single : pairs (λ f g. not (bothLast f g)) fs ≡ true
-  pub ends : all (bounded known past high) fs ≡ true
-  pub reached : (n : ℕ) → n < high → any (λ f. ltb n (end f)) fs ≡ true
-  pub sums : sum (λ f. f .length) fs ≡ total
-
-one-known : (m : ℕ) → m ≤ 1 → (b : Bool) → eqb m 1 ≡ b → ltb 0 m ≡ b
-one-known m h true e = lt-ltb 0 m (omega (arith, eqb-true m 1 e))
-one-known m h false e = le-ltb 0 m (below m h (eqb-false m 1 e))
-  where
-    below : (k : ℕ) → k ≤ 1 → (k ≡ 1 → ⊥) → k ≤ 0
-    below k l n = omega arith
-
-module _ (fs : List Fragment) (r : Pass) (p : Passed fs r) where
-  pub wrong-fails : r .wrong ≡ true → all soundFragment fs ≡ false
-  wrong-fails e = not-true (all soundFragment fs) (sym (p .wrong) ∙ e)
-
-  -- two last ones
-  pub two-last : 1 < r .lasts → compatible fs ≡ false
-  two-last e = not-yes (compatible fs) (λ c. omega (arith, p .lasts, marks-most fs c))
-
-  pub rising-so : all soundFragment fs ≡ true → r .falls ≡ false → apartAll fs ≡ true
-  rising-so each e = rising-apart 0 fs each (not-false (risesFrom 0 fs) (sym (p .falls) ∙ e))
-
-  pub swept : r .wrong ≡ false → r .lasts ≤ 1 → Swept fs (eqb (r .lasts) 1) (r .past) (r .high) (r .total)
-  unfolding bounded
-  swept right most =
-      let few : lastsOf fs ≤ 1 = omega (arith, p .lasts) in
-      let mark : any isLast fs ≡ eqb (r .lasts) 1 = marks-any fs ∙ ap (ltb 0) (sym (p .lasts)) ∙ one-known (r .lasts) most (eqb (r .lasts) 1) refl in
-      record {
-        each = not-false (all soundFragment fs) (sym (p .wrong) ∙ right);
-        marked = mark;
-        single = one-mark fs few;
-        ends = both-all (λ f. leb (end f) (r .high)) (λ f. not (isLast f) || (eqb (r .lasts) 1 && eqb (end f) (r .past))) fs (p .high .over)
-            (known-ends (eqb (r .lasts) 1) mark few);
-        reached = p .high .reached;
-        sums = sym (p .total);
-      }
-    where
-      known-ends : (b : Bool) → any isLast fs ≡ b → lastsOf fs ≤ 1 → all (λ f. not (isLast f) || (b && eqb (end f) (r .past))) fs ≡ true
-      known-ends true m few = ap (λ (e : ℕ). all (λ f. not (isLast f) || eqb (end f) e) fs) (p .past) ∙ mark-ends fs few
-      known-ends false m few =
-          all-weaker (λ f. not (isLast f)) (λ f. not (isLast f) || false) (λ f q. ap (λ (x : Bool). x || false) q) fs (all-not isLast fs ∙ ap not m)
-
--- ---- what it decides
+record Swept (fs : List Fragment) (known : Bool) (past high total : ℕ) : Type 0 where
+  marked : any isLast fs ≡ known
+  ending : known ≡ true → end (lastOf fs) ≡ past
+  single : pairs (λ f g. not (bothLast f g)) fs ≡ true
+  ends : all (bounded known past high) fs ≡ true
+  sums : sum (λ f. f .length) fs ≡ total
 
 module _ {fs : List Fragment} {known : Bool} {past high total : ℕ} (s : Swept fs known past high total) where
-  -- the known end is that of the last one
-  last-end : known ≡ true → end (lastOf fs) ≡ past
-  unfolding bounded
-  last-end k =
-      let b = last-passes (bounded known past high) fs (s .ends) (s .marked ∙ k) in
-      let m = both-true (leb (end (lastOf fs)) high) _ b .1 in
-      eqb-true (end (lastOf fs)) past (both-true known _ (so (isLast (lastOf fs)) (last-marked fs ∙ s .marked ∙ k) m) .1)
-    where
-      so : {y : Bool} (x : Bool) → x ≡ true → not x || y ≡ true → y ≡ true
-      so true e m = m
-      so false e m = absurd (true-false (sym e))
-
-  -- an end past the known one
-  pub over-end : known && ltb past high ≡ true → compatible fs && not (whole fs) ≡ false
-  unfolding end
-  over-end e =
-      ap (λ (x : Bool). x && not (whole fs))
-      (not-yes (compatible fs)
-      (λ c.
-      let b = both-true known (ltb past high) e in
-      let same = last-end (b .0) in
-      never-both (λ f. ltb past (end f)) (λ f. leb (end f) (end (lastOf fs)))
-      (λ f p q. omega (arith, same, ltb-true past (end f) p, leb-true (end f) (end (lastOf fs)) q)) fs
-      (s .reached past (ltb-true past high (b .1))) (ends-by c (s .marked ∙ b .0))))
-    where
-      ends-by : compatible fs ≡ true → any isLast fs ≡ true → all (λ f. leb (end f) (end (lastOf fs))) fs ≡ true
-      ends-by c e = last-ends fs c e
-
-  -- as many bytes as the known end: either they overlap, or the original is whole
-  pub over-sum : known && eqb total past ≡ true → compatible fs && not (whole fs) ≡ false
-  over-sum e = go (compatible fs) refl
-    where
-      go : (x : Bool) → compatible fs ≡ x → x && not (whole fs) ≡ false
-      go true c =
-          let b = both-true known (eqb total past) e in
-          ap not (by-sum fs c .known-end (s .marked ∙ b .0)
-          ∙ eq-eqb _ _ (s .sums ∙ eqb-true total past (b .1) ∙ sym (last-end (b .0))))
-      go false c = refl
-
   -- where no end passes the known one, none ends past one that is last
   kept : known && ltb past high ≡ false → (x y : Fragment) → bounded known past high x ≡ true → bounded known past high y ≡ true → (t : Bool)
       → isLast y ≡ t → t && ltb (end y) (end x) ≡ false
@@ -370,7 +289,7 @@ module _ {fs : List Fragment} {known : Bool} {past high total : ℕ} (s : Swept 
   open-still : known && eqb total past ≡ false → compatible fs ≡ true → (k : Bool) → known ≡ k → whole fs ≡ false
   open-still short c true k =
       by-sum fs c .known-end (s .marked ∙ k)
-      ∙ ne-eqb _ _ (λ q. true-false (sym (eq-eqb total past (sym (s .sums) ∙ q ∙ last-end k)) ∙ sym (ap (λ (x : Bool). x && eqb total past) k) ∙ short))
+      ∙ ne-eqb _ _ (λ q. true-false (sym (eq-eqb total past (sym (s .sums) ∙ q ∙ s .ending k)) ∙ sym (ap (λ (x : Bool). x && eqb total past) k) ∙ short))
   open-still short c false k = by-sum fs c .no-last (s .marked ∙ k)
 
   apart-of : (f g : Fragment) → not (conflicts f g) ≡ true → not (overlaps f g) ≡ true
@@ -378,7 +297,7 @@ module _ {fs : List Fragment} {known : Bool} {past high total : ℕ} (s : Swept 
   apart-of f g q = ap not (agree f g q .apart)
 
   -- and else whether they overlap decides
-  pub by-overlap : known && ltb past high ≡ false → known && eqb total past ≡ false → compatible fs && not (whole fs) ≡ apartAll fs
+  by-overlap : known && ltb past high ≡ false → known && eqb total past ≡ false → compatible fs && not (whole fs) ≡ apartAll fs
   unfolding compatible
   by-overlap inside short = go (apartAll fs) refl
     where
@@ -392,3 +311,164 @@ module _ {fs : List Fragment} {known : Bool} {past high total : ℕ} (s : Swept 
           (not-yes (compatible fs)
           (λ c. true-false
           (sym (pairs-weaker (λ f g. not (conflicts f g)) (λ f g. not (overlaps f g)) apart-of fs c) ∙ o)))
+
+-- ---- what it decides
+
+pub some-end : (f : Fragment) → nonEmpty f ≡ true → end f ≤ 0 → ⊥
+unfolding nonEmpty end
+some-end f e h = eqb-false (f .length) 0 (not-true (eqb (f .length) 0) e) (omega arith)
+
+-- one is empty
+pub unsound : (fs : List Fragment) → all nonEmpty fs ≡ false → all soundFragment fs ≡ false
+unfolding soundFragment
+unsound fs e =
+    not-yes (all soundFragment fs) (λ s. true-false (sym (all-weaker soundFragment nonEmpty (λ f q. both-true (nonEmpty f) _ q .0) fs s) ∙ e))
+
+-- wherever they may end, it is within the limit
+pub most-within : (fs : List Fragment) (total : ℕ) → mostOf fs total ≤ datagramLimit
+unfolding mostOf endsWell
+most-within fs total = go (any isLast fs) (leb (lastsOf fs) 1) (leb (lastStart fs) (lastEnd fs)) (leb (lastEnd fs) datagramLimit) refl (not (eqb (lastEnd fs) total))
+  where
+    go : (x a b c : Bool) → leb (lastEnd fs) datagramLimit ≡ c → (d : Bool) → cond x (cond (a && (b && (c && d))) (lastEnd fs) 0) datagramLimit ≤ datagramLimit
+    go true true true true e true = leb-true (lastEnd fs) datagramLimit e
+    go true true true true e false = omega arith
+    go true true true false e d = omega arith
+    go true true false c e d = omega arith
+    go true false b c e d = omega arith
+    go false a b c e d = omega arith
+
+last-sound : (f : Fragment) → isLast f ≡ true → soundFragment f ≡ true → (f .«option_start» ≤ end f) × (end f ≤ datagramLimit)
+unfolding soundFragment fits startsOptionsInside
+last-sound f l s =
+    let b = both-true (leb (end f) datagramLimit) _ (both-true (nonEmpty f) _ s .1) in
+    (leb-true (f .«option_start») (end f) (sym (ap (λ (x : Bool). not x || leb (f .«option_start») (end f)) l) ∙ b .1), leb-true (end f) datagramLimit (b .0))
+
+module _ (fs : List Fragment) (total : ℕ) (full : all nonEmpty fs ≡ true) (sums : sum (λ f. f .length) fs ≡ total) where
+  -- what the record test asks of them
+  abbrev asked : Bool
+  asked = all soundFragment fs && (compatible fs && not (whole fs))
+
+  abbrev endsBy : ℕ → Bool
+  endsBy m = all (λ f. leb (end f) m) fs
+
+  each-sound : endsBy datagramLimit ≡ true → all startsOptionsInside fs ≡ true → all soundFragment fs ≡ true
+  unfolding soundFragment fits
+  each-sound e s = both-all nonEmpty (λ f. leb (end f) datagramLimit && startsOptionsInside f) fs full
+      (both-all (λ f. leb (end f) datagramLimit) startsOptionsInside fs e s)
+
+  sound-ends : all soundFragment fs ≡ true → endsBy datagramLimit ≡ true
+  unfolding soundFragment fits
+  sound-ends s =
+      all-weaker soundFragment (λ f. leb (end f) datagramLimit)
+      (λ f q. both-true (leb (end f) datagramLimit) (startsOptionsInside f) (both-true (nonEmpty f) _ q .1) .0) fs s
+
+  -- none is marked: the limit of an original
+  none-last : any isLast fs ≡ false → asked ≡ endsBy datagramLimit && apartAll fs
+  unfolding startsOptionsInside bounded
+  none-last e = go (endsBy datagramLimit) refl
+    where
+      plain : all (λ f. not (isLast f)) fs ≡ true
+      plain = all-not isLast fs ∙ ap not e
+
+      few : lastsOf fs ≤ 1
+      few = omega (arith, ltb-false 0 (lastsOf fs) (sym (marks-any fs) ∙ e))
+
+      go : (x : Bool) → endsBy datagramLimit ≡ x → asked ≡ x && apartAll fs
+      go true k =
+          let each = each-sound k (all-weaker (λ f. not (isLast f)) startsOptionsInside
+          (λ f q. ap (λ (x : Bool). x || leb (f .«option_start») (end f)) q) fs plain) in
+          let s : Swept fs false 0 datagramLimit total = record {
+            marked = e;
+            ending = λ q. absurd (true-false (sym q));
+            single = one-mark fs few;
+            ends = both-all (λ f. leb (end f) datagramLimit) (λ f. not (isLast f) || false) fs k
+                (all-weaker (λ f. not (isLast f)) (λ f. not (isLast f) || false) (λ f q. ap (λ (x : Bool). x || false) q) fs plain);
+            sums = sums;
+          } in
+          ap₂ _&&_ each (by-overlap s refl refl)
+      go false k = ap (λ (x : Bool). x && (compatible fs && not (whole fs))) (not-yes (all soundFragment fs) (λ q. true-false (sym (sound-ends q) ∙ k)))
+
+  -- one is marked, and its end can be
+  one-last : any isLast fs ≡ true → endsWell fs total ≡ true → asked ≡ endsBy (lastEnd fs) && apartAll fs
+  unfolding endsWell startsOptionsInside bounded end
+  one-last some well = go (endsBy (lastEnd fs)) refl
+    where
+      a : (leb (lastsOf fs) 1 ≡ true) × (leb (lastStart fs) (lastEnd fs) && (leb (lastEnd fs) datagramLimit && not (eqb (lastEnd fs) total)) ≡ true)
+      a = both-true (leb (lastsOf fs) 1) _ well
+
+      b : (leb (lastStart fs) (lastEnd fs) ≡ true) × (leb (lastEnd fs) datagramLimit && not (eqb (lastEnd fs) total) ≡ true)
+      b = both-true (leb (lastStart fs) (lastEnd fs)) _ (a .1)
+
+      c : (leb (lastEnd fs) datagramLimit ≡ true) × (not (eqb (lastEnd fs) total) ≡ true)
+      c = both-true (leb (lastEnd fs) datagramLimit) (not (eqb (lastEnd fs) total)) (b .1)
+
+      few : lastsOf fs ≤ 1
+      few = leb-true (lastsOf fs) 1 (a .0)
+
+      inside : (f : Fragment) (x : Bool) → not x || eqb (f .«option_start») (lastStart fs) ≡ true → not x || eqb (end f) (lastEnd fs) ≡ true
+          → not x || leb (f .«option_start») (end f) ≡ true
+      inside f true p q =
+          le-leb (f .«option_start») (end f)
+          (omega (arith, eqb-true (f .«option_start») (lastStart fs) p, eqb-true (end f) (lastEnd fs) q, leb-true (lastStart fs) (lastEnd fs) (b .0)))
+      inside f false p q = refl
+
+      go : (x : Bool) → endsBy (lastEnd fs) ≡ x → asked ≡ x && apartAll fs
+      go true k =
+          let short-ends : endsBy datagramLimit ≡ true =
+          all-weaker (λ f. leb (end f) (lastEnd fs)) (λ f. leb (end f) datagramLimit)
+          (λ f q. le-leb (end f) datagramLimit (omega (arith, leb-true (end f) (lastEnd fs) q, leb-true (lastEnd fs) datagramLimit (c .0)))) fs k in
+          let marks = both-all (λ f. not (isLast f) || eqb (f .«option_start») (lastStart fs)) (λ f. not (isLast f) || eqb (end f) (lastEnd fs)) fs
+          (mark-is (λ f. f .«option_start») fs few) (mark-is end fs few) in
+          let each = each-sound short-ends (all-weaker _ startsOptionsInside
+          (λ f q. let m = both-true (not (isLast f) || eqb (f .«option_start») (lastStart fs)) _ q in inside f (isLast f) (m .0) (m .1)) fs marks) in
+          let s : Swept fs true (lastEnd fs) (lastEnd fs) total = record {
+            marked = some;
+            ending = λ q. the-last end fs few some;
+            single = one-mark fs few;
+            ends = both-all (λ f. leb (end f) (lastEnd fs)) (λ f. not (isLast f) || eqb (end f) (lastEnd fs)) fs k (mark-is end fs few);
+            sums = sums;
+          } in
+          ap₂ _&&_ each
+          (by-overlap s (le-ltb (lastEnd fs) (lastEnd fs) (omega arith))
+          (ne-eqb total (lastEnd fs) (λ q. true-false (sym (eq-eqb (lastEnd fs) total (sym q)) ∙ not-true (eqb (lastEnd fs) total) (c .1)))))
+      go false k =
+          ap (λ (x : Bool). all soundFragment fs && (x && not (whole fs)))
+          (not-yes (compatible fs)
+          (λ q. true-false (sym (ap endsBy (sym (the-last end fs few some)) ∙ last-ends fs q some) ∙ k)))
+          ∙ and-false (all soundFragment fs)
+
+  -- one is marked, and its end can't be: no fragment passes, as none is empty
+  never-last : any isLast fs ≡ true → endsWell fs total ≡ false → asked ≡ endsBy 0 && apartAll fs
+  unfolding endsWell
+  never-last some ill =
+      not-yes asked (λ q. true-false (sym (well q) ∙ ill)) ∙ sym (ap (λ (x : Bool). x && apartAll fs) (not-yes (endsBy 0) nowhere))
+    where
+      nowhere : endsBy 0 ≡ true → ⊥
+      nowhere k =
+          never-both isLast (λ f. nonEmpty f && leb (end f) 0)
+          (λ f p q. let b = both-true (nonEmpty f) (leb (end f) 0) q in some-end f (b .0) (leb-true (end f) 0 (b .1))) fs some
+          (both-all nonEmpty (λ f. leb (end f) 0) fs full k)
+
+      well : asked ≡ true → endsWell fs total ≡ true
+      well q =
+          let a = both-true (all soundFragment fs) (compatible fs && not (whole fs)) q in
+          let b = both-true (compatible fs) (not (whole fs)) (a .1) in
+          let few = marks-most fs (b .0) in
+          let past = the-last end fs few some in
+          let last = last-sound (lastOf fs) (last-marked fs ∙ some) (last-passes soundFragment fs (a .0) some) in
+          ap₂ _&&_ (le-leb (lastsOf fs) 1 few)
+          (ap₂ _&&_ (le-leb (lastStart fs) (lastEnd fs) (omega (arith, last .0, past, the-last (λ f. f .«option_start») fs few some)))
+          (ap₂ _&&_ (le-leb (lastEnd fs) datagramLimit (omega (arith, last .1, past)))
+          (ap not (ne-eqb (lastEnd fs) total (λ e. true-false
+          (sym (by-sum fs (b .0) .known-end some ∙ eq-eqb _ _ (sums ∙ sym e ∙ sym past)) ∙ not-true (whole fs) (b .1)))))))
+
+  -- the three cases
+  pub decided : asked ≡ endsBy (mostOf fs total) && apartAll fs
+  unfolding mostOf
+  decided = go (any isLast fs) refl (endsWell fs total) refl
+    where
+      go : (x : Bool) → any isLast fs ≡ x → (y : Bool) → endsWell fs total ≡ y
+          → asked ≡ endsBy (cond x (cond y (lastEnd fs) 0) datagramLimit) && apartAll fs
+      go true p true q = one-last p q
+      go true p false q = never-last p q
+      go false p y q = none-last p

@@ -12,13 +12,12 @@ use borrow.Author.Tests.{leb-true, leb-false, ltb-true, eqb-false, le-leb, lt-lt
 use Rattle.number_tests.proofs.Tests.{true-false, both-true, both-false}
 use Rattle.number_sets.specs.Sets.{has, among, Taken}
 use Rattle.client_record.specs.declared.Fragment.{Fragment}
-use Rattle.client_record.specs.Limits.{datagramLimit}
 use Rattle.client_record.specs.Lists.{all, any, pairs}
 use Rattle.client_record.specs.Ranges.{holds, meets}
-use Rattle.client_record.specs.Record.{end, nonEmpty, fits, startsOptionsInside, covers, overlaps, soundFragment}
-use Rattle.client_record.proofs.Lists.{all-append, any-next, pairs-next}
+use Rattle.client_record.specs.Record.{end, nonEmpty, covers, overlaps}
+use Rattle.client_record.proofs.Lists.{any-next, pairs-next}
 use Rattle.client_record.proofs.Ranges.{held-meets}
-use Rattle.client_held_test.proofs.OnePass.{apartAll, never-both, not-yes, pairs-front}
+use Rattle.client_held_test.proofs.OnePass.{apartAll, never-both, not-yes, pairs-front, all-front}
 
 -- the set has the places that the fragments take
 abbrev pub Marks : List ℕ → List Fragment → Type 0
@@ -31,20 +30,15 @@ common-overlaps : (j : ℕ) (f g : Fragment) → covers j f ≡ true → covers 
 unfolding covers overlaps holds meets end
 common-overlaps j f g p q = held-meets (λ x. x .offset) (λ x. x .length) j f g p q
 
-pub sound-some : (f : Fragment) → soundFragment f ≡ true → f .offset < end f
-unfolding soundFragment nonEmpty end
-sound-some f e = let n = eqb-false (f .length) 0 (not-true (eqb (f .length) 0) (both-true (not (eqb (f .length) 0)) _ e .0)) in go (f .length) n
+pub full-some : (f : Fragment) → nonEmpty f ≡ true → f .offset < end f
+unfolding nonEmpty end
+full-some f e = let n = eqb-false (f .length) 0 (not-true (eqb (f .length) 0) e) in go (f .length) n
   where
     go : (m : ℕ) → (m ≡ 0 → ⊥) → f .offset < f .offset + m
     go m n = omega arith
 
-pub sound-ends : (f : Fragment) → soundFragment f ≡ true → end f ≤ datagramLimit
-unfolding soundFragment fits
-sound-ends f e =
-    leb-true (end f) datagramLimit (both-true (leb (end f) datagramLimit) (startsOptionsInside f) (both-true (nonEmpty f) _ e .1) .0)
-
 -- an overlap of two that are not empty is a place in both
-module _ (f g : Fragment) (sound-f : soundFragment f ≡ true) (sound-g : soundFragment g ≡ true) (e : overlaps g f ≡ true) where
+module _ (f g : Fragment) (full-f : nonEmpty f ≡ true) (full-g : nonEmpty g ≡ true) (e : overlaps g f ≡ true) where
   pub record Common : Type 0 where
     pub at : ℕ
     pub from : f .offset ≤ at
@@ -62,31 +56,28 @@ module _ (f g : Fragment) (sound-f : soundFragment f ≡ true) (sound-g : soundF
         at = g .offset;
         from = leb-true (f .offset) (g .offset) k;
         before = p;
-        there = ap₂ _&&_ (le-leb (g .offset) (g .offset) (omega arith)) (lt-ltb (g .offset) (end g) (sound-some g sound-g));
+        there = ap₂ _&&_ (le-leb (g .offset) (g .offset) (omega arith)) (lt-ltb (g .offset) (end g) (full-some g full-g));
       }
       go p q false k = record {
         at = f .offset;
         from = omega arith;
-        before = sound-some f sound-f;
+        before = full-some f full-f;
         there = ap₂ _&&_ (le-leb (g .offset) (f .offset) (omega (arith, leb-false (f .offset) (g .offset) k))) (lt-ltb (f .offset) (end g) q);
       }
 
 -- ---- one more fragment
 
-pub all-front : (p : Fragment → Bool) (l : List Fragment) (i : ℕ) → all p l ≡ true → all p (take i l) ≡ true
-all-front p l i e = both-true (all p (take i l)) (all p (drop i l)) (sym (all-append p (take i l) (drop i l)) ∙ ap (all p) (take-append-drop i l) ∙ e) .0
-
-module _ (f : Fragment) (sound : soundFragment f ≡ true) where
+module _ (f : Fragment) (full : nonEmpty f ≡ true) where
   -- none of its places was taken: it overlaps none
-  clear-apart : (gs : List Fragment) → all soundFragment gs ≡ true → ((j : ℕ) → f .offset ≤ j → j < end f → any (covers j) gs ≡ false)
+  clear-apart : (gs : List Fragment) → all nonEmpty gs ≡ true → ((j : ℕ) → f .offset ≤ j → j < end f → any (covers j) gs ≡ false)
       → all (λ g. not (overlaps g f)) gs ≡ true
   unfolding all any
   clear-apart [] s c = refl
   clear-apart (g ∷ gs) s c =
-      let b = both-true (soundFragment g) (all soundFragment gs) s in
+      let b = both-true (nonEmpty g) (all nonEmpty gs) s in
       ap₂ _&&_
       (ap not (not-yes (overlaps g f)
-      (λ e. let w = overlap-common f g sound (b .0) e in
+      (λ e. let w = overlap-common f g full (b .0) e in
       true-false (sym (w .there) ∙ both-false (covers (w .at) g) (any (covers (w .at)) gs) (c (w .at) (w .from) (w .before)) .0))))
       (clear-apart gs (b .1) (λ j p q. both-false (covers j g) (any (covers j) gs) (c j p q) .1))
 
@@ -96,11 +87,11 @@ module _ (l : List Fragment) (i : ℕ) (d : Fragment) (h : i < length l) (ws : L
   unfolding among covers
   marks-more ws′ e j = e j ∙ ap (λ (x : Bool). x || among (getD l i d .offset) (end (getD l i d)) j) (marks j) ∙ sym (any-next l i d h (covers j))
 
-  pub apart-more : soundFragment (getD l i d) ≡ true → all soundFragment (take i l) ≡ true → apartAll (take i l) ≡ true
+  pub apart-more : nonEmpty (getD l i d) ≡ true → all nonEmpty (take i l) ≡ true → apartAll (take i l) ≡ true
       → ((j : ℕ) → getD l i d .offset ≤ j → j < end (getD l i d) → has ws j ≡ false) → apartAll (take (i + 1) l) ≡ true
-  apart-more sound each apart clear =
+  apart-more full each apart clear =
       pairs-next l i d h (λ f g. not (overlaps f g))
-      ∙ ap₂ _&&_ apart (clear-apart (getD l i d) sound (take i l) each (λ j p q. sym (marks j) ∙ clear j p q))
+      ∙ ap₂ _&&_ apart (clear-apart (getD l i d) full (take i l) each (λ j p q. sym (marks j) ∙ clear j p q))
 
   -- one of its places was taken: it overlaps some fragment
   pub taken-overlaps : Taken ws (getD l i d .offset) (end (getD l i d)) → apartAll l ≡ false

@@ -5,10 +5,11 @@ use client_record::Assembly;
 use client_record::Fragment;
 ghost use mathlib.Core.Path.{_≡_};
 ghost use mathlib.Core.Bool.{not, _&&_, cond};
+ghost use lib.Dec.{leb};
 ghost use Rattle.client_record.specs.Lists.{all, pairs};
 ghost use Rattle.client_record.specs.Post.{HeldCount};
-ghost use Rattle.client_record.specs.Record.{soundFragment, overlaps, compatible, whole, heldFragments, bytesHeld};
-ghost use Rattle.client_held_test.specs.Held.{PastOf, SoundEach, Passed, Refused, Tests};
+ghost use Rattle.client_record.specs.Record.{soundFragment, end, overlaps, compatible, whole, heldFragments, bytesHeld};
+ghost use Rattle.client_held_test.specs.Held.{PastOf, Passed, Marked, Marking, mostOf, Placing, Refused, Tests};
 
 // The words that have a bit for each place of an original.
 const WORDS: usize = (client_record::DATAGRAM_LIMIT + number_sets::WORD - 1) / number_sets::WORD;
@@ -35,24 +36,13 @@ fn chosen(test: bool, a: u32, b: u32) -> u32
     if test { a } else { b }
 }
 
-// What the record test asks of a held fragment by itself. The option start of one that is not last is ignored.
-fn fragment_sound(f: Fragment) -> bool
-    ensures { λ r. ⌜ r ≡ soundFragment f ⌝ }
-{
-    let past = past_of(f);
-    let options = f.option_start as u32;
-    let inside = client_record::either(!client_fragments::is_last(f), options <= past);
-    client_record::both(f.length != 0, client_record::both(past <= LIMIT, inside))
-}
-
-// What one pass over the fragments finds: whether one of them by itself is not sound, whether one starts before the end of the one in front of
-// it, how many are marked last, where those end (summed), the highest end, and the bytes.
+// What one pass over the fragments finds: whether one is empty, whether one starts before the end of the one in front of it, the last marks
+// joined by or, the end of the one that is listed last, and the bytes.
 struct Pass {
-    wrong: bool,
+    empty: bool,
     falls: bool,
-    lasts: u32,
-    past: u32,
-    high: u32,
+    marks: u32,
+    behind: u32,
     total: u32,
 }
 
@@ -61,48 +51,102 @@ fn sweep(a: Assembly, n: usize) -> Pass
     requires { ⌜ HeldCount a n ⌝ }
     ensures { λ r. ⌜ Passed (heldFragments a) r ⌝ }
 {
-    let mut wrong = false;
+    let mut empty = false;
     let mut falls = false;
-    let mut lasts = 0u32;
-    let mut past = 0u32;
-    let mut high = 0u32;
+    let mut marks = 0u32;
+    let mut behind = 0u32;
     let mut total = 0u32;
-    let mut before = 0u32;
     let mut i = 0;
     while i < n {
         let f = a.fragments[i];
         let start = f.offset as u32;
         let length = f.length as u32;
-        let end = past_of(f);
-        let last = client_fragments::is_last(f);
-        wrong = client_record::either(wrong, !fragment_sound(f));
-        falls = client_record::either(falls, start < before);
-        lasts += chosen(last, 1, 0);
-        past += chosen(last, end, 0);
-        high = chosen(high < end, end, high);
+        let mark = f.last as u32;
+        empty = client_record::either(empty, length == 0);
+        falls = client_record::either(falls, start < behind);
+        marks = marks | mark;
+        behind = past_of(f);
         total += length;
-        before = end;
         i += 1;
     }
     Pass {
-        wrong: wrong,
+        empty: empty,
         falls: falls,
-        lasts: lasts,
-        past: past,
-        high: high,
+        marks: marks,
+        behind: behind,
         total: total,
     }
 }
 
-// No two of the `held` fragments overlap.
-fn apart(a: Assembly, held: usize) -> bool
-    requires { ⌜ SoundEach a held ⌝ }
-    ensures { λ r. ⌜ r ≡ pairs (λ f g. not (overlaps f g)) (heldFragments a) ⌝ }
+// What the fragments that are marked last say: how many they are, and their ends and option starts, summed.
+struct LastOnes {
+    count: u32,
+    past: u32,
+    options: u32,
+}
+
+fn last_ones(a: Assembly, n: usize) -> LastOnes
+    requires { ⌜ HeldCount a n ⌝ }
+    ensures { λ r. ⌜ Marked (heldFragments a) r ⌝ }
+{
+    let mut count = 0u32;
+    let mut past = 0u32;
+    let mut options = 0u32;
+    let mut i = 0;
+    while i < n {
+        let f = a.fragments[i];
+        let last = client_fragments::is_last(f);
+        let start = f.option_start as u32;
+        count += chosen(last, 1, 0);
+        past += chosen(last, past_of(f), 0);
+        options += chosen(last, start, 0);
+        i += 1;
+    }
+    LastOnes {
+        count: count,
+        past: past,
+        options: options,
+    }
+}
+
+// Where fragments may end: at the known end, or where the longest original does. 0 if the known end can't be: two are last, it lies before
+// the option start or past the longest original, or there are as many bytes as places before it.
+fn most_end(a: Assembly, n: usize, marks: u32, total: u32) -> u32
+    requires { ⌜ Marking a n marks ⌝ }
+    ensures { λ r. ⌜ r ≡ mostOf (heldFragments a) total ⌝ }
+{
+    if marks == 0 {
+        return LIMIT;
+    }
+    let last = last_ones(a, n);
+    let past = last.past;
+    if 1 < last.count {
+        return 0;
+    }
+    if past < last.options {
+        return 0;
+    }
+    if LIMIT < past {
+        return 0;
+    }
+    if past == total {
+        return 0;
+    }
+    past
+}
+
+// None of the `held` fragments ends past `most`, and no two of them overlap.
+fn apart(a: Assembly, held: usize, most: u32) -> bool
+    requires { ⌜ Placing a held most ⌝ }
+    ensures { λ r. ⌜ r ≡ all (λ f. leb (end f) most) (heldFragments a) && pairs (λ f g. not (overlaps f g)) (heldFragments a) ⌝ }
 {
     let mut places = [0u64; WORDS];
     let mut k = 0;
     while k < held {
         let f = a.fragments[k];
+        if most < past_of(f) {
+            return false;
+        }
         let start = f.offset as usize;
         if !number_sets::include(&mut places, start, client_fragments::end_of(f)) {
             return false;
@@ -129,26 +173,18 @@ pub fn held_tested(a: Assembly, n: usize) -> Tested
 {
     let s = sweep(a, n);
     let bytes = s.total;
-    if s.wrong {
+    if s.empty {
         return refused();
     }
-    if 1 < s.lasts {
-        return refused();
-    }
-    if client_record::both(s.lasts == 1, s.past < s.high) {
-        return refused();
-    }
-    if client_record::both(s.lasts == 1, s.total == s.past) {
-        return refused();
-    }
+    let most = most_end(a, n, s.marks, bytes);
     if s.falls {
         return Tested {
-            sound: apart(a, n),
+            sound: apart(a, n, most),
             bytes: bytes,
         };
     }
     Tested {
-        sound: true,
+        sound: s.behind <= most,
         bytes: bytes,
     }
 }
