@@ -1,6 +1,7 @@
 // What the record test asks of the fragments that an assembly holds (document 01, refusal 22): each by itself, no overlap, at most one last,
-// none past its end, and not yet whole. One pass decides where each starts at or behind the ends before it, as they do that came in order;
-// else the places that they take are marked, 64 to a word. Neither compares every pair.
+// none past its end, and not yet whole. One pass decides where each starts at or behind the end of the one in front of it, as they do that came
+// in order, and none is marked last; a second one looks at the marks. Where they do not rise, the places that they take are marked, 64 to a word. No
+// pass compares every pair.
 use client_record::Assembly;
 use client_record::Fragment;
 ghost use mathlib.Core.Path.{_≡_};
