@@ -6,10 +6,9 @@ use Prim.Native.Nat.{ℕ, _+_, _<_, _≤_}
 use mathlib.Core.Path.{_≡_, refl, sym, ap, ap₂, _∙_}
 use mathlib.Core.Bool.{Bool, true, false, not, _&&_, _||_, cond, and-true, and-false, and-assoc, or-true, or-false}
 use mathlib.Core.List.{List, [], _∷_, _++_}
-use native.Mathlib.Nat.{zero-add}
 use native.Mathlib.Omega.{arith}
 use lib.Dec.{eqb, leb, ltb}
-use lib.ListN.{length, take, drop, getD, take-append-drop}
+use lib.ListN.{length, take, getD}
 use borrow.Author.Tests.{leb-true, leb-false, ltb-false, eqb-true, eqb-false, le-leb, lt-leb, le-ltb, lt-ltb, eq-eqb, ne-eqb, not-true, not-false}
 use Rattle.number_tests.proofs.Tests.{true-false, both-true}
 use Rattle.client_record.specs.declared.Fragment.{Fragment}
@@ -17,77 +16,12 @@ use Rattle.client_record.specs.Lists.{all, any, pairs, sum}
 use Rattle.client_record.specs.Limits.{datagramLimit}
 use Rattle.client_record.specs.Record.{isLast, end, nonEmpty, fits, startsOptionsInside, soundFragment, overlaps, bothLast, outruns, conflicts}
 use Rattle.client_record.specs.Record.{compatible, lastOf, whole}
-use Rattle.client_held_test.specs.Held.{risesFrom, behind, lastSum, lastsOf, lastEnd, lastStart, endsWell, mostOf}
+use Rattle.client_held_test.specs.Held.{risesFrom, behind, lastsOf, lastEnd, lastStart, endsWell, mostOf}
 use Rattle.client_record.specs.Ranges.{meets}
-use Rattle.client_record.proofs.Completion.{agree, last-ends, last-passes, last-marked, by-sum}
-use Rattle.client_record.proofs.Lists.{take-next, all-append, any-append, sum-append, pairs-append, pairs-next, all-not}
-use Rattle.client_record.proofs.SoundParts.{all-at, all-weaker, pairs-weaker}
-
--- ---- tests over lists
-
-pub not-yes : (a : Bool) → (a ≡ true → ⊥) → a ≡ false
-not-yes true h = absurd (h refl)
-not-yes false h = refl
-
-module _ {A : Type 0} where
-  all-pass : (p : A → Bool) → ((x : A) → p x ≡ true) → (l : List A) → all p l ≡ true
-  unfolding all
-  all-pass p h [] = refl
-  all-pass p h (x ∷ l) = ap₂ _&&_ (h x) (all-pass p h l)
-
-  -- one passes a test, and all pass another that does not go with it
-  pub never-both : (p q : A → Bool) → ((x : A) → p x ≡ true → q x ≡ true → ⊥) → (l : List A) → any p l ≡ true → all q l ≡ true → ⊥
-  unfolding any all
-  never-both p q h [] e f = true-false (sym e)
-  never-both p q h (x ∷ l) e f = let b = both-true (q x) (all q l) f in go (p x) refl e (λ k. h x k (b .0)) (λ k. never-both p q h l k (b .1))
-    where
-      go : (t : Bool) → p x ≡ t → t || any p l ≡ true → (p x ≡ true → ⊥) → (any p l ≡ true → ⊥) → ⊥
-      go true k e here behind = here k
-      go false k e here behind = behind e
-
-  -- what two relations of each pair, and a test of each element, say of the pairs
-  pairs-of : (p : A → Bool) (q r s : A → A → Bool)
-      → ((x y : A) → p x ≡ true → p y ≡ true → q x y ≡ true → r x y ≡ true → s x y ≡ true)
-      → (l : List A) → all p l ≡ true → pairs q l ≡ true → pairs r l ≡ true → pairs s l ≡ true
-  unfolding pairs all
-  pairs-of p q r s h [] e f g = refl
-  pairs-of p q r s h (x ∷ l) e f g =
-      let a = both-true (p x) (all p l) e in
-      let b = both-true (all (q x) l) (pairs q l) f in
-      let c = both-true (all (r x) l) (pairs r l) g in
-      ap₂ _&&_ (row l (a .1) (b .0) (c .0)) (pairs-of p q r s h l (a .1) (b .1) (c .1))
-    where
-      here : p x ≡ true
-      here = both-true (p x) (all p l) e .0
-
-      row : (m : List A) → all p m ≡ true → all (q x) m ≡ true → all (r x) m ≡ true → all (s x) m ≡ true
-      row [] e f g = refl
-      row (y ∷ m) e f g =
-          let a = both-true (p y) (all p m) e in
-          let b = both-true (q x y) (all (q x) m) f in
-          let c = both-true (r x y) (all (r x) m) g in
-          ap₂ _&&_ (h x y here (a .0) (b .0) (c .0)) (row m (a .1) (b .1) (c .1))
-
-  -- what holds of each pair holds of the pairs of the front
-  pub pairs-front : (q : A → A → Bool) (l m : List A) → pairs q (l ++ m) ≡ true → pairs q l ≡ true
-  unfolding pairs
-  pairs-front q [] m e = refl
-  pairs-front q (x ∷ l) m e =
-      let b = both-true (all (q x) (l ++ m)) (pairs q (l ++ m)) e in
-      ap₂ _&&_ (both-true (all (q x) l) (all (q x) m) (sym (all-append (q x) l m) ∙ b .0) .0) (pairs-front q l m (b .1))
-
-  -- and what all pass, the front passes
-  pub all-front : (p : A → Bool) (l : List A) (i : ℕ) → all p l ≡ true → all p (take i l) ≡ true
-  all-front p l i e =
-      both-true (all p (take i l)) (all p (drop i l)) (sym (all-append p (take i l) (drop i l)) ∙ ap (all p) (take-append-drop i l) ∙ e) .0
-
-  both-all : (p q : A → Bool) (l : List A) → all p l ≡ true → all q l ≡ true → all (λ x. p x && q x) l ≡ true
-  unfolding all
-  both-all p q [] e f = refl
-  both-all p q (x ∷ l) e f =
-      let a = both-true (p x) (all p l) e in
-      let b = both-true (q x) (all q l) f in
-      ap₂ _&&_ (ap₂ _&&_ (a .0) (b .0)) (both-all p q l (a .1) (b .1))
+use Rattle.client_record.proofs.Completion.{not-yes, agree, last-ends, last-passes, last-marked, by-sum}
+use Rattle.client_record.proofs.Lists.{take-next, all-not, never-both, pairs-of, both-all}
+use Rattle.client_record.proofs.SoundParts.{all-weaker, pairs-weaker}
+use Rattle.client_held_test.proofs.Marks.{marks-any, one-mark, mark-is, marks-most, the-last}
 
 -- no two overlap
 abbrev pub apartAll : List Fragment → Bool
@@ -161,94 +95,6 @@ rising-ends m e (f ∷ fs) r h =
         → leb (behind (end f) fs) m ≡ t && all (λ g. leb (end g) m) fs
     go true k s ih = ih (leb-true (end f) m k)
     go false k s ih = lt-leb (behind (end f) fs) m (omega (arith, leb-false (end f) m k, rising-far (end f) fs s))
-
--- ---- marks
-
-marks-any : (fs : List Fragment) → any isLast fs ≡ ltb 0 (lastsOf fs)
-unfolding any sum lastSum
-marks-any [] = refl
-marks-any (f ∷ fs) = go (isLast f) (marks-any fs)
-  where
-    go : (b : Bool) → any isLast fs ≡ ltb 0 (sum (λ g. cond (isLast g) 1 0) fs)
-        → b || any isLast fs ≡ ltb 0 (cond b 1 0 + sum (λ g. cond (isLast g) 1 0) fs)
-    go true e = sym (lt-ltb 0 (1 + sum (λ g. cond (isLast g) 1 0) fs) (omega arith))
-    go false e = e ∙ ap (ltb 0) (sym (zero-add (sum (λ g. cond (isLast g) 1 0) fs)))
-
-no-marks : (fs : List Fragment) → lastsOf fs ≡ 0 → all (λ g. not (isLast g)) fs ≡ true
-no-marks fs e = all-not isLast fs ∙ ap not (marks-any fs ∙ ap (ltb 0) e)
-
--- none is marked: nothing is summed
-none-summed : (g : Fragment → ℕ) (fs : List Fragment) → lastsOf fs ≡ 0 → lastSum g fs ≡ 0
-unfolding lastSum sum
-none-summed g [] e = refl
-none-summed g (f ∷ fs) e = go (isLast f) e (none-summed g fs)
-  where
-    go : (b : Bool) → cond b 1 0 + sum (λ h. cond (isLast h) 1 0) fs ≡ 0
-        → (sum (λ h. cond (isLast h) 1 0) fs ≡ 0 → sum (λ h. cond (isLast h) (g h) 0) fs ≡ 0)
-        → cond b (g f) 0 + sum (λ h. cond (isLast h) (g h) 0) fs ≡ 0
-    go true e ih = absurd (omega arith)
-    go false e ih = omega (arith, ih (omega arith))
-
--- at most one is marked: not two of them
-one-mark : (fs : List Fragment) → lastsOf fs ≤ 1 → pairs (λ f g. not (bothLast f g)) fs ≡ true
-unfolding lastSum sum pairs bothLast
-one-mark [] e = refl
-one-mark (f ∷ fs) e = go (isLast f) refl e (one-mark fs)
-  where
-    go : (b : Bool) → isLast f ≡ b → cond b 1 0 + sum (λ g. cond (isLast g) 1 0) fs ≤ 1
-        → (sum (λ g. cond (isLast g) 1 0) fs ≤ 1 → pairs (λ x y. not (isLast x && isLast y)) fs ≡ true)
-        → all (λ g. not (isLast f && isLast g)) fs && pairs (λ x y. not (isLast x && isLast y)) fs ≡ true
-    go true k e ih =
-        ap₂ _&&_
-        (all-weaker (λ g. not (isLast g)) (λ g. not (isLast f && isLast g))
-        (λ g q. ap (λ (x : Bool). not (isLast f && x)) (not-true (isLast g) q) ∙ ap not (and-false (isLast f))) fs (no-marks fs (omega arith)))
-        (ih (omega arith))
-    go false k e ih = ap₂ _&&_ (all-pass (λ g. not (isLast f && isLast g)) (λ g. ap (λ (x : Bool). not (x && isLast g)) k) fs) (ih (omega arith))
-
--- and what is summed is its own
-mark-is : (g : Fragment → ℕ) (fs : List Fragment) → lastsOf fs ≤ 1 → all (λ f. not (isLast f) || eqb (g f) (lastSum g fs)) fs ≡ true
-unfolding lastSum sum all
-mark-is g [] e = refl
-mark-is g (f ∷ fs) e = go (isLast f) e (mark-is g fs)
-  where
-    rest : ℕ
-    rest = sum (λ h. cond (isLast h) (g h) 0) fs
-
-    go : (b : Bool) → cond b 1 0 + sum (λ h. cond (isLast h) 1 0) fs ≤ 1
-        → (sum (λ h. cond (isLast h) 1 0) fs ≤ 1 → all (λ h. not (isLast h) || eqb (g h) rest) fs ≡ true)
-        → (not b || eqb (g f) (cond b (g f) 0 + rest)) && all (λ h. not (isLast h) || eqb (g h) (cond b (g f) 0 + rest)) fs ≡ true
-    go true e ih =
-        let none : lastsOf fs ≡ 0 = omega arith in
-        ap₂ _&&_ (eq-eqb (g f) (g f + rest) (omega (arith, none-summed g fs none)))
-        (all-weaker (λ h. not (isLast h)) (λ h. not (isLast h) || eqb (g h) (g f + rest))
-        (λ h q. ap (λ (x : Bool). x || eqb (g h) (g f + rest)) q) fs (no-marks fs none))
-    go false e ih = ap (λ (m : ℕ). all (λ h. not (isLast h) || eqb (g h) m) fs) (zero-add rest) ∙ ih (omega arith)
-
--- fragments of which none contradicts another have at most one mark
-marks-most : (fs : List Fragment) → compatible fs ≡ true → lastsOf fs ≤ 1
-unfolding compatible pairs lastSum sum
-marks-most [] c = omega arith
-marks-most (f ∷ fs) c =
-    let b = both-true (all (λ g. not (conflicts f g)) fs) (pairs (λ x y. not (conflicts x y)) fs) c in
-    go (isLast f) refl (b .0) (marks-most fs (b .1))
-  where
-    go : (b : Bool) → isLast f ≡ b → all (λ g. not (conflicts f g)) fs ≡ true → sum (λ g. cond (isLast g) 1 0) fs ≤ 1
-        → cond b 1 0 + sum (λ g. cond (isLast g) 1 0) fs ≤ 1
-    go true k row e =
-        let none : any isLast fs ≡ false =
-        not-yes (any isLast fs) (λ m. never-both isLast (λ g. not (conflicts f g)) (λ g p q. agree f g q .one-last k p) fs m row) in
-        omega (arith, ltb-false 0 (lastsOf fs) (sym (marks-any fs) ∙ none))
-    go false k row e = omega arith
-
--- the one that is marked last has what is summed
-the-last : (g : Fragment → ℕ) (fs : List Fragment) → lastsOf fs ≤ 1 → any isLast fs ≡ true → g (lastOf fs) ≡ lastSum g fs
-the-last g fs few some =
-    eqb-true (g (lastOf fs)) (lastSum g fs)
-    (so (isLast (lastOf fs)) (last-marked fs ∙ some) (last-passes (λ f. not (isLast f) || eqb (g f) (lastSum g fs)) fs (mark-is g fs few) some))
-  where
-    so : {y : Bool} (x : Bool) → x ≡ true → not x || y ≡ true → y ≡ true
-    so true e m = m
-    so false e m = absurd (true-false (sym e))
 
 -- ---- what is known where each fragment is sound and at most one is last
 

@@ -15,9 +15,10 @@ use Rattle.client_record.specs.declared.Fragment.{Fragment}
 use Rattle.client_record.specs.Lists.{all, any, pairs}
 use Rattle.client_record.specs.Ranges.{holds, meets}
 use Rattle.client_record.specs.Record.{end, nonEmpty, covers, overlaps}
-use Rattle.client_record.proofs.Lists.{any-next, pairs-next}
+use Rattle.client_record.proofs.Completion.{not-yes}
+use Rattle.client_record.proofs.Lists.{any-next, pairs-next, never-both, pairs-front}
 use Rattle.client_record.proofs.Ranges.{held-meets}
-use Rattle.client_held_test.proofs.OnePass.{apartAll, never-both, not-yes, pairs-front, all-front}
+use Rattle.client_held_test.proofs.OnePass.{apartAll}
 
 -- the set has the places that the fragments take
 abbrev pub Marks : List ℕ → List Fragment → Type 0

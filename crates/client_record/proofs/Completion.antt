@@ -26,9 +26,9 @@ starts f = f .offset
 abbrev sizes : Fragment → ℕ
 sizes f = f .length
 
-not-both : (a : Bool) → (a ≡ true → ⊥) → a ≡ false
-not-both true h = absurd (h refl)
-not-both false h = refl
+pub not-yes : (a : Bool) → (a ≡ true → ⊥) → a ≡ false
+not-yes true h = absurd (h refl)
+not-yes false h = refl
 
 -- ---- covered from 0 on is each place covered
 
@@ -90,7 +90,7 @@ only-last (f ∷ fs) zero d h l e = cond-yes (isLast f) f (lastOf fs) e
 only-last (f ∷ fs) (suc i) d h l e =
     let b = both-true (all (λ g. not (conflicts f g)) fs) (pairs (λ x y. not (conflicts x y)) fs) h in
     let other = agree f (getD fs i d) (all-at (λ g. not (conflicts f g)) fs i d (le-of-suc-le-suc l) (b .0)) in
-    cond-no (isLast f) f (lastOf fs) (not-both (isLast f) (λ p. other .one-last p e)) ∙ only-last fs i d (b .1) (le-of-suc-le-suc l) e
+    cond-no (isLast f) f (lastOf fs) (not-yes (isLast f) (λ p. other .one-last p e)) ∙ only-last fs i d (b .1) (le-of-suc-le-suc l) e
 
 -- and none ends past it
 pub last-ends : (fs : List Fragment) → compatible fs ≡ true → any isLast fs ≡ true → all (λ f. leb (f .offset + f .length) (end (lastOf fs))) fs ≡ true

@@ -8,8 +8,9 @@ use native.Mathlib.Numerals.{add-one}
 use native.Mathlib.Omega.{arith}
 use native.Mathlib.Nat.{not-suc-le-zero, le-of-suc-le-suc}
 use lib.Dec.{eqb}
-use lib.ListN.{length, take, drop, getD, length-take, length-map}
+use lib.ListN.{length, take, drop, getD, length-take, length-map, take-append-drop}
 use lib.Seq.{take-suc, drop-cons, getD-take}
+use Rattle.number_tests.proofs.Tests.{true-false, both-true}
 use Rattle.client_record.specs.Lists.{sameBytes, all, any, pairs, sum}
 
 -- the middle two change sides
@@ -55,6 +56,65 @@ module _ {ℓ} {A : Type ℓ} where
       go : (b : Bool) → all (λ y. not (p y)) l ≡ not (any p l) → (not b && all (λ y. not (p y)) l) ≡ not (b || any p l)
       go true e = refl
       go false e = e
+
+  pub all-pass : (p : A → Bool) → ((x : A) → p x ≡ true) → (l : List A) → all p l ≡ true
+  unfolding all
+  all-pass p h [] = refl
+  all-pass p h (x ∷ l) = ap₂ _&&_ (h x) (all-pass p h l)
+
+  -- one passes a test, and all pass another that does not go with it
+  pub never-both : (p q : A → Bool) → ((x : A) → p x ≡ true → q x ≡ true → ⊥) → (l : List A) → any p l ≡ true → all q l ≡ true → ⊥
+  unfolding any all
+  never-both p q h [] e f = true-false (sym e)
+  never-both p q h (x ∷ l) e f = let b = both-true (q x) (all q l) f in go (p x) refl e (λ k. h x k (b .0)) (λ k. never-both p q h l k (b .1))
+    where
+      go : (t : Bool) → p x ≡ t → t || any p l ≡ true → (p x ≡ true → ⊥) → (any p l ≡ true → ⊥) → ⊥
+      go true k e here behind = here k
+      go false k e here behind = behind e
+
+  -- what two relations of each pair, and a test of each element, say of the pairs
+  pub pairs-of : (p : A → Bool) (q r s : A → A → Bool)
+      → ((x y : A) → p x ≡ true → p y ≡ true → q x y ≡ true → r x y ≡ true → s x y ≡ true)
+      → (l : List A) → all p l ≡ true → pairs q l ≡ true → pairs r l ≡ true → pairs s l ≡ true
+  unfolding pairs all
+  pairs-of p q r s h [] e f g = refl
+  pairs-of p q r s h (x ∷ l) e f g =
+      let a = both-true (p x) (all p l) e in
+      let b = both-true (all (q x) l) (pairs q l) f in
+      let c = both-true (all (r x) l) (pairs r l) g in
+      ap₂ _&&_ (row l (a .1) (b .0) (c .0)) (pairs-of p q r s h l (a .1) (b .1) (c .1))
+    where
+      here : p x ≡ true
+      here = both-true (p x) (all p l) e .0
+
+      row : (m : List A) → all p m ≡ true → all (q x) m ≡ true → all (r x) m ≡ true → all (s x) m ≡ true
+      row [] e f g = refl
+      row (y ∷ m) e f g =
+          let a = both-true (p y) (all p m) e in
+          let b = both-true (q x y) (all (q x) m) f in
+          let c = both-true (r x y) (all (r x) m) g in
+          ap₂ _&&_ (h x y here (a .0) (b .0) (c .0)) (row m (a .1) (b .1) (c .1))
+
+  -- what holds of each pair holds of the pairs of the front
+  pub pairs-front : (q : A → A → Bool) (l m : List A) → pairs q (l ++ m) ≡ true → pairs q l ≡ true
+  unfolding pairs
+  pairs-front q [] m e = refl
+  pairs-front q (x ∷ l) m e =
+      let b = both-true (all (q x) (l ++ m)) (pairs q (l ++ m)) e in
+      ap₂ _&&_ (both-true (all (q x) l) (all (q x) m) (sym (all-append (q x) l m) ∙ b .0) .0) (pairs-front q l m (b .1))
+
+  -- and what all pass, the front passes
+  pub all-front : (p : A → Bool) (l : List A) (i : ℕ) → all p l ≡ true → all p (take i l) ≡ true
+  all-front p l i e =
+      both-true (all p (take i l)) (all p (drop i l)) (sym (all-append p (take i l) (drop i l)) ∙ ap (all p) (take-append-drop i l) ∙ e) .0
+
+  pub both-all : (p q : A → Bool) (l : List A) → all p l ≡ true → all q l ≡ true → all (λ x. p x && q x) l ≡ true
+  unfolding all
+  both-all p q [] e f = refl
+  both-all p q (x ∷ l) e f =
+      let a = both-true (p x) (all p l) e in
+      let b = both-true (q x) (all q l) f in
+      ap₂ _&&_ (ap₂ _&&_ (a .0) (b .0)) (both-all p q l (a .1) (b .1))
 
   -- what a test or a sum of the first elements becomes with the next one
   module _ (l : List A) (i : ℕ) (d : A) (h : i < length l) where

@@ -18,9 +18,10 @@ use Rattle.client_record.specs.Limits.{datagramLimit, fragmentLimit}
 use Rattle.client_record.specs.Lists.{all, any, pairs}
 use Rattle.client_record.specs.Record.{end, nonEmpty, heldFragments}
 use Rattle.client_record.proofs.Held.{none, held-at}
-use Rattle.client_record.proofs.Lists.{all-next}
+use Rattle.client_record.proofs.Completion.{not-yes}
+use Rattle.client_record.proofs.Lists.{all-next, all-front}
 use Rattle.client_record.proofs.SoundParts.{all-at}
-use Rattle.client_held_test.proofs.OnePass.{apartAll, not-yes, all-front}
+use Rattle.client_held_test.proofs.OnePass.{apartAll}
 use Rattle.client_held_test.proofs.Places.{Marks, full-some, marks-more, apart-more, taken-overlaps}
 use Rattle.client_held_test.proofs.apart.Statement.{statement}
 use Rattle.client_held_test.proofs.apart.Tie as tie
