@@ -1,10 +1,12 @@
-/* A host that receives for three clients: a gauge at a weir, a data logger that has lost its way, and a weather mast.
+/* A host that receives for three clients: a gauge at a weir, a data logger that has lost its way, and a weather mast. Each has its plan:
+ * two originals may be under way at once for the gauge, eight for the logger and one for the mast.
  *
  *     gcc -std=c11 -Wall -Wextra -Werror -Iinclude examples/host.c target/staticlib/libhost_calls.a -o target/host-example
  *
- * The logger sends the first fragment of one message after another and never the rest. It fills its own four places again and
- * again; the gauge and the mast get their messages as if it were not there. Options and faults are shown with their offsets from the
- * UDP header, so that they can be looked up in a packet trace. What this prints stands in examples/host.expected.
+ * The logger sends the first fragment of one message after another and never the rest. It fills its own eight places again and
+ * again; the gauge and the mast get their messages as if it were not there. The mast starts on a report while another is under way,
+ * which its plan does not allow. Options and faults are shown with their offsets from the UDP header, so that they can be looked up in
+ * a packet trace. What this prints stands in examples/host.expected.
  */
 #include <inttypes.h>
 #include <stdio.h>
@@ -16,6 +18,7 @@
 enum { GAUGE = 0, LOGGER = 1, MAST = 2, CLIENTS = 3 };
 
 static const char *const client_names[CLIENTS] = {"gauge", "logger", "mast"};
+static const uint64_t plans[CLIENTS] = {2, 8, 1};
 
 static const wuraketozo_address gauge_address = {{192, 0, 2, 1}};
 static const wuraketozo_address logger_address = {{192, 0, 2, 5}};
@@ -128,6 +131,16 @@ static const uint8_t mast_last[] = {
     0x00, 0x3b,                                     /* options would start at 59: place 51, its end */
     ' ', '2', '4', '0', ',', ' ', 'g', 'u', 's', 't', 's', ' ', '1', '7', ',', ' ', 'r', 'a', 'i', 'n', ' ', '0',
     '.', '4', ' ', 'm', 'm',
+};
+
+/* The first fragment of the mast's next report. */
+static const uint8_t mast_next[] = {
+    0x12, 0x35, 0x14, 0xb4, 0x00, 0x08, 0xec, 0xb0, /* UDP header */
+    0xd4, 0x33,                                     /* option checksum */
+    0x03, 0x0a, 0x00, 0x14,                         /* FRAG, 10 bytes; the fragment starts at 20 */
+    0x00, 0x00, 0x00, 0x0a, 0x00, 0x08,             /* identification 10, offset 8: place 0 */
+    'm', 'a', 's', 't', ' ', '3', ':', ' ', 'w', 'i', 'n', 'd', ' ', '1', '1', ' ', 'm', '/', 's', ' ', 'f', 'r',
+    'o', 'm',
 };
 
 /* What the logger sends, each time with another identification. It sets no checksum, which IPv4 allows. */
@@ -300,19 +313,30 @@ static void show_accounts(void)
 
 #define RECEIVE(client, time, source, payload) receive_and_show(client, time, source, payload, sizeof(payload))
 
+/* Makes the table: a record with its plan for each client, a store for all of them, and the buffer that originals are handed out in. */
+static int set_up(void)
+{
+    store_length = wuraketozo_plan(records, plans, CLIENTS);
+    out_length = wuraketozo_out_size();
+    store = calloc(store_length, 1);
+    out = malloc(out_length);
+    return wuraketozo_record_size() == sizeof records[0] && store_length != 0 && store != NULL && out != NULL &&
+           wuraketozo_reset(records, CLIENTS, store, store_length).outcome == WURAKETOZO_RESET;
+}
+
+static void show_plans(void)
+{
+    printf("-- plans:");
+    for (size_t k = 0; k < CLIENTS; k++)
+        printf(" %s %" PRIu64 ",", client_names[k], plans[k]);
+    printf(" in a store of %zu bytes\n", store_length);
+}
+
 int main(void)
 {
-    if (wuraketozo_record_size() != sizeof(wuraketozo_client) || wuraketozo_client_limit() < CLIENTS)
+    if (!set_up())
         return EXIT_FAILURE;
-    store_length = CLIENTS * wuraketozo_share_size();
-    out_length = wuraketozo_out_size();
-    store = malloc(store_length);
-    out = malloc(out_length);
-    if (store == NULL || out == NULL)
-        return EXIT_FAILURE;
-    memset(store, 0, store_length);
-    if (wuraketozo_reset(records, CLIENTS, store, store_length).outcome != WURAKETOZO_RESET)
-        return EXIT_FAILURE;
+    show_plans();
 
     printf("-- datagrams of their own\n");
     RECEIVE(GAUGE, 0, gauge_address, level);
@@ -338,12 +362,14 @@ int main(void)
     RECEIVE(GAUGE, 2000, gauge_address, next_first);
     RECEIVE(GAUGE, 2010, gauge_address, next_overlap);
 
-    printf("-- the logger loops, and the mast reports\n");
+    printf("-- the logger loops, and the mast reports: a second report has to wait for the first\n");
     logger_loops(3000, 10);
     RECEIVE(MAST, 3010, mast_address, mast_first);
+    RECEIVE(MAST, 3015, mast_address, mast_next);
     logger_loops(3020, 50);
     logger_loops(123000, 10);
     RECEIVE(MAST, 123005, mast_address, mast_last);
+    RECEIVE(MAST, 123006, mast_address, mast_next);
     RECEIVE(GAUGE, 123010, gauge_address, level);
     logger_loops(243000, 10);
 

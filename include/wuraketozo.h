@@ -12,8 +12,21 @@
  *  - what one call may write overlaps with nothing else that the call is lent: not the records, the store, `out` or `buffer` with each
  *    other, and none of them with bytes that are read. What is proved is proved of buffers that are apart. Overlapping ones CAN CORRUPT
  *    MEMORY, also outside of them: a number that was tested may be another one when it is used. What is only read may overlap;
- *  - a record may hold any bytes: it has no padding, and each of its bytes counts. One that fails the record test is refused with 22;
+ *  - a record may hold any bytes: it has no padding, and each of its bytes counts. One that fails the record test is refused with 22, a
+ *    table with a plan that is none with 32;
  *  - no other thread uses them during the call. The library keeps no state of its own.
+ *
+ * To have a table, give each client a plan: how many originals may be under way for it at once, 1 to 8. The plan stands in the client's
+ * record, and with it how many bytes of the store are the client's. wuraketozo_plan puts the plans in and says how long the store has to
+ * be:
+ *
+ *     static const uint64_t plans[] = {1, 8, 4};
+ *     static wuraketozo_client records[3];
+ *     size_t store_length = wuraketozo_plan(records, plans, 3);
+ *     uint8_t *store = malloc(store_length);
+ *     wuraketozo_reset(records, 3, store, store_length);
+ *
+ * A RECORD OF ZEROS HAS NO PLAN. With one in the table, whoever's it is, every call on the table is refused with 32, the set-up too.
  *
  * Positions are of two kinds that must not mix. An offset counts from a UDP header. Bytes of a payload are a `wuraketozo_extent` of
  * offsets; `fault_at` and, of an option, `offset` are offsets that stand alone. A place counts from the first user byte of an original
@@ -188,10 +201,14 @@ wuraketozo_written wuraketozo_write(wuraketozo_address source, wuraketozo_addres
 
 /* The limits. The calls wuraketozo_client_limit, wuraketozo_out_size and wuraketozo_share_size below answer the same of the library. */
 #define WURAKETOZO_CLIENT_LIMIT 12     /* clients of a table */
-#define WURAKETOZO_ASSEMBLY_LIMIT 4    /* originals that are put together at once for a client */
+#define WURAKETOZO_ASSEMBLY_LIMIT 8    /* the largest plan: originals that are put together at once for a client */
 #define WURAKETOZO_FRAGMENT_LIMIT 64   /* fragments of an original */
 #define WURAKETOZO_ORIGINAL_LIMIT 8192 /* bytes of an original, of the smallest out buffer, and of the store for an original */
-#define WURAKETOZO_SHARE (WURAKETOZO_ASSEMBLY_LIMIT * WURAKETOZO_ORIGINAL_LIMIT) /* bytes of the store for a client */
+
+/* The bytes of the store for a client with this plan, 1 to WURAKETOZO_ASSEMBLY_LIMIT; of the sum of all plans, those of the whole store.
+ * The first client's share stands at the front of the store, each other one directly behind the shares before it, and the store ends
+ * where the last one does. */
+#define WURAKETOZO_SHARE(plan) ((size_t)(plan) * WURAKETOZO_ORIGINAL_LIMIT)
 
 typedef struct {
     wuraketozo_address source;
@@ -216,8 +233,12 @@ typedef struct {
     wuraketozo_held fragments[WURAKETOZO_FRAGMENT_LIMIT];
 } wuraketozo_assembly;
 
-/* One client's record. A host allocates one for each client, has them set up, and need not look inside. */
+/* One client's record. A host allocates one for each client, puts its plan in (wuraketozo_plan does), has them set up, and need not look
+ * inside. The plan is the host's to choose; every other field is the library's. A fresh record is all zeros but its plan, and one that is
+ * all zeros has none: refusal 32. To change a plan, put in the new one, lend a store of the new length and set up anew: a plan that
+ * changes under a table moves every later client's share. */
 typedef struct {
+    uint64_t plan; /* 1 to WURAKETOZO_ASSEMBLY_LIMIT: originals under way at once; a set-up reads it and keeps it */
     uint64_t time;
     uint64_t offered;
     uint64_t held;
@@ -233,7 +254,7 @@ typedef struct {
  * the call below with its own layout's number in its name and no other one. The reference to it that stands here goes into every
  * object that includes this header, so that a host does not link against a library of another layout. It answers the bytes of a
  * record, as wuraketozo_record_size does. */
-size_t wuraketozo_layout_6(void);
+size_t wuraketozo_layout_7(void);
 #if defined(__has_attribute)
 #if __has_attribute(retain)
 #define WURAKETOZO_KEPT __attribute__((used, retain))
@@ -243,20 +264,44 @@ size_t wuraketozo_layout_6(void);
 #define WURAKETOZO_KEPT __attribute__((used))
 #endif
 #ifdef WURAKETOZO_KEPT
-static size_t (*const wuraketozo_layout)(void) WURAKETOZO_KEPT = wuraketozo_layout_6;
+static size_t (*const wuraketozo_layout)(void) WURAKETOZO_KEPT = wuraketozo_layout_7;
 #endif
 #if defined(__STDC_VERSION__) && __STDC_VERSION__ >= 201112L
-_Static_assert(sizeof(wuraketozo_client) == 64 + WURAKETOZO_ASSEMBLY_LIMIT * (32 + WURAKETOZO_FRAGMENT_LIMIT * 8),
+_Static_assert(sizeof(wuraketozo_client) == 72 + WURAKETOZO_ASSEMBLY_LIMIT * (32 + WURAKETOZO_FRAGMENT_LIMIT * 8),
                "a record has no padding");
 _Static_assert(sizeof(wuraketozo_reading) == 112 && sizeof(wuraketozo_rereading) == 72, "readings are 112 and 72 bytes");
 _Static_assert(sizeof(wuraketozo_option) == 32 && sizeof(wuraketozo_original_option) == 32, "an option is 32 bytes");
 #endif
 
-/* The bytes of a record, of a client's share of the store, of the smallest out buffer, and how many clients a table may have. */
+/* The bytes of a record, of the store for a client with this plan (0 if it is not 1 to WURAKETOZO_ASSEMBLY_LIMIT), of the smallest out
+ * buffer, and how many clients a table may have. */
 size_t wuraketozo_record_size(void);
-size_t wuraketozo_share_size(void);
+size_t wuraketozo_share_size(uint64_t plan);
 size_t wuraketozo_out_size(void);
 size_t wuraketozo_client_limit(void);
+
+/* Makes `count` fresh records, each with the plan that stands at its number in `plans`, and answers the bytes that the store must have for
+ * them. Answers 0 and writes nothing if `count` is not 1 to WURAKETOZO_CLIENT_LIMIT or one of the plans is not 1 to
+ * WURAKETOZO_ASSEMBLY_LIMIT. This is for records that are to be set up next: what stood in them is gone. It is C of this header and no
+ * call of the library: run, not proved. */
+static inline size_t wuraketozo_plan(wuraketozo_client *records, const uint64_t *plans, size_t count)
+{
+    size_t store_length = 0, k, at;
+    if (count < 1 || count > WURAKETOZO_CLIENT_LIMIT)
+        return 0;
+    for (k = 0; k < count; k++) {
+        if (plans[k] < 1 || plans[k] > WURAKETOZO_ASSEMBLY_LIMIT)
+            return 0;
+        store_length += WURAKETOZO_SHARE(plans[k]);
+    }
+    for (k = 0; k < count; k++) {
+        unsigned char *bytes = (unsigned char *)&records[k];
+        for (at = 0; at < sizeof(wuraketozo_client); at++)
+            bytes[at] = 0;
+        records[k].plan = plans[k];
+    }
+    return store_length;
+}
 
 /* A client's account. offered is the sum of the other six. */
 typedef struct {
@@ -282,15 +327,21 @@ enum {
 };
 
 typedef struct {
-    uint32_t refusal;           /* 0, or 20 to 30 */
+    uint32_t refusal;           /* 0, 20 to 30, or 32 */
     uint32_t outcome;           /* WURAKETOZO_REFUSED .. WURAKETOZO_ACCOUNT */
     size_t length;              /* DELIVERED: the original is the first `length` bytes of out */
     size_t option_start;        /* DELIVERED: the place where its options start, for wuraketozo_reread */
     wuraketozo_figures figures; /* ACCOUNT */
 } wuraketozo_answer;
 
-/* Makes every record fresh and leaves the store. Refusal 20: not 1 to WURAKETOZO_CLIENT_LIMIT records, or not WURAKETOZO_SHARE bytes
- * of store for each. */
+/* Every call on a table has these tests first, in this order:
+ *     20  not 1 to WURAKETOZO_CLIENT_LIMIT records
+ *     32  a record's plan is not 1 to WURAKETOZO_ASSEMBLY_LIMIT, be it this client's or another's
+ *     20  the store has not exactly as many bytes as the plans come to, WURAKETOZO_SHARE of each
+ * A call that is refused with one of them writes nothing. */
+
+/* Sets the table up: makes every record fresh but for its plan, which it reads and keeps, and leaves the store. Refusals 20 and 32: 32
+ * where the records are zeros, which have no plan (see wuraketozo_plan). */
 wuraketozo_answer wuraketozo_reset(wuraketozo_client *records, size_t count, const uint8_t *store, size_t store_length);
 
 /* A fragment without its bytes. `time` is in milliseconds and must not run backwards for a client. */
@@ -303,15 +354,16 @@ typedef struct {
     uint32_t last;       /* 0: not the last one; anything else: the last one */
 } wuraketozo_fragment;
 
-/* Offers a fragment for client k. Refusals 20 to 30; 29 and 30 count its bytes as turned away. `out` is written only with DELIVERED. */
+/* Offers a fragment for client k. Refusals 20, 32, and 21 to 30; 29 and 30 count its bytes as turned away. 29: a new original, and as
+ * many are under way for this client as its plan allows. `out` is written only with DELIVERED. */
 wuraketozo_answer wuraketozo_offer(wuraketozo_client *records, size_t count, uint8_t *store, size_t store_length, size_t k,
                                    wuraketozo_fragment fragment, const uint8_t *bytes, size_t length, uint8_t *out, size_t room);
 
-/* Moves client k's time on, and lets what is 120,000 ms old expire. Refusals 20, 21, 22, 27. */
+/* Moves client k's time on, and lets what is 120,000 ms old expire. Refusals 20, 32, 21, 22, 27. */
 wuraketozo_answer wuraketozo_advance(wuraketozo_client *records, size_t count, const uint8_t *store, size_t store_length, size_t k,
                                      uint64_t time);
 
-/* Client k's account. Refusals 20, 21, 22. */
+/* Client k's account. Refusals 20, 32, 21, 22. */
 wuraketozo_answer wuraketozo_account(const wuraketozo_client *records, size_t count, const uint8_t *store, size_t store_length,
                                      size_t k);
 

@@ -47,6 +47,14 @@ awk -F '|' '
                 printf "| %s | %.2f | %.2f | %.2f |\n", name, library[many] / library[few], plain[many] / plain[few], good[many] / good[few]
             }
         }
+        printf "\n| for each further client | library | plain | good |\n|---|---|---|---|\n"
+        for (i = 1; i <= count; i++) {
+            many = one = name = names[i]
+            if (sub(/client [0-9]+ of 12/, "client 0 of 1", one) && one in library) {
+                sub(/ of 12,.*/, "", name)
+                printf "| %s | %.1f | %.1f | %.1f |\n", name, (library[many] - library[one]) / 11, (plain[many] - plain[one]) / 11, (good[many] - good[one]) / 11
+            }
+        }
     }' "$counts" | tee "$tables"
 if [ $# -gt 0 ]; then
     sed -i -e "/^<!-- instructions:/,/^<!-- end of instructions -->/{//!d}" -e "/^<!-- instructions:/r $tables" "$1"

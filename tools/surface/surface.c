@@ -1,6 +1,7 @@
 /* Holds include/wuraketozo.h to the library: every constant of the header is what the library answers, every limit what it takes, a fault
- * has the offset that the header says, the options of a reading are found one by one where they stand, and a pointer with length 0 may be
- * NULL in every call that takes one. Prints how many checks were made; a failed one is named by its line. */
+ * has the offset that the header says, the options of a reading are found one by one where they stand, each plan has its places and its
+ * share, and a pointer with length 0 may be NULL in every call that takes one. Prints how many checks were made; a failed one is named by
+ * its line. */
 #include <stdio.h>
 #include <stdlib.h>
 #include <string.h>
@@ -264,8 +265,17 @@ static void one_by_one(void)
 
 /* ---- the table ---- */
 
+enum { PLAN = 4 };
 static wuraketozo_client records[1];
-static uint8_t store[WURAKETOZO_SHARE], out[WURAKETOZO_ORIGINAL_LIMIT];
+static uint8_t store[WURAKETOZO_SHARE(PLAN)], out[WURAKETOZO_ORIGINAL_LIMIT];
+
+/* Makes the table of one client anew. */
+static void start(void)
+{
+    const uint64_t plan = PLAN;
+    CHECK(wuraketozo_plan(records, &plan, 1) == sizeof store);
+    CHECK(wuraketozo_reset(records, 1, store, sizeof store).outcome == WURAKETOZO_RESET);
+}
 
 static wuraketozo_fragment fragment(size_t place, uint32_t last)
 {
@@ -282,7 +292,7 @@ static wuraketozo_fragment fragment(size_t place, uint32_t last)
 
 static void outcomes(void)
 {
-    CHECK(wuraketozo_reset(records, 1, store, sizeof store).outcome == WURAKETOZO_RESET);
+    start();
     CHECK(OFFER(0, "ab", 0).outcome == WURAKETOZO_STORED);
     CHECK(OFFER(0, "ab", 0).outcome == WURAKETOZO_REPEATED);
     CHECK(OFFER(1, "xy", 0).outcome == WURAKETOZO_CONFLICT);
@@ -313,8 +323,8 @@ static void outcomes(void)
 /* ---- the limits ---- */
 
 #define MOST_RECORDS (WURAKETOZO_CLIENT_LIMIT + 1)
-static wuraketozo_client many[MOST_RECORDS];
-static uint8_t long_store[MOST_RECORDS * WURAKETOZO_SHARE], long_report[WURAKETOZO_ORIGINAL_LIMIT + 1];
+static wuraketozo_client many[MOST_RECORDS], kept[MOST_RECORDS];
+static uint8_t long_store[WURAKETOZO_SHARE(MOST_RECORDS * WURAKETOZO_ASSEMBLY_LIMIT)], long_report[WURAKETOZO_ORIGINAL_LIMIT + 1];
 
 /* The answer to a fragment of `length` bytes with an identification and a room in out. */
 static wuraketozo_answer offered(uint32_t identification, size_t place, size_t length, uint32_t last, size_t room)
@@ -328,27 +338,191 @@ static wuraketozo_answer offered(uint32_t identification, size_t place, size_t l
 /* Each limit of the header is the library's: what it says of itself, and what it takes. */
 static void limits(void)
 {
-    CHECK(wuraketozo_record_size() == sizeof records[0] && wuraketozo_layout_6() == sizeof records[0]);
-    CHECK(sizeof records[0] == 64 + WURAKETOZO_ASSEMBLY_LIMIT * (32 + WURAKETOZO_FRAGMENT_LIMIT * 8));
-    CHECK(wuraketozo_share_size() == WURAKETOZO_SHARE && wuraketozo_out_size() == WURAKETOZO_ORIGINAL_LIMIT);
+    const uint64_t plans[WURAKETOZO_CLIENT_LIMIT] = {1, 2, 3, 4, 5, 6, 7, 8, 1, 8, 1, 8};
+    CHECK(wuraketozo_record_size() == sizeof records[0] && wuraketozo_layout_7() == sizeof records[0]);
+    CHECK(sizeof records[0] == 72 + WURAKETOZO_ASSEMBLY_LIMIT * (32 + WURAKETOZO_FRAGMENT_LIMIT * 8));
+    CHECK(wuraketozo_out_size() == WURAKETOZO_ORIGINAL_LIMIT);
     CHECK(wuraketozo_client_limit() == WURAKETOZO_CLIENT_LIMIT);
-    for (size_t count = 0; count <= MOST_RECORDS; count++) {
-        const uint32_t refusal = count >= 1 && count <= WURAKETOZO_CLIENT_LIMIT ? 0 : 20;
-        CHECK(wuraketozo_reset(many, count, long_store, count * WURAKETOZO_SHARE).refusal == refusal);
+    for (size_t count = 1; count <= WURAKETOZO_CLIENT_LIMIT; count++) {
+        const size_t length = wuraketozo_plan(many, plans, count);
+        CHECK(wuraketozo_reset(many, count, long_store, length - 1).refusal == 20);
+        CHECK(wuraketozo_reset(many, count, long_store, length + 1).refusal == 20);
+        CHECK(wuraketozo_reset(many, count, long_store, length).refusal == 0);
     }
-    CHECK(wuraketozo_reset(many, 2, long_store, 2 * WURAKETOZO_SHARE - 1).refusal == 20);
-    CHECK(wuraketozo_reset(many, 2, long_store, 2 * WURAKETOZO_SHARE + 1).refusal == 20);
-    CHECK(wuraketozo_reset(records, 1, store, sizeof store).refusal == 0);
+    many[WURAKETOZO_CLIENT_LIMIT].plan = 1;
+    CHECK(wuraketozo_reset(many, 0, long_store, 0).refusal == 20);
+    CHECK(wuraketozo_reset(many, MOST_RECORDS, long_store, WURAKETOZO_SHARE(36 + 1 + 8 + 1 + 8 + 1)).refusal == 20);
+    start();
     CHECK(offered(1, 0, 1, 0, WURAKETOZO_ORIGINAL_LIMIT - 1).refusal == 23);
     CHECK(offered(1, 0, WURAKETOZO_ORIGINAL_LIMIT + 1, 1, sizeof out).refusal == 25);
     CHECK(offered(1, WURAKETOZO_ORIGINAL_LIMIT, 1, 1, sizeof out).refusal == 25);
     CHECK(offered(1, 0, WURAKETOZO_ORIGINAL_LIMIT, 1, sizeof out).length == WURAKETOZO_ORIGINAL_LIMIT);
-    for (uint32_t id = 1; id <= WURAKETOZO_ASSEMBLY_LIMIT; id++)
+    for (uint32_t id = 1; id <= PLAN; id++)
         CHECK(offered(id, 0, 1, 0, sizeof out).outcome == WURAKETOZO_STORED);
-    CHECK(offered(WURAKETOZO_ASSEMBLY_LIMIT + 1, 0, 1, 0, sizeof out).refusal == 29);
+    CHECK(offered(PLAN + 1, 0, 1, 0, sizeof out).refusal == 29);
     for (size_t held = 1; held < WURAKETOZO_FRAGMENT_LIMIT; held++)
         CHECK(offered(1, 2 * held, 1, 0, sizeof out).outcome == WURAKETOZO_STORED);
     CHECK(offered(1, 2 * WURAKETOZO_FRAGMENT_LIMIT, 1, 0, sizeof out).refusal == 30);
+}
+
+/* ---- plans ---- */
+
+/* Numbers that are no plan; some are one in their last byte or their last four. */
+static const uint64_t no_plans[] = {0,           WURAKETOZO_ASSEMBLY_LIMIT + 1, 10, 16, 256, 257, 0x100000000,
+                                    0x100000001, 0x8000000000000004,            UINT64_MAX};
+enum { NO_PLANS = sizeof no_plans / sizeof no_plans[0] };
+
+/* Three clients with plans of one, eight and two; their shares stand at these places of the store. */
+enum { THREE = 3, PLANS = 1 + 8 + 2 };
+static const uint64_t three_plans[THREE] = {1, 8, 2};
+static const size_t share_at[THREE] = {0, WURAKETOZO_SHARE(1), WURAKETOZO_SHARE(1 + 8)};
+static wuraketozo_client three[THREE], three_before[THREE];
+static uint8_t three_store[WURAKETOZO_SHARE(PLANS)], store_before[WURAKETOZO_SHARE(PLANS)];
+
+static wuraketozo_answer offered_to(size_t k, uint32_t identification, const char *text)
+{
+    wuraketozo_fragment f = fragment(0, 0);
+    f.identification = identification;
+    return wuraketozo_offer(three, THREE, three_store, sizeof three_store, k, f, (const uint8_t *)text, strlen(text), out, sizeof out);
+}
+
+/* Whether every call on the three clients is refused with this number and changes nothing. Only a fragment meets the table. */
+static int all_refused(uint32_t refusal, size_t length)
+{
+    int so = 1;
+    memcpy(three_before, three, sizeof three);
+    memcpy(store_before, three_store, sizeof three_store);
+    memset(out, 0xee, sizeof out);
+    so &= wuraketozo_reset(three, THREE, three_store, length).refusal == refusal;
+    for (size_t k = 0; k <= THREE; k++) {
+        so &= wuraketozo_offer(three, THREE, three_store, length, k, fragment(0, 1), piece, 2, out, sizeof out).refusal == refusal;
+        so &= wuraketozo_offer(three, THREE, three_store, length, k, fragment(0, 1), NULL, 0, NULL, 0).refusal == refusal;
+        so &= wuraketozo_advance(three, THREE, three_store, length, k, 9).refusal == refusal;
+        so &= wuraketozo_account(three, THREE, three_store, length, k).refusal == refusal;
+        wuraketozo_received got = wuraketozo_receive(three, THREE, three_store, length, k, 9, here, there, WURAKETOZO_PLAIN, piece,
+                                                     sizeof piece, out, sizeof out);
+        so &= got.what == WURAKETOZO_FRAGMENT && got.answer.refusal == refusal && got.answer.outcome == WURAKETOZO_REFUSED;
+        got = wuraketozo_receive(three, THREE, three_store, length, k, 9, here, there, WURAKETOZO_PLAIN, apc_right, sizeof apc_right,
+                                 out, sizeof out);
+        so &= got.what == WURAKETOZO_DATAGRAM && got.reading.refusal == 0;
+    }
+    so &= memcmp(three_before, three, sizeof three) == 0 && memcmp(store_before, three_store, sizeof three_store) == 0;
+    for (size_t i = 0; i < sizeof out; i++)
+        so &= out[i] == 0xee;
+    return so;
+}
+
+/* The helper makes fresh records or writes nothing. */
+static void records_with_plans(void)
+{
+    uint64_t plans[MOST_RECORDS];
+    for (size_t i = 0; i < MOST_RECORDS; i++)
+        plans[i] = 1 + i % WURAKETOZO_ASSEMBLY_LIMIT;
+    for (size_t count = 1; count <= WURAKETOZO_CLIENT_LIMIT; count++) {
+        size_t length = 0;
+        memset(many, 0xee, sizeof many);
+        memset(kept, 0, sizeof kept);
+        for (size_t i = 0; i < count; i++) {
+            kept[i].plan = plans[i];
+            length += wuraketozo_share_size(plans[i]);
+        }
+        CHECK(wuraketozo_plan(many, plans, count) == length);
+        CHECK(memcmp(many, kept, count * sizeof many[0]) == 0 && many[count].plan == 0xeeeeeeeeeeeeeeee);
+        /* the library makes the same of records that hold anything else */
+        memset(many, 0xee, sizeof many);
+        for (size_t i = 0; i < count; i++)
+            many[i].plan = plans[i];
+        CHECK(wuraketozo_reset(many, count, long_store, length).outcome == WURAKETOZO_RESET);
+        CHECK(memcmp(many, kept, count * sizeof many[0]) == 0 && many[count].plan == 0xeeeeeeeeeeeeeeee);
+    }
+    memset(many, 0xee, sizeof many);
+    memset(kept, 0xee, sizeof kept);
+    CHECK(wuraketozo_plan(many, plans, 0) == 0 && wuraketozo_plan(many, plans, MOST_RECORDS) == 0);
+    CHECK(wuraketozo_plan(many, plans, SIZE_MAX) == 0 && wuraketozo_plan(NULL, NULL, 0) == 0);
+    for (size_t i = 0; i < WURAKETOZO_CLIENT_LIMIT; i++) {
+        const uint64_t plan = plans[i];
+        for (size_t none_at = 0; none_at < NO_PLANS; none_at++) {
+            plans[i] = no_plans[none_at];
+            CHECK(wuraketozo_plan(many, plans, WURAKETOZO_CLIENT_LIMIT) == 0 && wuraketozo_plan(many, plans, i + 1) == 0);
+        }
+        plans[i] = plan;
+    }
+    CHECK(memcmp(many, kept, sizeof many) == 0);
+}
+
+/* Which plans are taken, and in which order a table is refused. */
+static void plans_refused(void)
+{
+    for (uint64_t plan = 1; plan <= WURAKETOZO_ASSEMBLY_LIMIT; plan++)
+        CHECK(wuraketozo_share_size(plan) == WURAKETOZO_SHARE(plan));
+    for (size_t i = 0; i < NO_PLANS; i++)
+        CHECK(wuraketozo_share_size(no_plans[i]) == 0);
+
+    /* records of zeros */
+    memset(three, 0, sizeof three);
+    CHECK(all_refused(32, 0) && all_refused(32, sizeof three_store));
+
+    /* one plan that is none, this client's or another's; before the store's length, and behind the number of records */
+    for (size_t k = 0; k < THREE; k++) {
+        for (size_t i = 0; i < NO_PLANS; i++) {
+            CHECK(wuraketozo_plan(three, three_plans, THREE) == sizeof three_store);
+            three[k].plan = no_plans[i];
+            CHECK(all_refused(32, sizeof three_store) && all_refused(32, sizeof three_store - 1) && all_refused(32, 0));
+            CHECK(all_refused(32, sizeof three_store - WURAKETOZO_SHARE(three_plans[k])));
+        }
+    }
+    for (size_t i = 0; i < MOST_RECORDS; i++)
+        many[i].plan = WURAKETOZO_ASSEMBLY_LIMIT + 1;
+    CHECK(wuraketozo_reset(many, MOST_RECORDS, long_store, sizeof long_store).refusal == 20);
+    CHECK(wuraketozo_account(many, MOST_RECORDS, long_store, sizeof long_store, 0).refusal == 20);
+    CHECK(wuraketozo_reset(many, WURAKETOZO_CLIENT_LIMIT, long_store, 0).refusal == 32);
+    CHECK(wuraketozo_account(many, 1, long_store, 5, 0).refusal == 32);
+
+    /* the store's length is the sum, and no other */
+    CHECK(wuraketozo_plan(three, three_plans, THREE) == sizeof three_store);
+    CHECK(all_refused(20, sizeof three_store - 1) && all_refused(20, 0) && all_refused(20, WURAKETOZO_SHARE(THREE)));
+    CHECK(all_refused(20, WURAKETOZO_SHARE(PLANS - 1)));
+    CHECK(wuraketozo_reset(three, THREE, long_store, sizeof three_store + 1).refusal == 20);
+    CHECK(wuraketozo_reset(three, THREE, long_store, WURAKETOZO_SHARE(THREE * WURAKETOZO_ASSEMBLY_LIMIT)).refusal == 20);
+    CHECK(wuraketozo_reset(three, THREE, three_store, sizeof three_store).refusal == 0);
+}
+
+/* Each client has as many places as its plan says, and its share is where the header says. */
+static void places_of_plans(void)
+{
+    memset(three_store, 0xee, sizeof three_store);
+    CHECK(wuraketozo_plan(three, three_plans, THREE) == sizeof three_store);
+    CHECK(wuraketozo_reset(three, THREE, three_store, sizeof three_store).outcome == WURAKETOZO_RESET);
+    memset(store_before, 0xee, sizeof store_before);
+    for (size_t k = 0; k < THREE; k++) {
+        for (uint32_t id = 1; id <= three_plans[k]; id++) {
+            const char text[] = {(char)('a' + k), (char)('0' + id), 0};
+            CHECK(offered_to(k, id, text).outcome == WURAKETOZO_STORED);
+            memcpy(store_before + share_at[k] + WURAKETOZO_SHARE(id - 1), text, 2);
+            CHECK(memcmp(store_before, three_store, sizeof three_store) == 0);
+        }
+        CHECK(offered_to(k, 99, "no").refusal == 29);
+        CHECK(memcmp(store_before, three_store, sizeof three_store) == 0);
+    }
+    for (size_t k = 0; k < THREE; k++) {
+        const wuraketozo_figures f = wuraketozo_account(three, THREE, three_store, sizeof three_store, k).figures;
+        CHECK(three[k].plan == three_plans[k]);
+        CHECK(f.held == 2 * three_plans[k] && f.rejected == 2 && f.offered == f.held + f.rejected);
+    }
+    /* an assembly at or past the plan: the client's own calls are refused with 22, the others' are not */
+    for (uint64_t place = 2; place < WURAKETOZO_ASSEMBLY_LIMIT; place++) {
+        memcpy(three_before, three, sizeof three);
+        three[2].assemblies[place] = three[2].assemblies[1];
+        memset(&three[2].assemblies[1], 0, sizeof three[2].assemblies[1]);
+        CHECK(wuraketozo_account(three, THREE, three_store, sizeof three_store, 2).refusal == 22);
+        CHECK(wuraketozo_account(three, THREE, three_store, sizeof three_store, 1).refusal == 0);
+        memcpy(three, three_before, sizeof three);
+    }
+    CHECK(wuraketozo_account(three, THREE, three_store, sizeof three_store, 2).refusal == 0);
+    /* a set-up keeps the plans and makes all else fresh */
+    CHECK(wuraketozo_plan(three_before, three_plans, THREE) == sizeof three_store);
+    CHECK(wuraketozo_reset(three, THREE, three_store, sizeof three_store).outcome == WURAKETOZO_RESET);
+    CHECK(memcmp(three_before, three, sizeof three) == 0 && memcmp(store_before, three_store, sizeof three_store) == 0);
 }
 
 /* ---- NULL with length 0 ---- */
@@ -417,6 +591,7 @@ static void nothing_at_all(void)
         const uint8_t *b = length ? piece : NULL, *b2 = length ? piece : &dummy;
         memset(with_null, 0, sizeof with_null);
         memset(without, 0, sizeof without);
+        with_null[0].plan = without[0].plan = PLAN;
         CHECK(same_answer(wuraketozo_reset(r, count, s, size), wuraketozo_reset(without, count, s2, size)));
         CHECK(same_answer(wuraketozo_offer(r, count, s, size, 0, fragment(0, 0), b, length, o, room),
                           wuraketozo_offer(without, count, s2, size, 0, fragment(0, 0), b2, length, o2, room)));
@@ -440,6 +615,9 @@ int main(void)
     one_by_one();
     outcomes();
     limits();
+    records_with_plans();
+    plans_refused();
+    places_of_plans();
     nothing_at_all();
     printf("%u checks, %u failed\n", checks, failures);
     return failures == 0 ? EXIT_SUCCESS : EXIT_FAILURE;

@@ -1,6 +1,6 @@
 #!/bin/sh
-# Holds the C header to the static library: its constants and limits, NULL with length 0, and that a host does not link where the
-# layout's number is another one.
+# Holds the C header to the static library: its constants and limits, plans, NULL with length 0, and that a host does not link where the
+# layout's number is another one. The header has to be C99, and C++ where there is a compiler for it.
 set -eu
 cd "$(dirname "$0")/../.."
 library=target/staticlib/libhost_calls.a
@@ -27,9 +27,13 @@ int main(void) { wuraketozo_original_extent none = {0, 0}; return (int)wuraketoz
 C
 cat >"$room/table.c" <<'C'
 #include "wuraketozo.h"
-static wuraketozo_client records[1];
-static uint8_t store[WURAKETOZO_SHARE];
-int main(void) { return (int)wuraketozo_reset(records, 1, store, sizeof store).refusal; }
+static const uint64_t plans[2] = {1, 8};
+static wuraketozo_client records[2];
+static uint8_t store[WURAKETOZO_SHARE(1) + WURAKETOZO_SHARE(8)];
+int main(void)
+{
+    return wuraketozo_plan(records, plans, 2) != sizeof store || wuraketozo_reset(records, 2, store, sizeof store).refusal != 0;
+}
 C
 number=$(sed -n 's/^size_t wuraketozo_layout_\([0-9]*\)(void);$/\1/p' include/wuraketozo.h)
 mkdir "$room/include"
@@ -46,7 +50,19 @@ for host in lists walks table; do
     done
 done
 
-# The same of a host in Rust: against a library whose symbol has another number.
+# A host in C99 and one in C++.
+strict="-Wall -Wextra -Werror -pedantic"
+gcc -std=c99 $strict -Iinclude "$room/table.c" "$library" -o "$room/table"
+"$room/table"
+if command -v g++ >/dev/null 2>&1; then
+    for standard in c++98 c++17; do
+        g++ -x c++ -std=$standard $strict -Iinclude -c "$room/table.c" -o "$room/table.o"
+        g++ "$room/table.o" "$library" -o "$room/table"
+        "$room/table"
+    done
+fi
+
+# A host in Rust: it does not link against a library whose symbol has another number.
 if command -v cargo >/dev/null 2>&1 && command -v objcopy >/dev/null 2>&1; then
     mkdir "$room/lib"
     objcopy --redefine-sym "wuraketozo_layout_$number=wuraketozo_layout_$((number + 1))" "$library" "$room/lib/libhost_calls.a"

@@ -5,29 +5,33 @@ from itertools import permutations
 
 from reader import crc32c
 
-from table import CLIENTS, OFFERED as LIMIT, PIECES, PLACE as ORIGINAL, SHARE
+from table import CLIENTS, OFFERED as LIMIT, PIECES, PLACE as ORIGINAL, PLACES, share
 
 MOST = 2**64 - 1
 LINES = []
+SHARE = share(4)  # where nothing is said of plans they are of 4
 
 # The fields that `forge` can set.
 (TIME, OFFERED, HELD, DELIVERED, EXPIRED, CLASHED, REPEATED, TURNED, IDENTIFICATION, PORT, OPENED, COUNT, PLACE, LENGTH, R, LAST, SOURCE,
- DESTINATION, DESTINATION_PORT) = range(19)
-FIELDS = 19
+ DESTINATION, DESTINATION_PORT, PLAN) = range(20)
+FIELDS = 20
 
 
 def say(text):
     LINES.append(text)
 
 
-def table(records, store=None, out=ORIGINAL):
-    say(f"table of {records}, store {records * SHARE if store is None else store}, out {out}")
+def table(plans, store=None, out=ORIGINAL):
+    """The plans of the clients, or how many clients with a plan of 4."""
+    plans = [4] * plans if isinstance(plans, int) else [*plans]
+    store = sum(map(share, plans)) if store is None else store
+    say(f"table of plans {' '.join(map(str, plans)) or 'none'}, store {store}, out {out}")
 
 
-def begin(title, records=1):
+def begin(title, plans=1):
     """A list: its title, and a set-up."""
     say("-- " + title)
-    table(records)
+    table(plans)
     say("set up")
 
 
@@ -93,7 +97,7 @@ def figures():
     piece(0, 120000, 2, 5, 5)
     bill(0)
     end()
-    begin("figure 12")
+    begin("figure 12: a plan of 4")
     for key in range(1, 5):
         piece(0, key, key, 0, key)
     piece(0, 5, 5, 0, 10)
@@ -246,6 +250,27 @@ FORGED_COUNTS = [
 ]
 
 
+def live(place):
+    """Makes a place live, beside the two that are."""
+    return (COUNT, 1, place), (LENGTH, 3, place), (IDENTIFICATION, 9, place), (OPENED, 200, place), (HELD, 20), (OFFERED, 20)
+
+
+# Places at and past the plan, which is 4.
+FORGED_PLACES = [
+    *((f"place {place} is live", *live(place)) for place in range(4, PLACES)),
+    *((f"place {place} is live, and all places of the plan", *live(place), *(f for at in (2, 3) for f in (
+        (COUNT, 1, at), (LENGTH, 1, at), (IDENTIFICATION, 20 + at, at), (OPENED, 200, at))), (HELD, 22), (OFFERED, 22)) for place in (4, 7)),
+    *((f"place {place} is live, with a key that is live", *live(place), (IDENTIFICATION, 1, place), (SOURCE, FROM, place), (DESTINATION, TO, place))
+      for place in (4, 7)),
+    ("place 4 is live, and no place of the plan", (COUNT, 0, 0), (COUNT, 0, 1), *live(4), (HELD, 3), (OFFERED, 3)),
+    *((f"place {place}, past the plan and unused, has {words}", (field, value, place)) for place in (4, 7) for words, field, value in (
+        ("an identification", IDENTIFICATION, 7), ("a port", PORT, 7), ("a destination port", DESTINATION_PORT, 1), ("a source address", SOURCE, 1),
+        ("a destination address", DESTINATION, 1), ("a time", OPENED, 200), ("a piece", LENGTH, 1), ("an option start", R, 1), ("a last mark", LAST, 1))),
+    *((f"place {place}, past the plan and unused, has a piece in its last slot", (PLACE, 1, place, PIECES - 1)) for place in (4, 7)),
+]
+SOUND_PLACES = [(f"place {place} is live", *live(place)) for place in (2, 3)]
+
+
 def forged_marks(mark):
     """Any number but 0 marks a last piece."""
     return [
@@ -387,9 +412,9 @@ def forged_orders():
 
 
 MARKS = (2, 255, 65535)
-BROKEN = FORGED + FORGED_FLOWS + FORGED_COUNTS + [case for mark in MARKS for case in forged_marks(mark)] + FORGED_SUMS
+BROKEN = FORGED + FORGED_FLOWS + FORGED_COUNTS + FORGED_PLACES + [case for mark in MARKS for case in forged_marks(mark)] + FORGED_SUMS
 BROKEN += [case for case in ORDERED if not case[1]]
-PASSING = SOUND + SOUND_FLOWS + [case for mark in MARKS for case in sound_marks(mark)] + SOUND_SUMS
+PASSING = SOUND + SOUND_FLOWS + SOUND_PLACES + [case for mark in MARKS for case in sound_marks(mark)] + SOUND_SUMS
 PASSING += [case for case in ORDERED if case[1]]
 
 
@@ -481,7 +506,7 @@ def forged_records():
 
 def orders():
     """Clients: 0 plain, 1 four live, 2 with all pieces, 3 unsound, 4 to 6 as 0 to 2 with all offered, 7 four live and unsound."""
-    begin("20 to 30: each against each", 8)
+    begin("20 to 30, and 32: each against each", 8)
     for k in (0, 4):
         piece(k, 1000, 1, 100, 1)
     for k in (1, 5, 7):
@@ -496,29 +521,34 @@ def orders():
     for k, held in ((4, 1), (5, 4), (6, PIECES)):
         forge(k, (OFFERED, LIMIT), (DELIVERED, LIMIT - held))
 
+    count = 0  # the other cause of 20
+
     def call(causes):
-        plain = {29: 1, 30: 2}.get(max(causes), 0)
-        k = 8 if 21 in causes else 7 if 22 in causes and 29 in causes else 3 if 22 in causes else plain + 4 if 28 in causes else plain
+        plain = {29: 1, 30: 2}.get(causes[-1], 0)
+        nobody = 13 if count in causes else 8
+        k = nobody if 21 in causes else 7 if 22 in causes and 29 in causes else 3 if 22 in causes else plain + 4 if 28 in causes else plain
         place = ORIGINAL + 1 if 25 in causes else 300
         length = 0 if 24 in causes else 3
         key = 9 if 29 in causes else 1
         if 25 in causes and 24 not in causes:
             place = ORIGINAL - 2
-        table(8, 8 * SHARE + (20 in causes), ORIGINAL - (23 in causes))
-        say(f"-- {' '.join(map(str, causes))}")
+        table([9 if 32 in causes else 4] + [4] * (12 if count in causes else 7), 8 * SHARE + (20 in causes), ORIGINAL - (23 in causes))
+        say(f"-- {' '.join(str(cause or 'count') for cause in causes)}")
         if 26 in causes:
             last(k, 999 if 27 in causes else 1000, key, place, length, place + length + 1)
         else:
             piece(k, 999 if 27 in causes else 1000, key, place, length)
 
     impossible = ({21, 22}, {24, 28}, {29, 30}, {22, 30})
-    for first in range(20, 31):
+    order = [count, 32, *range(20, 31)]
+    for at, first in enumerate(order):
         call([first])
-        for second in range(first + 1, 31):
+        for second in order[at + 1:]:
             if not any(pair <= {first, second} for pair in impossible):
                 call([first, second])
-    call([20, 21, 23, 24, 25, 26, 27])
-    call([20, 22, 23, 24, 25, 26, 27, 29])
+    for at in range(3):
+        call(order[at:3] + [21, 23, 24, 25, 26, 27])
+        call(order[at:3] + [22, 23, 24, 25, 26, 27, 29])
     for first in range(21, 25):
         call([c for c in range(first, 28) if c != 22 or first == 22] + [29])
     for first in range(25, 30):
@@ -889,13 +919,252 @@ def others():
     end()
 
 
+# ---- document 02, R-8: plans of different size
+
+def all_calls(k):
+    """Each of the three that name a client."""
+    piece(k, 0, 1, 0, 8)
+    clock(k, 0)
+    bill(k)
+
+
+def plans():
+    full_plans()
+    share_places()
+    plans_out_of_range()
+    other_plans()
+    places_past_the_plan()
+
+
+def full_plans():
+    begin("plans of 1 and 8, side by side", [1, 8])
+    for k, plan in enumerate((1, 8)):
+        for key in range(1, plan + 2):
+            piece(k, key, key, 0, 8)
+        piece(k, 20, plan, 0, 8)
+        last(k, 20, plan, 8, 4)
+        piece(k, 20, plan + 1, 0, 8)
+        piece(k, 20, plan + 2, 0, 8)
+        bill(k)
+    say("-- one expiry each")
+    for k, plan in enumerate((1, 8)):
+        first = 120020 if plan == 1 else 120001
+        piece(k, first - 1, plan + 2, 0, 8)
+        piece(k, first, plan + 2, 0, 8)
+        piece(k, first, plan + 3, 0, 8)
+        bill(k)
+    end()
+    begin("29 at every plan, and what makes room", range(1, PLACES + 1))
+    for k in range(PLACES):
+        plan = k + 1
+        for key in range(1, plan + 2):
+            piece(k, 5, key, 0, 10 + key, other=k)
+        bill(k)
+        say(f"-- plan {plan}: a delivery, then a clash, then an expiry")
+        last(k, 6, plan, 10 + plan, 2, other=k)
+        piece(k, 6, 20, 0, 4, other=k)
+        piece(k, 6, 21, 0, 4, other=k)
+        piece(k, 6, 20, 3, 4, other=k)
+        piece(k, 6, 22, 0, 4, other=k)
+        piece(k, 6, 23, 0, 4, other=k)
+        piece(k, 120006, 24, 0, 4, other=k)
+        bill(k)
+    end()
+    begin("a client with a plan of 8 and 64 pieces of each original", [1, 8, 1])
+    step = ORIGINAL // PIECES
+    for i in range(PIECES):
+        for key in range(1, PLACES + 1):
+            if i + 1 < PIECES:
+                piece(1, i, key, step * i, step)
+    piece(1, 70, 9, 0, 1)
+    bill(1)
+    for key in range(1, PLACES + 1):
+        last(1, 70, key, ORIGINAL - step, step)
+    bill(1)
+    end()
+
+
+def share_places():
+    sizes = [3, 1, 8, 2, 5]
+    begin("shares behind shares of other sizes", sizes)
+    for k, plan in enumerate(sizes):
+        for key in range(1, plan + 1):
+            piece(k, k, key, 0, 8, other=16 * k)
+            piece(k, k, key, ORIGINAL - 8, 8, other=16 * k)
+    for k, plan in enumerate(sizes):
+        bill(k)
+        say("-- the last place of the plan, and the first")
+        for key in sorted({plan, 1}, reverse=True):
+            piece(k, 9, key, 8, ORIGINAL - 17, other=16 * k)
+            piece(k, 9, key, ORIGINAL - 9, 1, other=16 * k)
+            last(k, 9, key, ORIGINAL - 8, 8, other=16 * k)
+        bill(k)
+    end()
+    begin("the longest originals, each place of each share", sizes)
+    for k, plan in enumerate(sizes):
+        for key in range(1, plan + 1):
+            piece(k, 0, key, 0, ORIGINAL - 1, other=8 * k + key)
+    for k, plan in reversed([*enumerate(sizes)]):
+        for key in range(1, plan + 1):
+            last(k, 0, key, ORIGINAL - 1, 1, 3, other=8 * k + key)
+    end()
+    begin("12 clients with the largest plan", [PLACES] * CLIENTS)
+    for k in range(CLIENTS):
+        for key in range(1, PLACES + 2):
+            piece(k, 0, key, ORIGINAL - 2, 2, other=PLACES * k + key)
+    for k in range(CLIENTS):
+        bill(k)
+    end()
+
+
+def plans_out_of_range():
+    begin("32: behind the count, before the store", [4, 2, 1])
+    for k in range(3):
+        piece(k, 0, 1, 0, 8)
+    past = PLACES + 1
+    # 2^51 + 4 places have as many bytes as 4, modulo 2^64; 2^64 - 3 and 8 are 5.
+    for plans, store in (([past] * (CLIENTS + 1), 0), ([0] * (CLIENTS + 1), 0), ([1] * CLIENTS + [past], share(CLIENTS)), ([], 0),
+                         ([past], 1), ([past], share(past)), ([past], share(PLACES)), ([0], 0), ([0], share(1)), ([MOST], 0), ([MOST], share(4)),
+                         ([4, 2, 0], share(6)), ([4, 0, 1], share(5)), ([0, 2, 1], share(3)), ([4, 2, past], share(6 + past)), ([4, past, 1], share(7)),
+                         ([past, 2, 1], share(7)), ([MOST - 2, 8], share(5)), ([8, MOST - 2], share(5)), ([2**51 + 4], share(4)), ([2**32 + 4], share(4)),
+                         ([260], share(4)), ([2**63 + 4, 2**63], share(4)), ([0] * CLIENTS, 0), ([PLACES] * 11 + [past], share(12 * PLACES)),
+                         ([4, 2, 1], share(7) - 1), ([4, 2, 1], share(7) + 1), ([4, 2, 1], share(8)), ([4, 2, 1], share(12)), ([4, 2, 1], 0),
+                         ([8, 2, 1], share(7)), ([PLACES] * CLIENTS, share(CLIENTS * PLACES) - 1), ([1] * CLIENTS, share(CLIENTS) + 1)):
+        table(plans, store)
+        say("set up")
+        all_calls(0)
+        all_calls(CLIENTS)
+    table([4, 2, 1])
+    for k in range(3):
+        bill(k)
+    end()
+    begin("32: another client's plan, before 21 and 22", [1, 2, 4])
+    for k in range(3):
+        piece(k, 5, 1, 0, 8)
+    for k, plan in ((2, PLACES + 1), (0, 0), (1, MOST)):
+        say(f"-- client {k}, plan {plan}")
+        forge(k, (PLAN, plan))
+        for other in (0, 1, 2, 3, MOST):
+            all_calls(other)
+        say("set up")
+        forge(k, (PLAN, 1 << k))
+        for other in range(3):
+            bill(other)
+            piece(other, 5, 1, 0, 8)
+    say("-- beside a record that is refused")
+    forge(1, (HELD, 9))
+    all_calls(1)
+    forge(2, (PLAN, 0))
+    all_calls(1)
+    forge(2, (PLAN, 4))
+    all_calls(1)
+    last(2, 5, 1, 8, 4)
+    for k in range(3):
+        bill(k)
+    end()
+    begin("32 sets no time, expires nothing, offers nothing", [1, 1])
+    piece(0, 10, 1, 0, 8)
+    forge(1, (PLAN, 0))
+    clock(0, 500000)
+    piece(0, 500000, 2, 0, 8)
+    piece(0, 10, 1, 0, 8)
+    forge(1, (PLAN, 1))
+    bill(0)
+    clock(0, 9)
+    last(0, 10, 1, 8, 4)
+    bill(0)
+    end()
+    begin("records of zeros", [0, 0, 0])
+    all_calls(0)
+    for plans, store in (([0, 0, 0], share(3)), ([1, 0, 0], share(1)), ([1, 1, 0], share(2)), ([1, 1, 1], share(3))):
+        table(plans, store)
+        say("set up")
+        all_calls(1)
+    end()
+
+
+def other_plans():
+    begin("set-up keeps each plan", [1, 8, 4])
+    for turn in range(3):
+        for k, plan in enumerate((1, 8, 4)):
+            for key in range(1, plan + 2):
+                piece(k, 10 - turn, key, turn, 4, other=turn)
+            bill(k)
+        say("set up")
+        for k in range(3):
+            bill(k)
+    end()
+    begin("set-ups with other plans", [8, 1])
+    for key in range(1, 10):
+        piece(0, 50, key, 0, 8, other=1)
+    for key in range(1, 3):
+        piece(1, 50, key, 0, 8, other=2)
+    for plans in ([1, 8], [2, 2, 5], [3], [8, 1]):
+        table(plans)
+        say("set up")
+        for k, plan in enumerate(plans):
+            bill(k)
+            for key in range(1, plan + 2):
+                piece(k, 7, key, 4, 8, other=len(plans) + k)
+            piece(k, 8, plan, 0, 4, other=len(plans) + k)
+            last(k, 8, plan, 12, 4, other=len(plans) + k)
+            bill(k)
+        piece(len(plans), 0, 1, 0, 1)
+    end()
+    begin("a set-up that is refused leaves plans and records", [2, 3])
+    for k in range(2):
+        piece(k, 5, 1, 0, 8)
+    for plans, store in (([2, 9], share(5)), ([3, 2], share(5) + 1), ([2, 3, 1], share(5)), ([2], share(5))):
+        table(plans, store)
+        say("set up")
+    table([2, 3])
+    for k in range(2):
+        bill(k)
+        for key in range(2, 5):
+            piece(k, 6, key, 0, 8)
+        bill(k)
+    end()
+
+
+def places_past_the_plan():
+    begin("22: places at and past a plan of 4", 3)
+    tried(FORGED_PLACES + SOUND_PLACES)
+    end()
+    begin("22: a plan that became smaller", [2, 8, 1])
+    for k in (0, 2):
+        piece(k, 0, 1, 0, 8)
+    for key in range(1, 4):
+        piece(1, 0, key, 0, 8)
+    for plan in (2, 1, 3, 8):
+        say(f"-- plan {plan}, three places live")
+        table([2, plan, 1])
+        for k in range(4):
+            bill(k)
+            clock(k, 0)
+        piece(1, 0, 4, 0, 8)
+        last(1, 0, 3, 8, 4)
+        piece(0, 0, 1, 0, 8, other=1)
+        piece(0, 0, 1, 0, 8)
+        bill(0)
+    end()
+    begin("a plan that became larger", [2, 2])
+    for key in range(1, 4):
+        piece(0, 0, key, 0, 8)
+    table([5, 2])
+    for key in range(3, 8):
+        piece(0, 1, key, 0, 8)
+    bill(0)
+    bill(1)
+    end()
+
+
 # ---- random lists
 
 class Calls:
-    """Random calls on a table of `records`; `crumbs`: many pieces of one byte and few keys; the first `fields` may be forged."""
+    """Random calls on a table of `records`; `crumbs`: many pieces of one byte and few keys; the first `fields` may be forged, of so many places."""
 
-    def __init__(self, rng, records, crumbs=False, fields=16):
-        self.rng, self.records, self.crumbs, self.fields = rng, records, crumbs, fields
+    def __init__(self, rng, records, crumbs=False, fields=16, keys=5, places=4):
+        self.rng, self.records, self.crumbs, self.fields, self.keys, self.places = rng, records, crumbs, fields, keys, places
         self.time = dict.fromkeys(range(records + 1), 0)
 
     def fill(self):
@@ -932,22 +1201,36 @@ class Calls:
             place += rng.choice([1, ORIGINAL - 6, ORIGINAL, MOST - 8])
         final = rng.random() < 0.35
         r = max(0, place + length - rng.choice([0, 0, 0, 1, 4, -1 if rng.random() < 0.3 else 0])) if final else None
-        piece(k, when, rng.randrange(1, 6), place, length, r, int(rng.random() < 0.04), rng.choice([0, 0, 0, 0, 0, 1]), final)
+        piece(k, when, rng.randrange(1, self.keys + 1), place, length, r, int(rng.random() < 0.04), rng.choice([0, 0, 0, 0, 0, 1]), final)
 
     def forging(self):
         k = self.rng.randrange(self.records)
         for _ in range(self.rng.randrange(1, 4)):
             value = self.rng.choice([0, 1, 2, 4, 8, PIECES, PIECES + 1, ORIGINAL - 1, ORIGINAL, 65535, MOST, LIMIT, self.rng.randrange(30)])
-            forge(k, (self.rng.randrange(self.fields), value, self.rng.randrange(4), self.rng.choice([0, 0, 1, 2, PIECES - 1])))
+            forge(k, (self.rng.randrange(self.fields), value, self.rng.randrange(self.places), self.rng.choice([0, 0, 1, 2, PIECES - 1])))
+
+
+def random_plans(rng, records):
+    return [rng.choice([1, 2, 4, 8, rng.randrange(1, PLACES + 1)]) for _ in range(records)]
+
+
+def random_table(rng, plans):
+    """Lends it, now and then with a byte of store too many or too few, a plan out of range, or a small out buffer."""
+    store = sum(map(share, plans)) + (rng.choice([-1, 1]) if rng.random() < 0.05 else 0)
+    plans = [*plans]
+    if rng.random() < 0.05:
+        plans[rng.randrange(len(plans))] = rng.choice([0, PLACES + 1, 2**32 + 4, 2**51 + 1, MOST])
+    table(plans, store, ORIGINAL - (rng.random() < 0.05))
 
 
 def random_list(seed):
-    """A script of its own; from 200 on every field may be forged."""
+    """A script of its own; from 200 on every field may be forged, the plan too."""
     rng = random.Random(9868 + seed)
     del LINES[:]
     records = rng.choice([1, 2, 12])
-    begin(f"random {seed}", records)
-    calls = Calls(rng, records, rng.random() < 0.2, 16 if seed < 200 else FIELDS)
+    plans = random_plans(rng, records)
+    begin(f"random {seed}", plans)
+    calls = Calls(rng, records, rng.random() < 0.2, 16 if seed < 200 else FIELDS, rng.choice([3, 5, 10]), PLACES)
     if rng.random() < 0.2:
         calls.time = {k: MOST - rng.randrange(400000) for k in calls.time}
     if rng.random() < 0.1:
@@ -955,11 +1238,18 @@ def random_list(seed):
             forge(k, (DELIVERED, LIMIT - 40), (OFFERED, LIMIT - 40))
     if calls.crumbs:
         calls.fill()
-    for _ in range(rng.randrange(1, 4)):
+    for _ in range(rng.randrange(1, 5)):
         calls.some(40)
         if rng.random() < 0.2:
             calls.forging()
-        table(records, records * SHARE + (rng.choice([-1, 1]) if rng.random() < 0.05 else 0), ORIGINAL - (rng.random() < 0.05))
+        if rng.random() < 0.3:
+            plans = rng.choice([random_plans(rng, records), plans[1:] + plans[:1]])
+            table(plans)
+            if rng.random() < 0.8:
+                say("set up")
+                calls.time = dict.fromkeys(calls.time, 0)
+        else:
+            random_table(rng, plans)
     end()
     return "\n".join(LINES) + "\n"
 
@@ -986,6 +1276,7 @@ def stored():
     forged_orders()
     completions()
     long_reports()
+    plans()
     return "\n".join(LINES) + "\n"
 
 

@@ -1,4 +1,4 @@
-"""A table in plain Python, from document 01 alone, beside the plain book of each client.
+"""A table in plain Python, from document 01 with R-4 and R-8 of document 02 alone, beside the plain book of each client.
 
     table.py calls             what has to come of rust/scripts/lists/calls.txt, its calls.expected
     table.py count             how often each answer stands in that
@@ -15,10 +15,9 @@ from reader import crc32c
 
 HERE = os.path.dirname(os.path.abspath(__file__))
 ROOT = os.path.join(HERE, "..", "..")
-PLACE, PLACES, PIECES = 8192, 4, 64
-SHARE = PLACE * PLACES
+PLACE, PLACES, PIECES = 8192, 8, 64  # as many places as the largest plan has
 CLIENTS, LIFETIME, OFFERED = 12, 120000, 10**15
-RECORDS, STORE = CLIENTS + 1, (CLIENTS + 1) * SHARE + 1
+RECORDS, STORE = CLIENTS + 1, (CLIENTS + 1) * PLACES * PLACE + 1
 UNTOUCHED, BLANK = 0x5A, 0xA5
 NOWHERE = ((0, 0, 0, 0), (0, 0, 0, 0), 0, 0)  # addresses and ports
 FIGURES = ("held", "delivered", "expired", "clashed", "repeated", "turned")
@@ -53,7 +52,8 @@ class Assembly:
 
 
 class Record:
-    def __init__(self):
+    def __init__(self, plan):
+        self.plan = plan
         self.time = self.offered = 0
         self.figures = dict.fromkeys(FIGURES, 0)
         self.assemblies = [Assembly() for _ in range(PLACES)]
@@ -97,6 +97,7 @@ def sound_assembly(a, time):
 def sound(record):
     live = [a for a in record.assemblies if a.count]
     return (all(a.count or a.fresh() for a in record.assemblies)
+            and not any(a.count for a in record.assemblies[record.plan:])
             and all(sound_assembly(a, record.time) for a in live)
             and len({a.key() for a in live}) == len(live)
             and record.figures["held"] == sum(size(a.pieces()) for a in live)
@@ -116,14 +117,16 @@ class Refused(Exception):
 
 
 class Table:
+    """`lent` is the plans of the records that a call gets, and the bytes of store."""
+
     def __init__(self):
-        self.records = [Record() for _ in range(RECORDS)]
+        self.records = [Record(1) for _ in range(RECORDS)]
         self.store = bytearray([UNTOUCHED]) * STORE
 
     def client(self, lent, k):
-        """20 to 22."""
+        """20, 32, 21 and 22."""
         misfit(lent)
-        if k >= lent[0]:
+        if k >= len(lent[0]):
             raise Refused(21)
         if not sound(self.records[k]):
             raise Refused(22)
@@ -131,7 +134,7 @@ class Table:
 
     def reset(self, lent):
         misfit(lent)
-        self.records[:lent[0]] = [Record() for _ in range(lent[0])]
+        self.records[:len(lent[0])] = [Record(plan) for plan in lent[0]]
         return "taken"
 
     def clock(self, lent, k, time):
@@ -153,11 +156,11 @@ class Table:
         record.offered += p.length
         figures = record.figures
         at = [i for i, a in enumerate(record.assemblies) if a.count and a.key() == key]
-        at = at or [i for i, a in enumerate(record.assemblies) if not a.count]
-        if not at:
+        if not at and sum(a.count > 0 for a in record.assemblies) >= record.plan:
             figures["turned"] += p.length
             raise Refused(29)
-        a, base = record.assemblies[at[0]], k * SHARE + at[0] * PLACE
+        at = at or [i for i, a in enumerate(record.assemblies) if not a.count]
+        a, base = record.assemblies[at[0]], share(sum(lent[0][:k])) + at[0] * PLACE
         held = a.pieces()
         kept = self.store[base + p.place:base + p.end()]
         if any((p.place, p.length) == (q.place, q.length) and same_end(p, q) for q in held) and kept == data:
@@ -186,9 +189,25 @@ class Table:
         return "delivered %d %d" % done, bytes(self.store[base:base + done[0]])
 
 
+def share(plan):
+    return plan * PLACE
+
+
 def misfit(lent):
-    if not 1 <= lent[0] <= CLIENTS or lent[1] != lent[0] * SHARE:
-        raise Refused(20)
+    """20 for the count, 32, 20 for the store."""
+    plans, store = lent
+    for number, cause in ((20, not 1 <= len(plans) <= CLIENTS), (32, not all(1 <= plan <= PLACES for plan in plans)),
+                          (20, store != sum(share(plan) for plan in plans))):
+        if cause:
+            raise Refused(number)
+
+
+def fits(lent):
+    try:
+        misfit(lent)
+    except Refused:
+        return False
+    return True
 
 
 def tests(p, time, room, last_time, offered):
@@ -211,7 +230,8 @@ def elapse(record, time):
 # ---- document 01's plain book of one client: no places, no store
 
 class Book:
-    def __init__(self):
+    def __init__(self, plan):
+        self.plan = plan
         self.time = self.offered = 0
         self.figures = dict.fromkeys(FIGURES[1:], 0)
         self.open = []  # (key, time, piece, bytes)
@@ -239,7 +259,7 @@ class Book:
         self.until(time)
         self.offered += len(data)
         mine = [o for o in self.open if o[0] == key]
-        if not mine and len({o[0] for o in self.open}) == PLACES:
+        if not mine and len({o[0] for o in self.open}) >= self.plan:
             self.figures["turned"] += len(data)
             raise Refused(29)
         for _, _, q, held in mine:
@@ -314,6 +334,8 @@ def forge(record, field, place, slot, value):
     p = a.slots[slot % PIECES]
     if field == 0:
         record.time = value
+    elif field == 19:
+        record.plan = value
     elif field == 1:
         record.offered = value
     elif field < 8:
@@ -334,10 +356,21 @@ class Run:
     """Answers line by line; `books` has the book of each client whose history it is."""
 
     def __init__(self):
-        self.table, self.lent, self.room, self.books = Table(), (0, 0), 0, {}
+        self.table, self.count, self.store, self.room, self.books = Table(), 0, 0, 0, {}
+
+    def lent(self):
+        return tuple(record.plan for record in self.table.records[:self.count]), self.store
+
+    def lend(self, numbers):
+        """The plans of the records, the store and the out buffer."""
+        *plans, self.store, self.room = numbers
+        self.count = len(plans)
+        for record, plan in zip(self.table.records, plans):
+            record.plan = plan
 
     def booked(self, lent, k):
-        if k not in self.books or not 1 <= lent[0] <= CLIENTS or lent[1] != lent[0] * SHARE:
+        """A call that 20 or 32 refuses may get any table; each other one gets that of the last set-up taken, or no book is kept."""
+        if k not in self.books or not fits(lent):
             return None
         if lent != self.whole:
             self.books = {}
@@ -355,18 +388,20 @@ class Run:
 
     def ask(self, line):
         """What stands behind the line."""
-        n = [int(x) for x in re.findall(r"\d+", line)] + [0] * 8
+        numbers = [int(x) for x in re.findall(r"\d+", line)]
+        n = numbers + [0] * 8
         word, k = line[:1], n[0]
-        table, lent = self.table, self.lent
+        table, lent = self.table, self.lent()
         if word == "t":
-            self.lent, self.room = (n[0], n[1]), n[2]
+            self.lend(numbers)
         elif word == "f":
-            if k < lent[0]:
+            if k < len(lent[0]):
                 forge(table.records[k], *n[1:5])
-                self.books.pop(k, None)
+                if n[1] != 19:
+                    self.books.pop(k, None)
         elif word == "s":
             answer = table.reset(lent)
-            self.whole, self.books = lent, {i: Book() for i in range(lent[0])}
+            self.whole, self.books = lent, {i: Book(plan) for i, plan in enumerate(lent[0])}
             return ": " + answer
         elif word == "c":
             return self.both(self.booked(lent, k), lambda: table.clock(lent, k, n[1]), lambda b: b.until(n[1]) or "taken")

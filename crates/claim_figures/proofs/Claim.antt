@@ -25,15 +25,15 @@ use Rattle.list_payload.specs.Payload as Payload
 use Rattle.list_payload.specs.Payload.{wireOf, worked, workedAll, wires, listOf, payloadOf}
 use Rattle.list_writer.specs.Answer.{fits, putWhole, written}
 use Rattle.client_record.specs.Limits.{datagramLimit, fragmentLimit, assemblyLimit, lifetime, offeredLimit, shareSize, clientLimit}
-use Rattle.client_record.specs.Lists.{sameBytes, any, sum}
-use Rattle.client_record.specs.Record.{sameFlow}
+use Rattle.client_record.specs.Lists.{sameBytes, all, any, sum}
+use Rattle.client_record.specs.Record.{freshClient, sameFlow}
 use Rattle.client_ledger.specs.Book.{empty, size, endOf, total, heldBytes, held, sameKey, of, mine, keep, others, openedAt, keys, due, outdated}
 use Rattle.client_ledger.specs.Book.{advance, repeats, overlap, contradicts, within, complete, lastOne, byteAt, bytesTo, rejecting, conflicting}
 use Rattle.client_ledger.specs.Book.{storing, taking, noRoom, isRepeat, isConflict, isFull, fate, entry, offerTests, clockTests, figures}
-use Rattle.client_ledger.specs.Lent.{countOff, storeOff, misfits, noClient, lentTests, answered, keeping, bookOf}
+use Rattle.client_ledger.specs.Lent.{countOff, planOff, plansOff, storeOff, tableTests, noClient, lentTests, since, answered, keeping, bookOf}
 use Rattle.client_ledger.specs.Stands.{offerOf}
 use Rattle.client_ledger.specs.History.{Lent, Given}
-use Rattle.table_rules.specs.Table.{lentOf, sized}
+use Rattle.table_rules.specs.Table.{lentOf, counted, inRange, sharesOf, sized}
 use Rattle.table_rules.specs.Events.{Event, Keeps}
 use Rattle.table_rules.specs.Owed.{owes}
 use Rattle.table_rules.specs.Demand3.{Terms, opening}
@@ -98,30 +98,30 @@ line-8 = refl
 
 -- ---- lines 9 to 12
 
--- the sizes of the table
+-- the sizes and the plan of the table
 lent : Lent
-lent = record { count = 1; bytes = shareSize }
+lent = record { count = 1; bytes = shareSize 4; plans = 4 ∷ [] }
 
 sizes : lentOf table ≡ lent
-unfolding lent shareSize
-sizes = ap (λ (n : ℕ). record { count = 1; bytes = n }) (length-replicate {A = ℕ} shareSize 0)
+unfolding lent freshClient
+sizes = ap (λ (n : ℕ). record { count = 1; bytes = n; plans = 4 ∷ [] }) (length-replicate {A = ℕ} (shareSize 4) 0)
 
 terms : (es : List Event) → Keeps es → Terms table es
-unfolding lent sized clientLimit shareSize
+unfolding lent sized counted inRange sharesOf all sum clientLimit assemblyLimit shareSize datagramLimit
 terms es keeps = record { fits = ap sized sizes; keeps = keeps }
 
 -- what the book owes for a set-up and these calls
 owed : List Event → Line
-owed es = calls (map shownBy (owes 0 lent [] (opening es)))
+owed es = calls (map shownBy (owes 0 lent (since 0 lent) (opening es)))
 
 on-book : (es : List Event) → Keeps es → called es ≡ owed es
 unfolding owed
 on-book es keeps =
     ap (λ (given : List Given). calls (map shownBy given))
-    (demand-3 .answers table es (terms es keeps) 0 ∙ ap (λ (l : Lent). owes 0 l [] (opening es)) sizes)
+    (demand-3 .answers table es (terms es keeps) 0 ∙ ap (λ (l : Lent). owes 0 l (since 0 l) (opening es)) sizes)
 
 book : Unit {0}
-unfolding lent owed countOff storeOff misfits noClient lentTests answered keeping bookOf owes offerOf firstOf empty size endOf total heldBytes held sameKey of mine
+unfolding lent owed countOff planOff plansOff storeOff tableTests noClient lentTests answered keeping bookOf owes offerOf firstOf empty size endOf total heldBytes held sameKey of mine
     keep others openedAt keys due outdated advance repeats overlap contradicts within complete lastOne byteAt bytesTo rejecting conflicting
     storing taking noRoom isRepeat isConflict isFull fate entry offerTests clockTests figures sameFlow sameBytes any sum datagramLimit
     fragmentLimit assemblyLimit lifetime offeredLimit shareSize clientLimit stated

@@ -74,9 +74,9 @@ read size behind = judged (reading Plain (0x12 ∷ 0x34 ∷ 0x00 ∷ 0x35 ∷ 0x
 
 -- ---- the table
 
--- one client
+-- one client, of a plan of 4 (document 02, R-8: line 12 "is then one of a plan of 4")
 abbrev pub table : Table
-table = record { records = freshClient ∷ []; store = replicate shareSize 0 }
+table = record { records = freshClient 4 ∷ []; store = replicate (shareSize 4) 0 }
 
 abbrev pub out : List ℕ
 out = replicate datagramLimit 0

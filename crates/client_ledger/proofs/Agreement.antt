@@ -6,13 +6,13 @@ use mathlib.Core.Path.{_≡_, refl, sym, ap, ap₂, _∙_, subst}
 use mathlib.Core.Bool.{Bool, true, false, not, _&&_, _||_, cond}
 use mathlib.Core.List.{List, [], _∷_, map}
 use native.Mathlib.Omega.{arith}
-use lib.ListN.{length, getD}
+use lib.ListN.{length, getD, drop}
 use borrow.Author.Tests.{leb-true, eqb-true, eqb-false, not-true, not-false}
 use Rattle.number_tests.proofs.Tests.{true-false, both-true, both-false, cond-yes}
 use Rattle.number_octets.proofs.Laws.{length-part}
 use Rattle.client_record.specs.declared.Fragment.{Fragment}
 use Rattle.client_record.specs.declared.Assembly.{Assembly}
-use Rattle.client_record.specs.Limits.{datagramLimit, assemblyLimit, shareSize}
+use Rattle.client_record.specs.Limits.{datagramLimit, shareSize}
 use Rattle.client_record.specs.Lists.{all, any, pairs, sum}
 use Rattle.client_record.specs.Record.{
   freshAssembly,
@@ -35,6 +35,7 @@ use Rattle.client_record.proofs.Lists.{all-not}
 use Rattle.client_record.proofs.SoundParts.{all-weaker, all-at}
 use Rattle.client_reassembly.specs.Offer.{base}
 use Rattle.client_reassembly.proofs.Kept.{LiveParts, live-parts}
+use Rattle.client_reassembly.proofs.Places.{live-below}
 use Rattle.client_reassembly.proofs.Steady.{empty-bytes}
 use Rattle.client_ledger.specs.Book.{Key, Content, Entry, size, total, heldBytes, sameKey, mine, others}
 use Rattle.client_ledger.specs.Stands.{keyOf, owns, at, contentOf, Agrees}
@@ -163,10 +164,10 @@ parts-fit {a = a} k = all-weaker soundFragment fits sound-fits (heldFragments a)
 
 -- ---- the bytes of the share
 
-module _ (share : List ℕ) (p : ℕ) (whole : length share ≡ shareSize) (h : p < assemblyLimit) where
+module _ {plan : ℕ} (share : List ℕ) (p : ℕ) (whole : length share ≡ shareSize plan) (h : p < plan) where
   -- a fragment that fits lies in its place's part of the share
   pub in-share : (f : Fragment) → fits f ≡ true → base p + f .offset + f .length ≤ length share
-  unfolding fits end base shareSize assemblyLimit datagramLimit
+  unfolding fits end base shareSize datagramLimit
   in-share f e = omega (arith, leb-true (f .offset + f .length) datagramLimit e)
 
   pub content-size : (f : Fragment) → fits f ≡ true → size (contentOf share p f) ≡ f .length
@@ -180,8 +181,9 @@ module _ (share : List ℕ) (p : ℕ) (whole : length share ≡ shareSize) (h : 
 
 -- ---- held bytes, and open keys
 
-module _ (t : ℕ) (share : List ℕ) (es : List Entry) (xs : List Assembly) (whole : length share ≡ shareSize) (places : length xs ≡ assemblyLimit)
-    (sound : all (soundAssembly t) xs ≡ true) (differ : keysDiffer xs ≡ true) (agree : Agrees share es xs) where
+module _ (plan t : ℕ) (share : List ℕ) (es : List Entry) (xs : List Assembly) (whole : length share ≡ shareSize plan)
+    (planned : all (λ a. not (live a)) (drop plan xs) ≡ true) (sound : all (soundAssembly t) xs ≡ true) (differ : keysDiffer xs ≡ true)
+    (agree : Agrees share es xs) where
   pub held-sum : heldBytes es ≡ sum bytesHeld xs
   unfolding bytesHeld heldBytes sum
   held-sum =
@@ -191,6 +193,6 @@ module _ (t : ℕ) (share : List ℕ) (es : List Entry) (xs : List Assembly) (wh
       here : (i : ℕ) → i < length xs → (b : Bool) → live (at xs i) ≡ b → cond b (total (mine (keyOf (at xs i)) es)) 0 ≡ bytesHeld (at xs i)
       here i k true l =
           ap total (agree .each i k l .fragments)
-          ∙ content-bytes share i whole (omega arith) (heldFragments (at xs i))
+          ∙ content-bytes share i whole (live-below plan xs i freshAssembly planned k l) (heldFragments (at xs i))
           (parts-fit (live-sound t (at xs i) l (all-at (soundAssembly t) xs i freshAssembly k sound)))
       here i k false l = sym (empty-bytes (at xs i) (not-live-count (at xs i) l))

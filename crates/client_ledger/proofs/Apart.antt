@@ -30,7 +30,7 @@ use Rattle.client_ledger.specs.Book.{taking, noRoom, isRepeat, isConflic
 use Rattle.client_ledger.specs.Book.{clockTests, refuseOr, call, Offer}
 use Rattle.client_ledger.specs.Book as Book
 use Rattle.client_ledger.specs.Whole.{assembled}
-use Rattle.client_ledger.specs.Lent.{Own, answered, keeping, bookOf}
+use Rattle.client_ledger.specs.Lent.{Own, Past, answered, keeping, bookOf}
 use Rattle.client_ledger.proofs.Own.{own-either}
 use Rattle.client_ledger.proofs.Keys.{of-key, mine-joined, mine-other}
 
@@ -164,14 +164,14 @@ keeping-peaceful (o ∷ os) b h =
     keeping-peaceful os (answered o b .book) (own-either (λ c. Peaceful (c .open-ones)) o b h (call-peaceful (o .call) b h))
 
 -- in the book of every history
-pub peaceful : (os : List Own) → Peaceful (bookOf os .open-ones)
+pub peaceful : (h : Past) → Peaceful (bookOf h .open-ones)
 unfolding bookOf empty mine pairs
-peaceful os = keeping-peaceful os empty (λ k. refl)
+peaceful h = keeping-peaceful (h .calls) (empty (h .plan)) (λ k. refl)
 
 -- with a fragment that is taken too
-pub assembled-pairs : (os : List Own) (o : Offer) → isConflict (entry o) (advance (o .time) (bookOf os)) ≡ false
-    → pairs follows (assembled o (bookOf os)) ≡ true
+pub assembled-pairs : (h : Past) (o : Offer) → isConflict (entry o) (advance (o .time) (bookOf h)) ≡ false
+    → pairs follows (assembled o (bookOf h)) ≡ true
 unfolding isConflict
-assembled-pairs os o n =
+assembled-pairs h o n =
     let e = entry o in
-    joined-pairs (mine (e .key) (advance (o .time) (bookOf os) .open-ones)) (e .content) (advance-peaceful (o .time) (bookOf os) (peaceful os) (e .key)) n
+    joined-pairs (mine (e .key) (advance (o .time) (bookOf h) .open-ones)) (e .content) (advance-peaceful (o .time) (bookOf h) (peaceful h) (e .key)) n

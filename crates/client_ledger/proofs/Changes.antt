@@ -16,7 +16,7 @@ use Rattle.number_octets.proofs.Laws.{length-overlay, take-overlay, drop-overla
 use Rattle.client_record.specs.declared.Fragment.{Fragment}
 use Rattle.client_record.specs.declared.Assembly.{Assembly}
 use Rattle.client_record.specs.declared.Client.{Client}
-use Rattle.client_record.specs.Limits.{datagramLimit, fragmentLimit, assemblyLimit, shareSize}
+use Rattle.client_record.specs.Limits.{datagramLimit, fragmentLimit, shareSize}
 use Rattle.client_record.specs.Lists.{all, any}
 use Rattle.client_record.specs.Record.{freshAssembly, isLast, end, fits, overlaps, conflicts, live, heldFragments}
 use Rattle.client_record.proofs.Held.{marks-last}
@@ -121,7 +121,7 @@ unfolding base datagramLimit
 next-base i j h = omega arith
 
 -- the fragment f of these bytes is laid at its place
-module _ (share : List ℕ) (p : ℕ) (f : Fragment) (bytes : List ℕ) (size-of : length share ≡ shareSize) (h : p < assemblyLimit)
+module _ {plan : ℕ} (share : List ℕ) (p : ℕ) (f : Fragment) (bytes : List ℕ) (size-of : length share ≡ shareSize plan) (h : p < plan)
     (n : f .length ≡ length bytes) (fit : fits f ≡ true) where
   pub room : startOf p f + length bytes ≤ length share
   unfolding startOf
@@ -273,12 +273,14 @@ start-twice : (l : Bool) (r : ℕ) → cond l (cond l r 0) 0 ≡ cond l r 0
 start-twice true r = refl
 start-twice false r = refl
 
-module _ (c : Client) (share : List ℕ) (b : Book) (o : Arrival) (bytes : List ℕ) (p : ℕ) (a : Assembly) (size-of : length share ≡ shareSize)
-    (h : p < assemblyLimit) (at-home : Home c share b (entry (offerOf o bytes)) p a) (fit : fits (fragmentOf o (length bytes)) ≡ true) where
+module _ (c : Client) (share : List ℕ) (b : Book) (o : Arrival) (bytes : List ℕ) (p : ℕ) (a : Assembly)
+    (size-of : length share ≡ shareSize (c .plan)) (at-home : Home c share b (entry (offerOf o bytes)) p a)
+    (fit : fits (fragmentOf o (length bytes)) ≡ true) where
   new-content : contentOf (overlay share (startOf p (fragmentOf o (length bytes))) bytes) p (fragmentOf o (length bytes)) ≡ entry (offerOf o bytes) .content
   unfolding contentOf fragmentOf entry offerOf startOf
   new-content =
-      let there = part-overlay share (base p + o .offset .0) bytes (room share p (fragmentOf o (length bytes)) bytes size-of h refl fit) in
+      let fitted = room share p (fragmentOf o (length bytes)) bytes size-of (at-home .inside) refl fit in
+      let there = part-overlay share (base p + o .offset .0) bytes fitted in
       let twice = start-twice (o .last) (o .«option_start» .0) in
       let mark = marks-last (fragmentOf o (length bytes)) (o .last) refl in
       ap
@@ -300,4 +302,5 @@ module _ (c : Client) (share : List ℕ) (b : Book) (o : Arrival) (bytes : List 
       sym
       (ap (map (contentOf s′ p)) (held-added a f less′) ∙ map-append (contentOf s′ p) (heldFragments a) (f ∷ [])
       ∙ ap₂ (λ (l : List Content) (x : Content). l ++ x ∷ [])
-      (home-stays share p f bytes size-of h refl fit (heldFragments a) (at-home .fitting) free ∙ sym (at-home .fragments)) new-content)
+      (home-stays share p f bytes size-of (at-home .inside) refl fit (heldFragments a) (at-home .fitting) free ∙ sym (at-home .fragments))
+      new-content)

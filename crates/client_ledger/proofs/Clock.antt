@@ -1,5 +1,5 @@
--- A fresh record stands for the empty book, and the account and the clock do what the book does: what is old in the record is what is
--- outdated in the book, because an assembly was opened when its first fragment came.
+-- A fresh record of a plan stands for that plan's empty book, and the account and the clock do what the book does: what is old in the
+-- record is what is outdated in the book, because an assembly was opened when its first fragment came.
 -- Assumes nothing.
 use Prim.Native.Nat.{ℕ, zero, suc, _+_, _<_, _≤_}
 use mathlib.Core.Path.{_≡_, refl, sym, ap, _∙_, subst}
@@ -59,7 +59,7 @@ pub held-stands : (c : Client) (share : List ℕ) (es : List Entry) → Shaped c
     → c .held ≡ heldBytes es
 held-stands c share es shape sound agree =
     let s = sound-parts c sound in
-    s .held ∙ sym (held-sum (c .time) share es (c .assemblies) (shape .size) (shape .lists .places) (s .each) (s .keys) agree)
+    s .held ∙ sym (held-sum (c .plan) (c .time) share es (c .assemblies) (shape .size) (s .planned) (s .each) (s .keys) agree)
 
 -- ---- a fresh record
 
@@ -72,21 +72,24 @@ pub fresh-not-live : live freshAssembly ≡ false
 unfolding live freshAssembly
 fresh-not-live = refl
 
-fresh-agrees : (share : List ℕ) → Agrees share [] (freshClient .assemblies)
+fresh-agrees : (plan : ℕ) (share : List ℕ) → Agrees share [] (freshClient plan .assemblies)
 unfolding freshClient mine
-fresh-agrees share = record {
+fresh-agrees plan share = record {
   each = λ p h l. absurd (true-false (sym l ∙ ap live (getD-alike assemblyLimit freshAssembly p) ∙ fresh-not-live));
   known = λ k e. refl;
 }
 
-fresh-shaped : (share : List ℕ) → length share ≡ shareSize → Shaped freshClient share
-fresh-shaped share h = record { lists = fresh-client-shaped; size = h }
+fresh-shaped : (plan : ℕ) (share : List ℕ) → plan ≤ assemblyLimit → length share ≡ shareSize plan → Shaped (freshClient plan) share
+unfolding freshClient
+fresh-shaped plan share le h = record { lists = fresh-client-shaped plan le; size = h }
 
-pub stands-fresh : (share : List ℕ) → length share ≡ shareSize → Stands freshClient share empty
+pub stands-fresh : (plan : ℕ) (share : List ℕ) → plan ≤ assemblyLimit → length share ≡ shareSize plan
+    → Stands (freshClient plan) share (empty plan)
 unfolding freshClient empty held heldBytes sum
-stands-fresh share h = record {
-  shape = fresh-shaped share h;
-  sound = fresh-client-sound;
+stands-fresh plan share le h = record {
+  shape = fresh-shaped plan share le h;
+  sound = fresh-client-sound plan;
+  plan = refl;
   time = refl;
   offered = refl;
   held-bytes = refl;
@@ -95,7 +98,7 @@ stands-fresh share h = record {
   conflicted = refl;
   repeated = refl;
   rejected = refl;
-  agrees = fresh-agrees share;
+  agrees = fresh-agrees plan share;
 }
 
 -- ---- the account
@@ -200,6 +203,7 @@ module _ (t : ℕ) (share : List ℕ) (es : List Entry) (xs : List Assembly) (ag
   agrees-kept = record { each = each-kept; known = known-kept }
 
 elapse-shaped : (t : ℕ) (c : Client) (share : List ℕ) → Shaped c share → Shaped (elapse t c) share
+unfolding elapse
 elapse-shaped t c share s = record { lists = elapse-lists t c (s .lists); size = s .size }
 
 module _ (t : ℕ) (c : Client) (share : List ℕ) (b : Book) (st : Stands c share b) where
@@ -218,6 +222,7 @@ module _ (t : ℕ) (c : Client) (share : List ℕ) (b : Book) (st : Stands c sha
   elapse-same le sound same expired = record {
     shape = elapse-shaped t c share (st .shape);
     sound = sound;
+    plan = st .plan;
     time = refl;
     offered = st .offered;
     held-bytes = same;

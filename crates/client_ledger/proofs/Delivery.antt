@@ -13,7 +13,7 @@ use borrow.Author.Tests.{ltb-true, leb-true, le-leb}
 use Rattle.number_tests.proofs.Tests.{true-false, both-true}
 use Rattle.number_octets.specs.Octets.{part}
 use Rattle.client_record.specs.declared.Fragment.{Fragment}
-use Rattle.client_record.specs.Limits.{datagramLimit, assemblyLimit, shareSize}
+use Rattle.client_record.specs.Limits.{datagramLimit, shareSize}
 use Rattle.client_record.specs.Lists.{all, any}
 use Rattle.client_record.specs.Record.{freshFragment, isLast, end, fits, covers, coveredTo, lastOf}
 use Rattle.client_reassembly.specs.Offer.{base}
@@ -60,7 +60,7 @@ content-place : (share : List ℕ) (p : ℕ) (f : Fragment) → contentOf share 
 unfolding contentOf
 content-place share p f = refl
 
-module _ (share : List ℕ) (p : ℕ) (size-of : length share ≡ shareSize) (h : p < assemblyLimit) where
+module _ {plan : ℕ} (share : List ℕ) (p : ℕ) (size-of : length share ≡ shareSize plan) (h : p < plan) where
   -- the byte at a place that f covers
   byte-of : (i : ℕ) (f : Fragment) → covers i f ≡ true → getD (contentOf share p f .bytes) (i - f .offset) 0 ≡ getD share (base p + i) 0
   unfolding contentOf covers end

@@ -42,8 +42,12 @@ module _ (c : Client) (share : List ℕ) (b : Book) (st : Stands c share b) (n :
   pub rejecting-stands : soundRecord (Offer.rejecting n c) ≡ true → Stands (Offer.rejecting n c) share (Book.rejecting n b)
   unfolding Offer.rejecting Book.rejecting held
   rejecting-stands s = record {
-    shape = record { lists = record { places = st .shape .lists .places; slots = st .shape .lists .slots }; size = st .shape .size };
+    shape = record {
+      lists = record { places = st .shape .lists .places; slots = st .shape .lists .slots; plan = st .shape .lists .plan };
+      size = st .shape .size;
+    };
     sound = s;
+    plan = st .plan;
     time = st .time;
     offered = ap (λ (x : ℕ). x + n) (st .offered);
     held-bytes = st .held-bytes;
@@ -58,8 +62,12 @@ module _ (c : Client) (share : List ℕ) (b : Book) (st : Stands c share b) (n :
   pub repeating-stands : soundRecord (Offer.repeating n c) ≡ true → Stands (Offer.repeating n c) share (Book.repeating n b)
   unfolding Offer.repeating Book.repeating held
   repeating-stands s = record {
-    shape = record { lists = record { places = st .shape .lists .places; slots = st .shape .lists .slots }; size = st .shape .size };
+    shape = record {
+      lists = record { places = st .shape .lists .places; slots = st .shape .lists .slots; plan = st .shape .lists .plan };
+      size = st .shape .size;
+    };
     sound = s;
+    plan = st .plan;
     time = st .time;
     offered = ap (λ (x : ℕ). x + n) (st .offered);
     held-bytes = st .held-bytes;
@@ -74,13 +82,10 @@ module _ (c : Client) (share : List ℕ) (b : Book) (st : Stands c share b) (n :
 -- ---- the home changes
 
 module _ (c : Client) (share : List ℕ) (b : Book) (st : Stands c share b) (e : Entry) (p : ℕ) (a : Assembly) (at-home : Home c share b e p a) where
-  pub home-place : p < assemblyLimit
-  home-place = omega (arith, at-home .within, st .shape .lists .places)
-
   home-bytes : bytesHeld a ≡ total (mine (e .key) (b .open-ones))
   unfolding bytesHeld
   home-bytes =
-      sym (ap total (at-home .fragments) ∙ content-bytes share p (st .shape .size) home-place (heldFragments a) (at-home .fitting))
+      sym (ap total (at-home .fragments) ∙ content-bytes share p (st .shape .size) (at-home .inside) (heldFragments a) (at-home .fitting))
 
   set-places : (x : Assembly) → length (set (c .assemblies) p x) ≡ assemblyLimit
   set-places x = length-set (c .assemblies) p x ∙ st .shape .lists .places
@@ -88,10 +93,13 @@ module _ (c : Client) (share : List ℕ) (b : Book) (st : Stands c share b) (e :
   set-slots : (x : Assembly) → slotted x ≡ true → all slotted (set (c .assemblies) p x) ≡ true
   set-slots x h = all-set slotted (c .assemblies) p x (st .shape .lists .slots) h
 
-  module _ (s′ : List ℕ) (size-of : length s′ ≡ shareSize) (stay : Unmoved s′ share p) (n : ℕ) where
+  module _ (s′ : List ℕ) (size-of : length s′ ≡ shareSize (c .plan)) (stay : Unmoved s′ share p) (n : ℕ) where
     conflicting-shaped : Shaped (Offer.conflicting p a n c) s′
     unfolding Offer.conflicting
-    conflicting-shaped = record { lists = record { places = set-places freshAssembly; slots = set-slots freshAssembly fresh-slotted }; size = size-of }
+    conflicting-shaped = record {
+      lists = record { places = set-places freshAssembly; slots = set-slots freshAssembly fresh-slotted; plan = st .shape .lists .plan };
+      size = size-of;
+    }
 
     conflicting-agrees : Agrees s′ (Book.conflicting (e .key) n b .open-ones) (Offer.conflicting p a n c .assemblies)
     unfolding Offer.conflicting Book.conflicting
@@ -103,6 +111,7 @@ module _ (c : Client) (share : List ℕ) (b : Book) (st : Stands c share b) (e :
     conflicting-rest s same = record {
       shape = conflicting-shaped;
       sound = s;
+      plan = st .plan;
       time = st .time;
       offered = ap (λ (x : ℕ). x + n) (st .offered);
       held-bytes = same;
@@ -122,7 +131,10 @@ module _ (c : Client) (share : List ℕ) (b : Book) (st : Stands c share b) (e :
 
     delivering-shaped : Shaped (Offer.delivering p a n c) s′
     unfolding Offer.delivering
-    delivering-shaped = record { lists = record { places = set-places freshAssembly; slots = set-slots freshAssembly fresh-slotted }; size = size-of }
+    delivering-shaped = record {
+      lists = record { places = set-places freshAssembly; slots = set-slots freshAssembly fresh-slotted; plan = st .shape .lists .plan };
+      size = size-of;
+    }
 
     delivering-agrees : Agrees s′ (Book.delivering (e .key) n b .open-ones) (Offer.delivering p a n c .assemblies)
     unfolding Offer.delivering Book.delivering
@@ -134,6 +146,7 @@ module _ (c : Client) (share : List ℕ) (b : Book) (st : Stands c share b) (e :
     delivering-rest s same = record {
       shape = delivering-shaped;
       sound = s;
+      plan = st .plan;
       time = st .time;
       offered = ap (λ (x : ℕ). x + n) (st .offered);
       held-bytes = same;
@@ -157,7 +170,10 @@ module _ (c : Client) (share : List ℕ) (b : Book) (st : Stands c share b) (e :
         (size-is : n ≡ size (e .content)) where
       storing-shaped : Shaped (Offer.storing p a′ n c) s′
       unfolding Offer.storing
-      storing-shaped = record { lists = record { places = set-places a′; slots = set-slots a′ slots }; size = size-of }
+      storing-shaped = record {
+        lists = record { places = set-places a′; slots = set-slots a′ slots; plan = st .shape .lists .plan };
+        size = size-of;
+      }
 
       storing-agrees : Agrees s′ (Book.storing e b .open-ones) (Offer.storing p a′ n c .assemblies)
       unfolding Offer.storing Book.storing
@@ -169,6 +185,7 @@ module _ (c : Client) (share : List ℕ) (b : Book) (st : Stands c share b) (e :
       storing-rest s same = record {
         shape = storing-shaped;
         sound = s;
+        plan = st .plan;
         time = st .time;
         offered = ap₂ _+_ (st .offered) size-is;
         held-bytes = same;
@@ -227,20 +244,18 @@ new-size o bytes = refl
 
 module _ (c : Client) (share : List ℕ) (b : Book) (st : Stands c share b) (out : List ℕ) (o : Arrival) (bytes : List ℕ)
     (fit : fits (fragmentOf o (length bytes)) ≡ true) (p : ℕ) (a : Assembly) (at-home : Home c share b (entry (offerOf o bytes)) p a) where
-  pub here : p < assemblyLimit
-  here = home-place c share b st (entered-as o bytes) p a at-home
-
-  laid-size : length (laid share p o bytes) ≡ shareSize
+  laid-size : length (laid share p o bytes) ≡ shareSize (c .plan)
   laid-size =
-      length-overlay share (startOf p (held-as o bytes)) bytes (room share p (held-as o bytes) bytes (st .shape .size) here (new-length o bytes) fit)
+      length-overlay share (startOf p (held-as o bytes)) bytes
+      (room share p (held-as o bytes) bytes (st .shape .size) (at-home .inside) (new-length o bytes) fit)
       ∙ st .shape .size
 
   laid-stay : Unmoved (laid share p o bytes) share p
-  laid-stay = unmoved-laid share p (held-as o bytes) bytes (st .shape .size) here (new-length o bytes) fit
+  laid-stay = unmoved-laid share p (held-as o bytes) bytes (st .shape .size) (at-home .inside) (new-length o bytes) fit
 
   module _ (free : Offer.isConflict a (fragmentOf o (length bytes)) ≡ false) (slot : Offer.isFull a ≡ false) where
     pub joins : with (entered-as o bytes) b ≡ map (contentOf (laid share p o bytes) p) (heldFragments (added a (held-as o bytes)))
-    joins = joined-content c share b o bytes p a (st .shape .size) here at-home fit free slot
+    joins = joined-content c share b o bytes p a (st .shape .size) at-home fit free slot
 
     pub added-fits : all fits (heldFragments (added a (held-as o bytes))) ≡ true
     unfolding Offer.isFull all
@@ -270,17 +285,19 @@ module _ (c : Client) (share : List ℕ) (b : Book) (st : Stands c share b) (out
 
       final-end : endOf (contentOf (laid share p o bytes) p end-one) ≡ end end-one
       final-end =
-          same-end (laid share p o bytes) p laid-size here end-one (last-fits (heldFragments (added a (held-as o bytes))) added-fits)
+          same-end (laid share p o bytes) p laid-size (at-home .inside) end-one (last-fits (heldFragments (added a (held-as o bytes))) added-fits)
 
       pub final-cover : complete (endOf (contentOf (laid share p o bytes) p end-one)) (with (entered-as o bytes) b)
           ≡ coveredTo (end end-one) (heldFragments (added a (held-as o bytes)))
       final-cover =
-          ap₂ complete final-end joins ∙ same-cover (laid share p o bytes) p laid-size here (end end-one) (heldFragments (added a (held-as o bytes))) added-fits
+          ap₂ complete final-end joins
+          ∙ same-cover (laid share p o bytes) p laid-size (at-home .inside) (end end-one) (heldFragments (added a (held-as o bytes))) added-fits
 
       final-room : base p + end end-one ≤ length (laid share p o bytes)
-      unfolding fits base shareSize assemblyLimit datagramLimit
+      unfolding fits base shareSize datagramLimit
       final-room =
-          omega (arith, laid-size, here, leb-true (end end-one) datagramLimit (last-fits (heldFragments (added a (held-as o bytes))) added-fits))
+          let ends = leb-true (end end-one) datagramLimit (last-fits (heldFragments (added a (held-as o bytes))) added-fits) in
+          omega (arith, laid-size, at-home .inside, ends)
 
       final-out : coveredTo (end end-one) (heldFragments (added a (held-as o bytes))) ≡ true
           → overlay out 0 (part (base p) (end end-one) (laid share p o bytes))
@@ -291,7 +308,7 @@ module _ (c : Client) (share : List ℕ) (b : Book) (st : Stands c share b) (out
           let n : ℕ = end end-one in
           let size-is : 0 + length (part (base p) n s′) ≡ n = omega (arith, length-part (base p) n s′ final-room) in
           ap₂ (λ (l : List ℕ) (m : ℕ). l ++ drop m out)
-          (sym (bytes-there s′ p laid-size here n (heldFragments (added a (held-as o bytes))) added-fits u final-room)) size-is
+          (sym (bytes-there s′ p laid-size (at-home .inside) n (heldFragments (added a (held-as o bytes))) added-fits u final-room)) size-is
           ∙ ap₂ (λ (l : List Content) (m : ℕ). bytesTo m l ++ drop m out) (sym joins) (sym final-end)
 
       pub delivered-fulfils : coveredTo (end end-one) (heldFragments (added a (held-as o bytes))) ≡ true

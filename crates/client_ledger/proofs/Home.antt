@@ -1,28 +1,28 @@
 -- The assembly that an offered fragment belongs to holds what the book has open of the fragment's key, and no other place has that key.
--- So there is no room in the record exactly where the book has four other keys open.
+-- So there is no room in the record exactly where the book has as many other keys open as the plan allows.
 -- Assumes nothing.
-use Prim.Native.Nat.{ℕ, suc, _+_, _<_, _≤_}
+use Prim.Native.Nat.{ℕ, _<_, _≤_}
 use mathlib.Core.Path.{_≡_, refl, sym, ap, ap₂, _∙_, subst}
 use mathlib.Core.Bool.{Bool, true, false, not, _&&_, cond}
 use mathlib.Core.List.{List, [], _∷_, _++_, map}
 use native.Mathlib.Omega.{arith}
 use native.Mathlib.Nat.{not-suc-le-zero}
-use lib.Dec.{eqb, ltb}
+use lib.Dec.{eqb, leb, ltb}
 use lib.ListN.{length, length-map}
 use lib.Seq.{length-take-le}
-use borrow.Author.Tests.{ltb-true, ltb-false, eqb-true, eqb-false, eq-eqb, ne-eqb, not-true}
-use Rattle.number_tests.proofs.Tests.{true-false, both-true, cond-yes, cond-no}
+use borrow.Author.Tests.{ltb-true, ltb-false, leb-false, eqb-true, ne-eqb, not-true}
+use Rattle.number_tests.proofs.Tests.{both-true, cond-yes, cond-no}
 use Rattle.client_record.specs.declared.Assembly.{Assembly}
 use Rattle.client_record.specs.declared.Client.{Client}
-use Rattle.client_record.specs.Limits.{fragmentLimit, assemblyLimit}
-use Rattle.client_record.specs.Lists.{all, any, sum}
-use Rattle.client_record.specs.Record.{freshAssembly, fits, live, heldFragments, hasKey, sameLiveKey, keysDiffer, soundAssembly}
+use Rattle.client_record.specs.Limits.{fragmentLimit}
+use Rattle.client_record.specs.Lists.{all, any}
+use Rattle.client_record.specs.Record.{freshAssembly, fits, live, heldFragments, hasKey, sameLiveKey, keysDiffer, soundAssembly, liveCount}
 use Rattle.client_record.proofs.SoundParts.{sound-parts, all-at}
 use Rattle.client_reassembly.specs.declared.Arrival.{Arrival}
 use Rattle.client_reassembly.specs.Offer
 use Rattle.client_reassembly.specs.Offer.{matches, firstIndex, placeFor, opening, assemblyFor}
 use Rattle.client_reassembly.proofs.Kept.{LiveParts, any-at, pairs-at}
-use Rattle.client_reassembly.proofs.Places.{any-first, first-passes, place-of-key, place-le, room-place, live-at}
+use Rattle.client_reassembly.proofs.Places.{any-first, first-passes, place-of-key, room-place, live-at}
 use Rattle.client_reassembly.proofs.Steady.{empty-held}
 use Rattle.client_reassembly.specs.Shapes.{slotted}
 use Rattle.client_reassembly.proofs.Lasting.{slots-of, fresh-slotted}
@@ -63,38 +63,7 @@ below i n le m = go (ltb i n) refl
     go true t = ltb-true i n t
     go false t = let k = ltb-false i n t in absurd (m (omega arith))
 
--- ---- the number of live assemblies
-
-abbrev one : Assembly → ℕ
-one a = cond (live a) 1 0
-
-lives-le : (xs : List Assembly) → sum one xs ≤ length xs
-unfolding sum
-lives-le [] = omega arith
-lives-le (a ∷ xs) = go (live a) (lives-le xs)
-  where
-    go : (b : Bool) → sum one xs ≤ length xs → (cond b 1 0) + sum one xs ≤ suc (length xs)
-    go true h = omega arith
-    go false h = omega arith
-
-lives-all : (xs : List Assembly) → all live xs ≡ true → sum one xs ≡ length xs
-unfolding sum all
-lives-all [] e = refl
-lives-all (a ∷ xs) e =
-    let t = both-true (live a) (all live xs) e in
-    let n : one a ≡ 1 = ap (λ (b : Bool). cond b 1 0) (t .0) in
-    omega (arith, n, lives-all xs (t .1))
-
-lives-some : (xs : List Assembly) → all live xs ≡ false → sum one xs < length xs
-unfolding sum all
-lives-some [] e = absurd (true-false e)
-lives-some (a ∷ xs) e = go (live a) (lives-some xs) (lives-le xs) e
-  where
-    go : (b : Bool) → (all live xs ≡ false → sum one xs < length xs) → sum one xs ≤ length xs → b && all live xs ≡ false
-        → (cond b 1 0) + sum one xs < suc (length xs)
-    go true h k e = let m = h e in omega arith
-    go false h k e = omega arith
-
+-- a key that has entries counts once
 some-one : (fs : List Content) → 0 < length fs → some fs ≡ 1
 some-one [] h = absurd (not-suc-le-zero h)
 some-one (f ∷ fs) h = refl
@@ -121,11 +90,12 @@ module _ (c : Client) (share : List ℕ) (b : Book) (st : Stands c share b) wher
         live-count a l,
       )
 
-  keys-lives : keys (b .open-ones) ≡ sum one (c .assemblies)
-  unfolding keys
+  -- as many keys are open as assemblies are live
+  keys-lives : keys (b .open-ones) ≡ liveCount (c .assemblies)
+  unfolding keys liveCount
   keys-lives =
       parts-sum keys some refl keys-split (c .assemblies) (b .open-ones) (sound-parts c (st .sound) .keys) (st .agrees .known)
-      ∙ sum-at (λ a. cond (live a) (some (mine (keyOf a) (b .open-ones))) 0) one freshAssembly (c .assemblies)
+      ∙ sum-at (λ a. cond (live a) (some (mine (keyOf a) (b .open-ones))) 0) (λ a. cond (live a) 1 0) freshAssembly (c .assemblies)
       (λ i k. here i k (live (at (c .assemblies) i)) refl)
     where
       here : (i : ℕ) → i < length (c .assemblies) → (t : Bool) → live (at (c .assemblies) i) ≡ t
@@ -133,15 +103,8 @@ module _ (c : Client) (share : List ℕ) (b : Book) (st : Stands c share b) wher
       here i k true l = some-one (mine (keyOf (at (c .assemblies) i)) (b .open-ones)) (has-entries i k l)
       here i k false l = refl
 
-  all-live-keys : all live (c .assemblies) ≡ eqb (keys (b .open-ones)) assemblyLimit
-  all-live-keys = go (all live (c .assemblies)) refl
-    where
-      go : (t : Bool) → all live (c .assemblies) ≡ t → t ≡ eqb (keys (b .open-ones)) assemblyLimit
-      go true e = sym (eq-eqb _ _ (keys-lives ∙ lives-all (c .assemblies) e ∙ st .shape .lists .places))
-      go false e = sym (ne-eqb (keys (b .open-ones)) assemblyLimit (λ q. omega (arith, keys-lives, lives-some (c .assemblies) e, st .shape .lists .places)))
-
   -- 29 in the record and in the book
-  pub same-room : (o : Arrival) (bytes : List ℕ) → Offer.noRoom o (c .assemblies) ≡ Book.noRoom (entry (offerOf o bytes)) b
+  pub same-room : (o : Arrival) (bytes : List ℕ) → Offer.noRoom (c .plan) o (c .assemblies) ≡ Book.noRoom (entry (offerOf o bytes)) b
   unfolding Offer.noRoom Book.noRoom entry offerOf
   same-room o bytes = go (any (owns k) xs) refl
     where
@@ -154,24 +117,26 @@ module _ (c : Client) (share : List ℕ) (b : Book) (st : Stands c share b) wher
       es : List Entry
       es = b .open-ones
 
-      go : (t : Bool) → any (owns k) xs ≡ t → not (any (matches o) xs) && all live xs ≡ eqb (length (mine k es)) 0 && eqb (keys es) assemblyLimit
+      go : (t : Bool) → any (owns k) xs ≡ t
+          → not (any (matches o) xs) && leb (c .plan) (liveCount xs) ≡ eqb (length (mine k es)) 0 && leb (b .plan) (keys es)
       go true e =
           let p = firstIndex (owns k) xs in
           let h : p < length xs = ltb-true _ _ (sym (any-first (owns k) xs) ∙ e) in
           let m = first-passes (owns k) xs freshAssembly h in
           let n = has-entries p h (owned-live k (at xs p) m) in
-          ap (λ (x : Bool). not x && all live xs) (same-match o xs ∙ e)
-          ∙ sym (ap (λ (x : Bool). x && eqb (keys es) assemblyLimit)
+          ap (λ (x : Bool). not x && leb (c .plan) (liveCount xs)) (same-match o xs ∙ e)
+          ∙ sym (ap (λ (x : Bool). x && leb (b .plan) (keys es))
           (ne-eqb (length (mine k es)) 0 (λ q. omega (arith, n, ap (λ (j : Key). length (mine j es)) (owned-key k (at xs p) m)))))
       go false e =
-          ap (λ (x : Bool). not x && all live xs) (same-match o xs ∙ e) ∙ all-live-keys
-          ∙ sym (ap (λ (fs : List Content). eqb (length fs) 0 && eqb (keys es) assemblyLimit) (st .agrees .known k e))
+          ap (λ (x : Bool). not x && leb (c .plan) (liveCount xs)) (same-match o xs ∙ e) ∙ ap₂ leb (st .plan) (sym keys-lives)
+          ∙ sym (ap (λ (fs : List Content). eqb (length fs) 0 && leb (b .plan) (keys es)) (st .agrees .known k e))
 
 -- ---- the assembly that a fragment belongs to
 
 -- the assembly a, at place p of the record c, is the one of the key k; e, which is offered, is of that key
 pub record Home (c : Client) (share : List ℕ) (b : Book) (e : Entry) (p : ℕ) (a : Assembly) : Type 0 where
   pub within : p < length (c .assemblies)
+  pub inside : p < c .plan
   pub key : keyOf a ≡ e .key
   pub fragments : mine (e .key) (b .open-ones) ≡ map (contentOf share p) (heldFragments a)
   pub fitting : all fits (heldFragments a) ≡ true
@@ -190,7 +155,8 @@ apart-at : (xs : List Assembly) → keysDiffer xs ≡ true → (i j : ℕ) → i
 unfolding keysDiffer
 apart-at xs d i j h k l m = key-apart (at xs i) (at xs j) l m (pairs-at (λ x y. not (sameLiveKey x y)) xs i j freshAssembly d h k)
 
-module _ (c : Client) (share : List ℕ) (b : Book) (st : Stands c share b) (e : Entry) (p : ℕ) (h : p < length (c .assemblies)) where
+module _ (c : Client) (share : List ℕ) (b : Book) (st : Stands c share b) (e : Entry) (p : ℕ) (h : p < length (c .assemblies))
+    (low : p < c .plan) where
   home-live : owns (e .key) (at (c .assemblies) p) ≡ true → Home c share b e p (at (c .assemblies) p)
   home-live m =
       let a = at (c .assemblies) p in
@@ -200,6 +166,7 @@ module _ (c : Client) (share : List ℕ) (b : Book) (st : Stands c share b) (e :
       let shows = st .agrees .each p h l in
       record {
         within = h;
+        inside = low;
         key = k;
         fragments = subst (λ (j : Key). mine j (b .open-ones) ≡ map (contentOf share p) (heldFragments a)) k (shows .fragments);
         fitting = parts-fit parts;
@@ -237,6 +204,7 @@ module _ (c : Client) (share : List ℕ) (b : Book) (st : Stands c share b) (e :
       let empty : heldFragments (opening o) ≡ [] = empty-held (opening o) refl in
       record {
         within = h;
+        inside = low;
         key = sym k;
         fragments = none ∙ sym (ap (map (contentOf share p)) empty);
         fitting = ap (all fits) empty;
@@ -248,7 +216,8 @@ module _ (c : Client) (share : List ℕ) (b : Book) (st : Stands c share b) (e :
       }
 
 -- where there is room, the record has a home for the fragment
-pub home : (c : Client) (share : List ℕ) (b : Book) → Stands c share b → (o : Arrival) (bytes : List ℕ) → Offer.noRoom o (c .assemblies) ≡ false
+pub home : (c : Client) (share : List ℕ) (b : Book) → Stands c share b → (o : Arrival) (bytes : List ℕ)
+    → Offer.noRoom (c .plan) o (c .assemblies) ≡ false
     → Home c share b (entry (offerOf o bytes)) (placeFor o (c .assemblies)) (assemblyFor o (placeFor o (c .assemblies)) (c .assemblies))
 unfolding entry offerOf assemblyFor
 home c share b st o bytes room = go (any (matches o) xs) refl
@@ -262,13 +231,16 @@ home c share b st o bytes room = go (any (matches o) xs) refl
     e : Entry
     e = entry (offerOf o bytes)
 
+    low : p < c .plan
+    low = leb-false (c .plan) p (sym (room-place o xs (c .plan) (sound-parts c (st .sound) .planned)) ∙ room)
+
     h : p < length xs
-    h = let n = eqb-false (placeFor o xs) (length xs) (sym (room-place o xs) ∙ room) in below (placeFor o xs) (length xs) (place-le o xs) n
+    h = omega (arith, low, st .shape .lists .plan, st .shape .lists .places)
 
     go : (t : Bool) → any (matches o) xs ≡ t → Home c share b e p (assemblyFor o p xs)
     go true m =
         subst (Home c share b e p) (sym (cond-yes (any (matches o) xs) (at xs p) (opening o) m))
-        (home-live c share b st e p h (sym (match-owns o (at xs p)) ∙ passes))
+        (home-live c share b st e p h low (sym (match-owns o (at xs p)) ∙ passes))
       where
         first : p ≡ firstIndex (matches o) xs
         first = place-of-key o xs m
@@ -279,4 +251,4 @@ home c share b st o bytes room = go (any (matches o) xs) refl
             ∙ first-passes (matches o) xs freshAssembly (subst (λ (i : ℕ). i < length xs) first h)
     go false m =
         subst (Home c share b e p) (sym (cond-no (any (matches o) xs) (at xs p) (opening o) m))
-        (home-new c share b st e p h o refl refl (sym (same-match o xs) ∙ m) (live-at o xs p freshAssembly refl h ∙ m))
+        (home-new c share b st e p h low o refl refl (sym (same-match o xs) ∙ m) (live-at o xs p freshAssembly refl h ∙ m))

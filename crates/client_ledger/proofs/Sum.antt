@@ -141,10 +141,10 @@ unfolding after
 after-balanced [] b h = h
 after-balanced (c ∷ cs) b h = after-balanced cs (call c b .book) (call-balanced c b h)
 
-pub empty-balanced : Balanced empty
+pub empty-balanced : (plan : ℕ) → Balanced (empty plan)
 unfolding Balanced empty held heldBytes sum
-empty-balanced = refl
+empty-balanced plan = refl
 
 -- every history of a client
-pub sum-law : (cs : List Call) → Balanced (after cs empty)
-sum-law cs = after-balanced cs empty empty-balanced
+pub sum-law : (plan : ℕ) (cs : List Call) → Balanced (after cs (empty plan))
+sum-law plan cs = after-balanced cs (empty plan) (empty-balanced plan)

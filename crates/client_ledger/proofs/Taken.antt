@@ -1,7 +1,7 @@
 -- The fragment call does what the book does, for every record that stands for a book: refusals 23 to 28 by the same tests, and then the
 -- fates in the same order by the same tests. It asks that the record test passes again after the call.
 -- Assumes nothing.
-use Prim.Native.Nat.{ℕ, _+_, _<_, _≤_}
+use Prim.Native.Nat.{ℕ, _+_, _≤_}
 use mathlib.Core.Path.{_≡_, refl, sym, ap, ap₂, _∙_, subst}
 use mathlib.Core.Bool.{Bool, true, false, not, _&&_}
 use mathlib.Core.List.{List, [], _∷_, _++_}
@@ -15,7 +15,7 @@ use Rattle.number_octets.specs.Octets.{part}
 use Rattle.client_record.specs.declared.Fragment.{Fragment}
 use Rattle.client_record.specs.declared.Assembly.{Assembly}
 use Rattle.client_record.specs.declared.Client.{Client}
-use Rattle.client_record.specs.Limits.{datagramLimit, offeredLimit, assemblyLimit}
+use Rattle.client_record.specs.Limits.{datagramLimit, offeredLimit}
 use Rattle.client_record.specs.Record.{isLast, end, fits, coveredTo, lastOf, whole, heldFragments, soundRecord}
 use Rattle.client_reassembly.specs.declared.Arrival.{Arrival}
 use Rattle.client_reassembly.specs.Answer.{refused, stored, repeated, conflict, delivered}
@@ -57,7 +57,6 @@ use Rattle.client_ledger.proofs.Fates.{
   entered-as,
   laid,
   new-size,
-  here,
   joins,
   stored-fulfils,
   final-cover,
@@ -205,17 +204,14 @@ module _ (c : Client) (share : List ℕ) (b : Book) (st : Stands c share b) (out
         kept : List ℕ
         kept = part (startOf p f) (length bytes) share
 
-        within : p < assemblyLimit
-        within = here c share b st out o bytes fit p a at-home
-
         same-repeat : Offer.repeats a f kept bytes ≡ Book.isRepeat e b
-        same-repeat = repeat-same c share b o bytes p a (st .shape .size) within at-home
+        same-repeat = repeat-same c share b o bytes p a (st .shape .size) at-home
 
         same-conflict : Offer.isConflict a f ≡ Book.isConflict e b
-        same-conflict = conflict-same c share b o bytes p a (st .shape .size) within at-home
+        same-conflict = conflict-same c share b o bytes p a (st .shape .size) at-home
 
         same-full : Offer.isFull a ≡ Book.isFull e b
-        same-full = full-same c share b o bytes p a (st .shape .size) within at-home
+        same-full = full-same c share b o bytes p a (st .shape .size) at-home
 
         full : Offer.repeats a f kept bytes ≡ false → Offer.isConflict a f ≡ false → (t : Bool) → Offer.isFull a ≡ t
             → Fulfils (placed c share out p a f bytes) (fate e out b)
@@ -240,12 +236,12 @@ module _ (c : Client) (share : List ℕ) (b : Book) (st : Stands c share b) (out
         repeat false t = clash t (Offer.isConflict a f) refl
 
   taken-fulfils : soundRecord (taken c share out o bytes .client) ≡ true → Fulfils (taken c share out o bytes) (fate (entered-as o bytes) out b)
-  taken-fulfils s = go (Offer.noRoom o (c .assemblies)) refl
+  taken-fulfils s = go (Offer.noRoom (c .plan) o (c .assemblies)) refl
     where
       e : Entry
       e = entered-as o bytes
 
-      go : (t : Bool) → Offer.noRoom o (c .assemblies) ≡ t → Fulfils (taken c share out o bytes) (fate e out b)
+      go : (t : Bool) → Offer.noRoom (c .plan) o (c .assemblies) ≡ t → Fulfils (taken c share out o bytes) (fate e out b)
       go true t =
           fulfil-of (taken c share out o bytes) _ (fate e out b) _ (taken-rejected c share out o bytes t)
           (book-no-room e out b (sym (same-room c share b st o bytes) ∙ t)) s (rejected-fulfils 29)

@@ -13,7 +13,7 @@ use Rattle.number_octets.specs.Octets.{part}
 use Rattle.client_record.specs.declared.Fragment.{Fragment}
 use Rattle.client_record.specs.declared.Assembly.{Assembly}
 use Rattle.client_record.specs.declared.Client.{Client}
-use Rattle.client_record.specs.Limits.{fragmentLimit, assemblyLimit, shareSize}
+use Rattle.client_record.specs.Limits.{fragmentLimit, shareSize}
 use Rattle.client_record.specs.Lists.{sameMark, sameBytes, all, any}
 use Rattle.client_record.specs.Record.{isLast, end, fits, overlaps, bothLast, outruns, conflicts, covers, coveredTo, heldFragments}
 use Rattle.client_record.proofs.Held.{marks-last}
@@ -69,7 +69,7 @@ starts true false r s e = absurd (true-false (sym e))
 starts false true r s e = absurd (true-false (sym e))
 starts false false r s e = eq-eqb 0 0 refl
 
-module _ (share : List ℕ) (p : ℕ) (size-of : length share ≡ shareSize) (h : p < assemblyLimit) where
+module _ {plan : ℕ} (share : List ℕ) (p : ℕ) (size-of : length share ≡ shareSize plan) (h : p < plan) where
   pub same-end : (g : Fragment) → fits g ≡ true → endOf (contentOf share p g) ≡ end g
   unfolding endOf end contentOf
   same-end g e = ap (λ (n : ℕ). g .offset + n) (content-size share p size-of h g e)
@@ -157,8 +157,8 @@ module _ (share : List ℕ) (p : ℕ) (size-of : length share ≡ shareSize) (h 
 
 -- ---- the tests of the record and of the book
 
-module _ (c : Client) (share : List ℕ) (b : Book) (o : Arrival) (bytes : List ℕ) (p : ℕ) (a : Assembly) (size-of : length share ≡ shareSize)
-    (h : p < assemblyLimit) (at-home : Home c share b (entry (offerOf o bytes)) p a) where
+module _ (c : Client) (share : List ℕ) (b : Book) (o : Arrival) (bytes : List ℕ) (p : ℕ) (a : Assembly)
+    (size-of : length share ≡ shareSize (c .plan)) (at-home : Home c share b (entry (offerOf o bytes)) p a) where
   pub repeat-same : Offer.repeats a (fragmentOf o (length bytes)) (part (startOf p (fragmentOf o (length bytes))) (length bytes) share) bytes
       ≡ Book.isRepeat (entry (offerOf o bytes)) b
   unfolding Offer.repeats Book.isRepeat
@@ -168,8 +168,8 @@ module _ (c : Client) (share : List ℕ) (b : Book) (o : Arrival) (bytes : List 
       let here : Bool = sameBytes bytes (part (startOf p f) (length bytes) share) in
       sym
       (ap (any (Book.repeats (e .content))) (at-home .fragments) ∙ any-map (Book.repeats (e .content)) (contentOf share p) (heldFragments a)
-      ∙ any-same fits (λ g. Book.repeats (e .content) (contentOf share p g)) (λ g. alike f g && here) (same-repeat share p size-of h o bytes) (heldFragments a)
-      (at-home .fitting)
+      ∙ any-same fits (λ g. Book.repeats (e .content) (contentOf share p g)) (λ g. alike f g && here)
+      (same-repeat share p size-of (at-home .inside) o bytes) (heldFragments a) (at-home .fitting)
       ∙ any-and (alike f) here (heldFragments a))
 
   pub conflict-same : Offer.isConflict a (fragmentOf o (length bytes)) ≡ Book.isConflict (entry (offerOf o bytes)) b
@@ -179,8 +179,8 @@ module _ (c : Client) (share : List ℕ) (b : Book) (o : Arrival) (bytes : List 
       let e = entry (offerOf o bytes) in
       sym
       (ap (any (contradicts (e .content))) (at-home .fragments) ∙ any-map (contradicts (e .content)) (contentOf share p) (heldFragments a)
-      ∙ any-same fits (λ g. contradicts (e .content) (contentOf share p g)) (λ g. conflicts g f) (same-conflict share p size-of h o bytes) (heldFragments a)
-      (at-home .fitting))
+      ∙ any-same fits (λ g. contradicts (e .content) (contentOf share p g)) (λ g. conflicts g f)
+      (same-conflict share p size-of (at-home .inside) o bytes) (heldFragments a) (at-home .fitting))
 
   pub full-same : Offer.isFull a ≡ Book.isFull (entry (offerOf o bytes)) b
   unfolding Offer.isFull Book.isFull

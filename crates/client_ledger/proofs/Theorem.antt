@@ -3,8 +3,8 @@
 use mathlib.Core.Path.{_≡_}
 use mathlib.Core.List.{List}
 use lib.ListN.{length}
-use Prim.Native.Nat.{ℕ}
-use Rattle.client_record.specs.Limits.{shareSize}
+use Prim.Native.Nat.{ℕ, _≤_}
+use Rattle.client_record.specs.Limits.{assemblyLimit, shareSize}
 use Rattle.client_record.specs.Record.{freshClient}
 use Rattle.client_reassembly.proofs.Lasting.{fragment-call-sound}
 use Rattle.client_ledger.specs.Book.{empty}
@@ -22,6 +22,7 @@ lasts c share out o bytes sound shape = fragment-call-sound c share out o bytes 
 pub one-client-theorem : OneClient
 one-client-theorem = one-client lasts
 
--- over every list of calls from a fresh record: every answer and every out buffer is the book's
-pub every-history : (share : List ℕ) → length share ≡ shareSize → (asks : List Ask) → recordGives freshClient share asks ≡ bookGives empty asks
+-- over every list of calls from a fresh record of any plan: every answer and every out buffer is the book's
+pub every-history : (plan : ℕ) → plan ≤ assemblyLimit → (share : List ℕ) → length share ≡ shareSize plan → (asks : List Ask)
+    → recordGives (freshClient plan) share asks ≡ bookGives (empty plan) asks
 every-history = whole-history one-client-theorem

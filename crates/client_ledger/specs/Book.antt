@@ -8,7 +8,7 @@ use lib.Dec.{leb, ltb, eqb}
 use lib.ListN.{length, getD, drop}
 use Rattle.number_tests.specs.Tests.{firstOf}
 use Rattle.client_record.specs.declared.Flow.{Flow}
-use Rattle.client_record.specs.Limits.{datagramLimit, fragmentLimit, assemblyLimit, lifetime, offeredLimit}
+use Rattle.client_record.specs.Limits.{datagramLimit, fragmentLimit, lifetime, offeredLimit}
 use Rattle.client_record.specs.Lists.{sameMark, sameBytes, any, sum}
 use Rattle.client_record.specs.Record.{sameFlow}
 use Rattle.client_reassembly.specs.Answer.{Reply, refused, stored, repeated, conflict, delivered, advanced, account}
@@ -33,8 +33,9 @@ pub record Entry : Type 0 where
   pub time : ℕ
   pub content : Content
 
--- `open-ones` are the open fragments, oldest first
+-- `plan` is that of the last set-up taken (document 02, R-8); `open-ones` are the open fragments, oldest first
 pub record Book : Type 0 where
+  pub plan : ℕ
   pub time : ℕ
   pub offered : ℕ
   pub delivered : ℕ
@@ -44,8 +45,8 @@ pub record Book : Type 0 where
   pub rejected : ℕ
   pub open-ones : List Entry
 
-unfoldable pub empty : Book
-empty = record { time = 0; offered = 0; delivered = 0; expired = 0; conflicted = 0; repeated = 0; rejected = 0; open-ones = [] }
+unfoldable pub empty : ℕ → Book
+empty plan = record { plan = plan; time = 0; offered = 0; delivered = 0; expired = 0; conflicted = 0; repeated = 0; rejected = 0; open-ones = [] }
 
 unfoldable pub size : Content → ℕ
 size f = length (f .bytes)
@@ -109,6 +110,7 @@ outdated t es e = due (openedAt (e .key) es) t
 -- the client's time is t, and what is outdated expires
 unfoldable pub advance : ℕ → Book → Book
 advance t b = record {
+  plan = b .plan;
   time = t;
   offered = b .offered;
   delivered = b .delivered;
@@ -164,6 +166,7 @@ pub record Result : Type 0 where
 -- n bytes are offered, and turned away
 unfoldable pub rejecting : ℕ → Book → Book
 rejecting n b = record {
+  plan = b .plan;
   time = b .time;
   offered = b .offered + n;
   delivered = b .delivered;
@@ -176,6 +179,7 @@ rejecting n b = record {
 
 unfoldable pub repeating : ℕ → Book → Book
 repeating n b = record {
+  plan = b .plan;
   time = b .time;
   offered = b .offered + n;
   delivered = b .delivered;
@@ -189,6 +193,7 @@ repeating n b = record {
 -- the key's fragments leave; their bytes and n more are conflicted
 unfoldable pub conflicting : Key → ℕ → Book → Book
 conflicting k n b = record {
+  plan = b .plan;
   time = b .time;
   offered = b .offered + n;
   delivered = b .delivered;
@@ -202,6 +207,7 @@ conflicting k n b = record {
 -- the fragment joins the list
 unfoldable pub storing : Entry → Book → Book
 storing e b = record {
+  plan = b .plan;
   time = b .time;
   offered = b .offered + size (e .content);
   delivered = b .delivered;
@@ -215,6 +221,7 @@ storing e b = record {
 -- the key's fragments leave; their bytes and n more are delivered
 unfoldable pub delivering : Key → ℕ → Book → Book
 delivering k n b = record {
+  plan = b .plan;
   time = b .time;
   offered = b .offered + n;
   delivered = b .delivered + (total (mine k (b .open-ones)) + n);
@@ -243,9 +250,9 @@ finished e out b (some l) =
 unfoldable pub taking : Entry → List ℕ → Book → Result
 taking e out b = finished e out b (lastOne (with e b))
 
--- 29: no fragment of this key is open, and as many keys as may be
+-- 29: no fragment of this key is open, and as many keys are as the plan allows
 unfoldable pub noRoom : Entry → Book → Bool
-noRoom e b = eqb (length (mine (e .key) (b .open-ones))) 0 && eqb (keys (b .open-ones)) assemblyLimit
+noRoom e b = eqb (length (mine (e .key) (b .open-ones))) 0 && leb (b .plan) (keys (b .open-ones))
 
 unfoldable pub isRepeat : Entry → Book → Bool
 isRepeat e b = any (repeats (e .content)) (mine (e .key) (b .open-ones))
@@ -290,7 +297,7 @@ entry o = record {
   content = record { place = o .place; bytes = o .bytes; last = o .last; start = cond (o .last) (o .start) 0 };
 }
 
--- 20 and 21 are the table's, and come before these
+-- 20, 21 and 32 are the table's, and come before these
 unfoldable pub offerTests : Offer → ℕ → Book → List (Bool × ℕ)
 offerTests o m b =
     (ltb m datagramLimit, 23)

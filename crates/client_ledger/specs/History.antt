@@ -8,10 +8,11 @@ use Rattle.client_reassembly.specs.Answer.{Reply}
 use Rattle.client_reassembly.specs.Advance.{CallResult, advanceOn, accountOn}
 use Rattle.client_reassembly.specs.Offer.{Outcome, fragmentOn}
 
--- the table that a call was lent: how many records, how many bytes of store
+-- the table that a call was lent: how many records, how many bytes of store, and the records' plans in order
 pub record Lent : Type 0 where
   pub count : ℕ
   pub bytes : ℕ
+  pub plans : List ℕ
 
 -- a call on the record: a fragment with its bytes and an out buffer, the clock, the account
 pub data Ask : Type 0 where

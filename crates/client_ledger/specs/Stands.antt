@@ -1,4 +1,4 @@
--- What it means that a client's record, with its share of the store, stands for a book: the same figures, and for every key the same
+-- What it means that a client's record, with its share of the store, stands for a book: the same plan, the same figures, and for every key the same
 -- open fragments. The order of different keys differs between the two (places against arrival), so they are compared key by key.
 use Prim.Native.Nat.{ℕ, _+_, _<_}
 use mathlib.Core.Path.{_≡_}
@@ -50,6 +50,7 @@ pub record Agrees (share : List ℕ) (es : List Entry) (xs : List Assembly) : Ty
 pub record Stands (c : Client) (share : List ℕ) (b : Book) : Type 0 where
   pub shape : Shaped c share
   pub sound : soundRecord c ≡ true
+  pub plan : c .plan ≡ b .plan
   pub time : c .time ≡ b .time
   pub offered : c .offered ≡ b .offered
   pub held-bytes : c .held ≡ held b

@@ -9,11 +9,9 @@ use client_record::Client;
 use client_record::Fragment;
 use number_offsets::OriginalOffset;
 ghost use mathlib.Core.Path.{_≡_};
-ghost use lib.ListN.{length};
 ghost use Rattle.number_tests.specs.Tests.{firstOf};
-ghost use Rattle.client_record.specs.Limits.{shareSize};
 ghost use Rattle.client_reassembly.specs.Offer.{offerTests, fragmentOf, joined, placed, taken, fragmentOn};
-ghost use Rattle.client_reassembly.specs.Post.{Sized, Joining, Placing, Taking, Left};
+ghost use Rattle.client_reassembly.specs.Post.{Sized, Joining, Placing, Taking, Share, Left};
 ghost use Rattle.client_offer.specs.Checked.{checkedNumber};
 
 // ---- what is asked of an offer
@@ -155,7 +153,8 @@ fn take(c: Client, share: &mut [u8], out: &mut [u8], o: Arrival, bytes: &[u8]) -
 {
     let f = fragment_of(o, bytes.len());
     let p = client_placement::place_for(c, o);
-    if p == client_record::ASSEMBLY_LIMIT {
+    let plan = c.plan as usize;
+    if plan <= p {
         return Step {
             client: client_placement::rejecting(c, bytes.len() as u64),
             answer: Answer::Refused(Refusal::NoFreeAssembly),
@@ -167,7 +166,7 @@ fn take(c: Client, share: &mut [u8], out: &mut [u8], o: Arrival, bytes: &[u8]) -
 
 // Document 01's piece call, after 21, on the client's record and its share of the store.
 pub fn offer(client: Client, share: &mut [u8], out: &mut [u8], o: Arrival, bytes: &[u8]) -> Step
-    requires { ⌜ length (now share) ≡ shareSize ⌝ }
+    requires { ⌜ Share client (now share) ⌝ }
     ensures { λ r. ⌜ Left (fragmentOn client (now (share .entry)) (now (out .entry)) o (now (bytes .entry))) r (now (share .exit)) (now (out .exit)) ⌝ }
 {
     let checked = check(client, out.len(), o, bytes.len());

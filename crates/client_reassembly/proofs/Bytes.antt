@@ -14,7 +14,7 @@ use Rattle.number_tests.proofs.Tests.{both-true}
 use Rattle.number_octets.specs.Octets.{part, overlay}
 use Rattle.number_octets.proofs.Laws.{part-overlay, drop-overlay}
 use Rattle.client_record.specs.declared.Fragment.{Fragment}
-use Rattle.client_record.specs.Limits.{datagramLimit, assemblyLimit, shareSize}
+use Rattle.client_record.specs.Limits.{datagramLimit, shareSize}
 use Rattle.client_record.specs.Record.{end, covers, overlaps}
 use Rattle.client_reassembly.specs.Offer.{base, startOf}
 
@@ -44,13 +44,13 @@ module _ (t : List ℕ) (at : ℕ) (bs : List ℕ) (room : at + length bs ≤ le
 -- ---- fragments
 
 -- a fragment of a place lies within the share
-pub place-within : (p : ℕ) (f : Fragment) (share : List ℕ) → p < assemblyLimit → end f ≤ datagramLimit → length share ≡ shareSize
+pub place-within : {plan : ℕ} (p : ℕ) (f : Fragment) (share : List ℕ) → p < plan → end f ≤ datagramLimit → length share ≡ shareSize plan
     → startOf p f + f .length ≤ length share
-unfolding startOf base end shareSize assemblyLimit datagramLimit
+unfolding startOf base end shareSize datagramLimit
 place-within p f share h k e = omega arith
 
-module _ (share : List ℕ) (p : ℕ) (f : Fragment) (bytes : List ℕ) (h : p < assemblyLimit) (k : end f ≤ datagramLimit)
-    (size : length share ≡ shareSize) (n : length bytes ≡ f .length) where
+module _ {plan : ℕ} (share : List ℕ) (p : ℕ) (f : Fragment) (bytes : List ℕ) (h : p < plan) (k : end f ≤ datagramLimit)
+    (size : length share ≡ shareSize plan) (n : length bytes ≡ f .length) where
   room-for : startOf p f + length bytes ≤ length share
   room-for = omega (arith, place-within p f share h k size, n)
 

@@ -61,11 +61,11 @@ module _ (c : Client) (share out : List ℕ) (p : ℕ) (a : Assembly) (f : Fragm
       cond-no (repeats a f (part (startOf p f) (f .length) share) bytes) _ _ r ∙ cond-no (isConflict a f) _ _ k ∙ cond-no (isFull a) _ _ e
 
 module _ (c : Client) (share out : List ℕ) (o : Arrival) (bytes : List ℕ) where
-  pub taken-rejected : noRoom o (c .assemblies) ≡ true → taken c share out o bytes ≡ leaving (rejecting (length bytes) c) share out (refused 29)
+  pub taken-rejected : noRoom (c .plan) o (c .assemblies) ≡ true → taken c share out o bytes ≡ leaving (rejecting (length bytes) c) share out (refused 29)
   unfolding taken
-  taken-rejected e = cond-yes (noRoom o (c .assemblies)) _ _ e
+  taken-rejected e = cond-yes (noRoom (c .plan) o (c .assemblies)) _ _ e
 
-  pub taken-placed : noRoom o (c .assemblies) ≡ false → taken c share out o bytes
+  pub taken-placed : noRoom (c .plan) o (c .assemblies) ≡ false → taken c share out o bytes
       ≡ placed c share out (placeFor o (c .assemblies)) (assemblyFor o (placeFor o (c .assemblies)) (c .assemblies)) (fragmentOf o (length bytes)) bytes
   unfolding taken
-  taken-placed e = cond-no (noRoom o (c .assemblies)) _ _ e
+  taken-placed e = cond-no (noRoom (c .plan) o (c .assemblies)) _ _ e

@@ -7,7 +7,7 @@ use Prim.Native.Nat.{ℕ, zero, suc, _+_, _<_, _≤_}
 use native.Mathlib.Nat.{not-suc-le-zero, le-of-suc-le-suc}
 use native.Mathlib.Omega.{arith}
 use lib.Dec.{leb, ltb}
-use lib.ListN.{length, getD, set}
+use lib.ListN.{length, getD, set, drop}
 use borrow.Author.Tests.{leb-true, leb-false, eq-eqb, le-leb, lt-ltb}
 use Rattle.number_tests.proofs.Tests.{both-true, both-false}
 use Rattle.client_record.specs.declared.Assembly.{Assembly}
@@ -38,6 +38,7 @@ use Rattle.client_record.specs.Record.{
   figureSum,
   sumsTo,
   balanced,
+  withinPlan,
   soundRecord,
 }
 use Rattle.client_record.proofs.SoundParts.{Sound, sound-parts, all-at, all-weaker, all-map}
@@ -49,12 +50,12 @@ use Rattle.client_reassembly.proofs.Steady.{empty-bytes, fresh-count, e
 -- ---- the record test from its parts
 
 pub sound-from : (c : Client) → Sound c → soundRecord c ≡ true
-unfolding soundRecord heldRight balanced sumsTo
+unfolding soundRecord heldRight balanced sumsTo withinPlan
 sound-from c s =
     ap₂ _&&_ (s .each)
     (ap₂ _&&_ (s .keys)
     (ap₂ _&&_ (eq-eqb (c .held) (sum bytesHeld (c .assemblies)) (s .held))
-    (ap₂ _&&_ (eq-eqb (figureSum c) (c .offered) (s .balance)) (le-leb (c .offered) offeredLimit (s .limit)))))
+    (ap₂ _&&_ (ap₂ _&&_ (eq-eqb (figureSum c) (c .offered) (s .balance)) (le-leb (c .offered) offeredLimit (s .limit))) (s .planned))))
 
 -- ---- lists
 
@@ -72,6 +73,18 @@ module _ {ℓ} {A : Type ℓ} where
   all-set p [] i a e h = refl
   all-set p (x ∷ l) zero a e h = ap₂ _&&_ h (both-true (p x) (all p l) e .1)
   all-set p (x ∷ l) (suc i) a e h = let t = both-true (p x) (all p l) e in ap₂ _&&_ (t .0) (all-set p l i a (t .1) h)
+
+  -- behind the first n, where one element is replaced by one that passes
+  pub all-drop-set : (p : A → Bool) (n : ℕ) (l : List A) (i : ℕ) (a : A) → all p (drop n l) ≡ true → p a ≡ true → all p (drop n (set l i a)) ≡ true
+  all-drop-set p zero l i a e h = all-set p l i a e h
+  all-drop-set p (suc n) [] i a e h = e
+  all-drop-set p (suc n) (x ∷ l) zero a e h = e
+  all-drop-set p (suc n) (x ∷ l) (suc i) a e h = all-drop-set p n l i a e h
+
+  pub drop-map : (f : A → A) (n : ℕ) (l : List A) → drop n (map f l) ≡ map f (drop n l)
+  drop-map f zero l = refl
+  drop-map f (suc n) [] = refl
+  drop-map f (suc n) (x ∷ l) = drop-map f n l
 
   -- a sum with one element replaced
   pub sum-set : (f : A → ℕ) (l : List A) (i : ℕ) (a d : A) → i < length l → sum f (set l i a) + f (getD l i d) ≡ sum f l + f a
@@ -154,7 +167,7 @@ fresh-is-fresh : isFreshAssembly freshAssembly ≡ true
 unfolding isFreshAssembly freshAssembly sameFlow sameBytes freshFlow addressSize fragmentLimit isFreshFragment freshFragment all
 fresh-is-fresh = refl
 
-fresh-not-live : live freshAssembly ≡ false
+pub fresh-not-live : live freshAssembly ≡ false
 unfolding live freshAssembly
 fresh-not-live = refl
 
@@ -239,6 +252,22 @@ elapse-limit : (t : ℕ) (c : Client) → c .offered ≤ offeredLimit → elapse
 unfolding elapse
 elapse-limit t c h = h
 
+expire-free : (t : ℕ) (a : Assembly) → not (live a) ≡ true → not (live (expire t a)) ≡ true
+unfolding expire
+expire-free t a e = go (old t a)
+  where
+    go : (b : Bool) → not (live (cond b freshAssembly a)) ≡ true
+    go true = ap not fresh-not-live
+    go false = e
+
+pub elapse-planned : (t : ℕ) (c : Client) → all (λ a. not (live a)) (drop (c .plan) (c .assemblies)) ≡ true
+    → all (λ a. not (live a)) (drop (elapse t c .plan) (elapse t c .assemblies)) ≡ true
+unfolding elapse
+elapse-planned t c e =
+    ap (all (λ a. not (live a))) (drop-map (expire t) (c .plan) (c .assemblies))
+    ∙ all-map (λ a. not (live a)) (expire t) (drop (c .plan) (c .assemblies))
+    ∙ all-weaker (λ a. not (live a)) (λ a. not (live (expire t a))) (expire-free t) (drop (c .plan) (c .assemblies)) e
+
 pub elapse-sound : (t : ℕ) (c : Client) → soundRecord c ≡ true → c .time ≤ t → soundRecord (elapse t c) ≡ true
 elapse-sound t c sound le =
     let s = sound-parts c sound in
@@ -249,6 +278,7 @@ elapse-sound t c sound le =
       held = elapse-held t c sound;
       balance = elapse-balance t c sound;
       limit = elapse-limit t c (s .limit);
+      planned = elapse-planned t c (s .planned);
     })
 
 -- ---- figures only
@@ -258,13 +288,13 @@ module _ (c : Client) (n : ℕ) (sound : soundRecord c ≡ true) (room : c .offe
   unfolding rejecting figureSum
   rejecting-sound =
       let s = sound-parts c sound in
-      sound-from (rejecting n c) (record { each = s .each; keys = s .keys; held = s .held; balance = omega (arith, s .balance); limit = room })
+      sound-from (rejecting n c) (record { each = s .each; keys = s .keys; held = s .held; balance = omega (arith, s .balance); limit = room; planned = s .planned })
 
   pub repeating-sound : soundRecord (repeating n c) ≡ true
   unfolding repeating figureSum
   repeating-sound =
       let s = sound-parts c sound in
-      sound-from (repeating n c) (record { each = s .each; keys = s .keys; held = s .held; balance = omega (arith, s .balance); limit = room })
+      sound-from (repeating n c) (record { each = s .each; keys = s .keys; held = s .held; balance = omega (arith, s .balance); limit = room; planned = s .planned })
 
 -- ---- an assembly that ends
 
@@ -277,6 +307,9 @@ module _ (t p : ℕ) (xs : List Assembly) (d : Assembly) (h : p < length xs) whe
   unfolding keysDiffer
   freed-keys e =
       pairs-set (λ a b. not (sameLiveKey a b)) xs p freshAssembly e (λ j x k n. fresh-second (getD xs j x)) (λ j x k n. fresh-first (getD xs j x))
+
+  freed-planned : (n : ℕ) → all (λ a. not (live a)) (drop n xs) ≡ true → all (λ a. not (live a)) (drop n (set xs p freshAssembly)) ≡ true
+  freed-planned n e = all-drop-set (λ a. not (live a)) n xs p freshAssembly e (ap not fresh-not-live)
 
   freed-sum : sum bytesHeld (set xs p freshAssembly) + bytesHeld (getD xs p d) ≡ sum bytesHeld xs
   freed-sum = omega (arith, sum-set bytesHeld xs p freshAssembly d h, empty-bytes freshAssembly fresh-count)
@@ -295,6 +328,7 @@ module _ (c : Client) (p : ℕ) (a d : Assembly) (n : ℕ) (sound : soundRecord 
         held = omega (arith, s .held, e);
         balance = omega (arith, s .balance, s .held, e);
         limit = room;
+        planned = freed-planned (c .time) p (c .assemblies) d h (c .plan) (s .planned);
       })
 
   pub delivering-sound : soundRecord (delivering p a n c) ≡ true
@@ -309,4 +343,5 @@ module _ (c : Client) (p : ℕ) (a d : Assembly) (n : ℕ) (sound : soundRecord 
         held = omega (arith, s .held, e);
         balance = omega (arith, s .balance, s .held, e);
         limit = room;
+        planned = freed-planned (c .time) p (c .assemblies) d h (c .plan) (s .planned);
       })

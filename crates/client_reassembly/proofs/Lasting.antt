@@ -3,14 +3,15 @@
 -- Assumes nothing.
 use mathlib.Core.Path.{_≡_, refl, sym, ap, ap₂, _∙_, subst}
 use mathlib.Core.Bool.{Bool, true, false, not, _&&_, cond, and-false}
-use mathlib.Core.List.{List}
+use mathlib.Core.List.{List, [], _∷_}
 use mathlib.Core.Option.{Option, none, some}
 use Prim.Native.Nat.{ℕ, zero, suc, _+_, _<_, _≤_}
 use native.Mathlib.Omega.{arith}
 use lib.Dec.{eqb, ltb}
-use lib.ListN.{length, getD, set, length-set, length-map, length-replicate, replicate}
-use borrow.Author.Tests.{eqb-true, eqb-false, ltb-false, eq-eqb, not-false}
-use Rattle.number_tests.proofs.Tests.{cond-yes, cond-no}
+use lib.ListN.{length, getD, set, drop, length-set, length-map, length-replicate, replicate}
+use lib.Seq.{drop-set-lt}
+use borrow.Author.Tests.{eqb-true, eqb-false, leb-false, ltb-false, eq-eqb, not-false}
+use Rattle.number_tests.proofs.Tests.{both-true, cond-yes, cond-no}
 use Rattle.number_tests.specs.Tests.{firstOf}
 use Rattle.number_octets.specs.Octets.{part, overlay}
 use Rattle.client_record.specs.declared.Fragment.{Fragment}
@@ -73,6 +74,7 @@ use Rattle.client_reassembly.specs.Post.{Sized}
 use Rattle.client_reassembly.proofs.Fates.{placed-repeated, placed-conflict, placed-full, placed-joined, taken-rejected, taken-placed}
 use Rattle.client_reassembly.proofs.Kept.{
   LiveParts,
+  fresh-not-live,
   fresh-sound,
   fresh-first,
   live-parts,
@@ -92,7 +94,7 @@ use Rattle.client_reassembly.proofs.Kept.{
 }
 use Rattle.client_reassembly.proofs.Laws.{getD-any}
 use Rattle.client_reassembly.proofs.Passes.{passes}
-use Rattle.client_reassembly.proofs.Places.{room-place, place-le, live-at}
+use Rattle.client_reassembly.proofs.Places.{room-place, room-within, live-at}
 use Rattle.client_reassembly.proofs.Steady.{empty-bytes, fresh-count}
 use Rattle.client_reassembly.proofs.Stored.{fragment-sound, added-live, added-bytes, added-parts, opening-parts, key-sym, same-key-before, same-key-behind}
 
@@ -203,7 +205,7 @@ unfolding isFull
 not-full a h e = let n = eqb-false (a .count) fragmentLimit e in omega (arith, n)
 
 module _ (c : Client) (p : ℕ) (a : Assembly) (f : Fragment) (sound : soundRecord c ≡ true) (shape : Shaped c)
-    (h : p < length (c .assemblies)) (at : Home (c .time) p (c .assemblies) a) (room : c .offered + f .length ≤ offeredLimit) where
+    (h : p < length (c .assemblies)) (inside : p < c .plan) (at : Home (c .time) p (c .assemblies) a) (room : c .offered + f .length ≤ offeredLimit) where
   storing-sound : soundFragment f ≡ true → isConflict a f ≡ false → isFull a ≡ false → whole (heldFragments (added a f)) ≡ false
       → soundRecord (storing p (added a f) (f .length) c) ≡ true
   unfolding storing figureSum keysDiffer
@@ -223,6 +225,7 @@ module _ (c : Client) (p : ℕ) (a : Assembly) (f : Fragment) (sound : soundReco
         held = omega (arith, s .held, total, more, at .bytes);
         balance = omega (arith, s .balance);
         limit = room;
+        planned = ap (all (λ x. not (live x))) (drop-set-lt (c .plan) (c .assemblies) p (added a f) inside) ∙ s .planned;
       })
 
   joined-sound : (share out : List ℕ) → soundFragment f ≡ true → isConflict a f ≡ false → isFull a ≡ false
@@ -266,7 +269,7 @@ fragment-length o n = refl
 taken-sound : (c : Client) (share out : List ℕ) (o : Arrival) (bytes : List ℕ) → soundRecord c ≡ true → Shaped c → c .time ≡ o .time
     → Sized o (length bytes) → (length bytes ≡ 0 → ⊥) → c .offered + length bytes ≤ offeredLimit
     → soundRecord (taken c share out o bytes .client) ≡ true
-taken-sound c share out o bytes sound shape time sized some-bytes room = go (noRoom o (c .assemblies)) refl
+taken-sound c share out o bytes sound shape time sized some-bytes room = go (noRoom (c .plan) o (c .assemblies)) refl
   where
     n : ℕ
     n = length bytes
@@ -280,10 +283,11 @@ taken-sound c share out o bytes sound shape time sized some-bytes room = go (noR
     Kept : Outcome → Type 0
     Kept r = soundRecord (r .client) ≡ true
 
-    within : noRoom o xs ≡ false → p < length xs
-    within e =
-        let ne = eqb-false p (length xs) (sym (room-place o xs) ∙ e) in
-        omega (arith, ne, place-le o xs)
+    inside : noRoom (c .plan) o xs ≡ false → p < c .plan
+    inside e = leb-false (c .plan) p (sym (room-place o xs (c .plan) (sound-parts c sound .planned)) ∙ e)
+
+    within : noRoom (c .plan) o xs ≡ false → p < length xs
+    within e = omega (arith, inside e, shape .plan, shape .places)
 
     at-home : p < length xs → Home (c .time) p xs (assemblyFor o p xs)
     at-home h =
@@ -291,11 +295,11 @@ taken-sound c share out o bytes sound shape time sized some-bytes room = go (noR
         subst (λ (t : ℕ). Home t p xs (assemblyFor o p xs)) (sym time)
         (home o p xs refl h (subst (λ (t : ℕ). all (soundAssembly t) xs ≡ true) time (s .each)) (s .keys) (shape .slots))
 
-    go : (b : Bool) → noRoom o xs ≡ b → Kept (taken c share out o bytes)
+    go : (b : Bool) → noRoom (c .plan) o xs ≡ b → Kept (taken c share out o bytes)
     go true e = subst Kept (sym (taken-rejected c share out o bytes e)) (rejecting-sound c n sound room)
     go false e =
         subst Kept (sym (taken-placed c share out o bytes e))
-        (placed-sound c p (assemblyFor o p xs) (fragmentOf o n) sound shape (within e) (at-home (within e))
+        (placed-sound c p (assemblyFor o p xs) (fragmentOf o n) sound shape (within e) (inside e) (at-home (within e))
         (subst (λ (k : ℕ). c .offered + k ≤ offeredLimit) (sym (fragment-length o n)) room) share out bytes (fragment-sound o n sized some-bytes))
 
 expire-slotted : (t : ℕ) (a : Assembly) → slotted a ≡ true → slotted (expire t a) ≡ true
@@ -313,6 +317,7 @@ elapse-shaped t c s =
       places = length-map (c .assemblies) (expire t) ∙ s .places;
       slots = all-map slotted (expire t) (c .assemblies)
           ∙ all-weaker slotted (λ a. slotted (expire t a)) (expire-slotted t) (c .assemblies) (s .slots);
+      plan = s .plan;
     }
 
 elapse-time : (t : ℕ) (c : Client) → elapse t c .time ≡ t
@@ -347,24 +352,24 @@ set-shaped p b xs n e k = (length-set xs p b ∙ n, all-set slotted xs p b e k)
 module _ (c : Client) (p : ℕ) (a : Assembly) (f : Fragment) (shape : Shaped c) (own : slotted a ≡ true) where
   conflicting-shaped : Shaped (conflicting p a (f .length) c)
   unfolding conflicting
-  conflicting-shaped = let k = set-shaped p freshAssembly (c .assemblies) (shape .places) (shape .slots) fresh-slotted in record { places = k .0; slots = k .1 }
+  conflicting-shaped = let k = set-shaped p freshAssembly (c .assemblies) (shape .places) (shape .slots) fresh-slotted in record { places = k .0; slots = k .1; plan = shape .plan }
 
   delivering-shaped : Shaped (delivering p a (f .length) c)
   unfolding delivering
-  delivering-shaped = let k = set-shaped p freshAssembly (c .assemblies) (shape .places) (shape .slots) fresh-slotted in record { places = k .0; slots = k .1 }
+  delivering-shaped = let k = set-shaped p freshAssembly (c .assemblies) (shape .places) (shape .slots) fresh-slotted in record { places = k .0; slots = k .1; plan = shape .plan }
 
   storing-shaped : Shaped (storing p (added a f) (f .length) c)
   unfolding storing
   storing-shaped =
-      let k = set-shaped p (added a f) (c .assemblies) (shape .places) (shape .slots) (added-slotted a f own) in record { places = k .0; slots = k .1 }
+      let k = set-shaped p (added a f) (c .assemblies) (shape .places) (shape .slots) (added-slotted a f own) in record { places = k .0; slots = k .1; plan = shape .plan }
 
   rejecting-shaped : (n : ℕ) → Shaped (rejecting n c)
   unfolding rejecting
-  rejecting-shaped n = record { places = shape .places; slots = shape .slots }
+  rejecting-shaped n = record { places = shape .places; slots = shape .slots; plan = shape .plan }
 
   repeating-shaped : (n : ℕ) → Shaped (repeating n c)
   unfolding repeating
-  repeating-shaped n = record { places = shape .places; slots = shape .slots }
+  repeating-shaped n = record { places = shape .places; slots = shape .slots; plan = shape .plan }
 
   joined-shaped : (share out : List ℕ) → Shaped (joined c share out p a f .client)
   unfolding joined handedOut
@@ -396,7 +401,7 @@ assembly-slotted o p xs h e = go (any (matches o) xs)
     go false = opening-slotted o
 
 taken-shaped : (c : Client) (share out : List ℕ) (o : Arrival) (bytes : List ℕ) → Shaped c → Shaped (taken c share out o bytes .client)
-taken-shaped c share out o bytes shape = go (noRoom o (c .assemblies)) refl
+taken-shaped c share out o bytes shape = go (noRoom (c .plan) o (c .assemblies)) refl
   where
     xs : List Assembly
     xs = c .assemblies
@@ -407,12 +412,10 @@ taken-shaped c share out o bytes shape = go (noRoom o (c .assemblies)) refl
     Kept : Outcome → Type 0
     Kept r = Shaped (r .client)
 
-    within : noRoom o xs ≡ false → p < length xs
-    within e =
-        let ne = eqb-false p (length xs) (sym (room-place o xs) ∙ e) in
-        omega (arith, ne, place-le o xs)
+    within : noRoom (c .plan) o xs ≡ false → p < length xs
+    within e = room-within o xs (c .plan) (omega (arith, shape .plan, shape .places)) e
 
-    go : (b : Bool) → noRoom o xs ≡ b → Kept (taken c share out o bytes)
+    go : (b : Bool) → noRoom (c .plan) o xs ≡ b → Kept (taken c share out o bytes)
     go true e = subst Kept (sym (taken-rejected c share out o bytes e)) (rejecting-shaped c p freshAssembly (fragmentOf o 0) shape fresh-slotted (length bytes))
     go false e =
         subst Kept (sym (taken-placed c share out o bytes e))
@@ -447,6 +450,12 @@ module _ {ℓ} {A : Type ℓ} where
   all-alike p zero x e = refl
   all-alike p (suc n) x e = ap₂ _&&_ e (all-alike p n x e)
 
+  all-drop : (p : A → Bool) (n : ℕ) (l : List A) → all p l ≡ true → all p (drop n l) ≡ true
+  unfolding all
+  all-drop p zero l e = e
+  all-drop p (suc n) [] e = e
+  all-drop p (suc n) (x ∷ l) e = all-drop p n l (both-true (p x) (all p l) e .1)
+
   pairs-alike : (q : A → A → Bool) (n : ℕ) (x : A) → q x x ≡ true → pairs q (replicate n x) ≡ true
   unfolding pairs
   pairs-alike q zero x e = refl
@@ -457,19 +466,25 @@ module _ {ℓ} {A : Type ℓ} where
   sum-alike f zero x e = refl
   sum-alike f (suc n) x e = omega (arith, e, sum-alike f n x e)
 
--- a fresh record is sound
-pub fresh-client-sound : soundRecord freshClient ≡ true
+-- a fresh record is sound, whatever its plan
+pub fresh-client-sound : (plan : ℕ) → soundRecord (freshClient plan) ≡ true
 unfolding freshClient figureSum keysDiffer
-fresh-client-sound =
-    sound-from freshClient
+fresh-client-sound plan =
+    sound-from (freshClient plan)
     (record {
       each = all-alike (soundAssembly 0) assemblyLimit freshAssembly (fresh-sound 0);
       keys = pairs-alike (λ a b. not (sameLiveKey a b)) assemblyLimit freshAssembly (fresh-first freshAssembly);
       held = sum-alike bytesHeld assemblyLimit freshAssembly (empty-bytes freshAssembly fresh-count);
       balance = refl;
       limit = omega arith;
+      planned = all-drop (λ a. not (live a)) plan (replicate assemblyLimit freshAssembly)
+          (all-alike (λ a. not (live a)) assemblyLimit freshAssembly (ap not fresh-not-live));
     })
 
-pub fresh-client-shaped : Shaped freshClient
+pub fresh-client-shaped : (plan : ℕ) → plan ≤ assemblyLimit → Shaped (freshClient plan)
 unfolding freshClient
-fresh-client-shaped = record { places = length-replicate assemblyLimit freshAssembly; slots = all-alike slotted assemblyLimit freshAssembly fresh-slotted }
+fresh-client-shaped plan h = record {
+  places = length-replicate assemblyLimit freshAssembly;
+  slots = all-alike slotted assemblyLimit freshAssembly fresh-slotted;
+  plan = h;
+}

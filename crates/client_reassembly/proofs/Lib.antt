@@ -4,6 +4,7 @@ pub mod Fates
 pub mod Joins
 pub mod Kept
 pub mod Lasting
+pub mod Plans
 pub mod Laws
 pub mod Passes
 pub mod Places

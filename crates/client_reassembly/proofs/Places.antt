@@ -3,17 +3,17 @@
 use mathlib.Core.Path.{_≡_, refl, sym, ap, _∙_}
 use mathlib.Core.Bool.{Bool, true, false, not, _&&_, _||_, cond}
 use mathlib.Core.List.{List, [], _∷_}
-use Prim.Native.Nat.{ℕ, suc, _+_, _<_, _≤_}
+use Prim.Native.Nat.{ℕ, zero, suc, _+_, _<_, _≤_}
 use native.Mathlib.Nat.{not-suc-le-zero, le-of-suc-le-suc}
 use native.Mathlib.Omega.{arith}
-use lib.Dec.{eqb, ltb, leb·suc-suc}
+use lib.Dec.{leb, ltb, leb·suc-suc}
 use lib.ListN.{length, drop, getD}
 use lib.Seq.{drop-length}
-use borrow.Author.Tests.{ltb-true, ltb-false, lt-ltb, eq-eqb, ne-eqb, not-true}
-use Rattle.number_tests.proofs.Tests.{both-true, cond-yes, cond-no}
+use borrow.Author.Tests.{ltb-true, lt-ltb, leb-true, leb-false, le-leb, lt-leb, not-true}
+use Rattle.number_tests.proofs.Tests.{true-false, both-true, cond-yes, cond-no}
 use Rattle.client_record.specs.declared.Assembly.{Assembly}
-use Rattle.client_record.specs.Lists.{all, any}
-use Rattle.client_record.specs.Record.{live}
+use Rattle.client_record.specs.Lists.{all, any, sum}
+use Rattle.client_record.specs.Record.{freshAssembly, live, liveCount}
 use Rattle.client_record.proofs.Lists.{drop-next}
 use Rattle.client_reassembly.specs.declared.Arrival.{Arrival}
 use Rattle.client_reassembly.specs.Offer.{matches, firstIndex, noRoom, placeFor}
@@ -73,21 +73,58 @@ module _ {ℓ} {A : Type ℓ} (p : A → Bool) where
       go true e ih k = e
       go false e ih k = ih (le-of-suc-le-suc k)
 
-all-live : (xs : List Assembly) → all live xs ≡ not (any (λ a. not (live a)) xs)
-unfolding all any
-all-live [] = refl
-all-live (a ∷ xs) = go (live a) (all-live xs)
-  where
-    go : (b : Bool) → all live xs ≡ not (any (λ x. not (live x)) xs) → (b && all live xs) ≡ not (not b || any (λ x. not (live x)) xs)
-    go true e = e
-    go false e = refl
+-- ---- live places and the plan
 
-at-end : (a n : ℕ) → a ≤ n → not (ltb a n) ≡ eqb a n
-at-end a n h = go (ltb a n) refl
+free-at : List Assembly → ℕ
+free-at xs = firstIndex (λ a. not (live a)) xs
+
+-- the places before the first free one are live
+free-lives : (xs : List Assembly) → free-at xs ≤ liveCount xs
+unfolding firstIndex free-at liveCount sum
+free-lives [] = omega arith
+free-lives (a ∷ xs) = go (live a) (free-lives xs)
   where
-    go : (b : Bool) → ltb a n ≡ b → not b ≡ eqb a n
-    go true e = let k : a < n = ltb-true a n e in sym (ne-eqb a n (λ q. omega arith))
-    go false e = let k : n ≤ a = ltb-false a n e in sym (eq-eqb a n (omega arith))
+    go : (b : Bool) → free-at xs ≤ liveCount xs → cond (not b) 0 (suc (free-at xs)) ≤ (cond b 1 0) + liveCount xs
+    go true h = omega arith
+    go false h = omega arith
+
+-- with no live place past the plan, no more are live than the plan allows
+lives-plan : (n : ℕ) (xs : List Assembly) → all (λ a. not (live a)) (drop n xs) ≡ true → liveCount xs ≤ n
+unfolding liveCount sum all
+lives-plan n [] e = omega arith
+lives-plan zero (a ∷ xs) e =
+    let t = both-true (not (live a)) (all (λ x. not (live x)) xs) e in
+    let one : _≡_ {A = ℕ} (cond (live a) 1 0) 0 = ap (λ (b : Bool). cond b 1 0) (not-true (live a) (t .0)) in
+    omega (arith, one, lives-plan zero xs (t .1))
+lives-plan (suc n) (a ∷ xs) e = go (live a) (lives-plan n xs e)
+  where
+    go : (b : Bool) → liveCount xs ≤ n → (cond b 1 0) + liveCount xs ≤ suc n
+    go true h = omega arith
+    go false h = omega arith
+
+-- as many are live as the plan allows exactly where its places are
+lives-free : (n : ℕ) (xs : List Assembly) → all (λ a. not (live a)) (drop n xs) ≡ true → free-at xs < n → liveCount xs < n
+unfolding liveCount firstIndex free-at sum
+lives-free n [] e h = h
+lives-free zero (a ∷ xs) e h = absurd (not-suc-le-zero h)
+lives-free (suc n) (a ∷ xs) e h = go (live a) (lives-free n xs e) (lives-plan n xs e) h
+  where
+    go : (b : Bool) → (free-at xs < n → liveCount xs < n) → liveCount xs ≤ n → cond (not b) 0 (suc (free-at xs)) < suc n
+        → (cond b 1 0) + liveCount xs < suc n
+    go true ih k h = let m = ih (le-of-suc-le-suc h) in omega arith
+    go false ih k h = omega arith
+
+-- a live place is one of the plan's
+pub live-below : (n : ℕ) (xs : List Assembly) (p : ℕ) (d : Assembly) → all (λ a. not (live a)) (drop n xs) ≡ true → p < length xs
+    → live (getD xs p d) ≡ true → p < n
+unfolding all
+live-below n [] p d e h l = absurd (not-suc-le-zero h)
+live-below zero (a ∷ xs) zero d e h l =
+    absurd (true-false (sym l ∙ not-true (live a) (both-true (not (live a)) (all (λ x. not (live x)) xs) e .0)))
+live-below zero (a ∷ xs) (suc p) d e h l =
+    absurd (not-suc-le-zero (live-below zero xs p d (both-true (not (live a)) (all (λ x. not (live x)) xs) e .1) (le-of-suc-le-suc h) l))
+live-below (suc n) (a ∷ xs) zero d e h l = omega arith
+live-below (suc n) (a ∷ xs) (suc p) d e h l = let k = live-below n xs p d e (le-of-suc-le-suc h) l in omega arith
 
 module _ (o : Arrival) (xs : List Assembly) where
   -- the key's assembly is there, or it is not
@@ -107,20 +144,40 @@ module _ (o : Arrival) (xs : List Assembly) where
       go true e = omega (arith, place-of-key e, first-le (matches o) xs)
       go false e = omega (arith, place-free e, first-le (λ a. not (live a)) xs)
 
-  -- there is no room exactly where the place is past the places
-  pub room-place : noRoom o xs ≡ eqb (placeFor o xs) (length xs)
-  unfolding noRoom
-  room-place = go (any (matches o) xs) refl
+  -- the key's assembly is one of the places
+  key-within : any (matches o) xs ≡ true → placeFor o xs < length xs
+  key-within e =
+      let h : firstIndex (matches o) xs < length xs = ltb-true _ _ (sym (any-first (matches o) xs) ∙ e) in omega (arith, place-of-key e)
+
+  -- with no live place past the plan there is no room exactly where the place is past it
+  pub room-place : (n : ℕ) → all (λ a. not (live a)) (drop n xs) ≡ true → noRoom n o xs ≡ leb n (placeFor o xs)
+  unfolding noRoom matches free-at
+  room-place n planned = go (any (matches o) xs) refl
     where
-      go : (b : Bool) → any (matches o) xs ≡ b → (not (any (matches o) xs) && all live xs) ≡ eqb (placeFor o xs) (length xs)
+      full : (b : Bool) → leb n (free-at xs) ≡ b → leb n (liveCount xs) ≡ b
+      full true t = le-leb n (liveCount xs) (omega (arith, leb-true n (free-at xs) t, free-lives xs))
+      full false t = lt-leb n (liveCount xs) (lives-free n xs planned (leb-false n (free-at xs) t))
+
+      go : (b : Bool) → any (matches o) xs ≡ b → (not (any (matches o) xs) && leb n (liveCount xs)) ≡ leb n (placeFor o xs)
       go true e =
-          let h : firstIndex (matches o) xs < length xs = ltb-true _ _ (sym (any-first (matches o) xs) ∙ e) in
-          ap (λ (b : Bool). not b && all live xs) e
-          ∙ sym (ap (λ (k : ℕ). eqb k (length xs)) (place-of-key e) ∙ ne-eqb (firstIndex (matches o) xs) (length xs) (λ q. omega arith))
+          let h = key-within e in
+          let k : firstIndex (matches o) xs < length xs = omega (arith, place-of-key e) in
+          let l = both-true _ _ (first-passes (matches o) xs freshAssembly k) .0 in
+          let below : placeFor o xs < n = omega (arith, place-of-key e, live-below n xs (firstIndex (matches o) xs) freshAssembly planned k l) in
+          ap (λ (b : Bool). not b && leb n (liveCount xs)) e ∙ sym (lt-leb n (placeFor o xs) below)
       go false e =
-          ap (λ (b : Bool). not b && all live xs) e ∙ all-live xs ∙ ap not (any-first (λ a. not (live a)) xs)
-          ∙ at-end (firstIndex (λ a. not (live a)) xs) (length xs) (first-le (λ a. not (live a)) xs)
-          ∙ sym (ap (λ (k : ℕ). eqb k (length xs)) (place-free e))
+          ap (λ (b : Bool). not b && leb n (liveCount xs)) e ∙ full (leb n (free-at xs)) refl ∙ sym (ap (leb n) (place-free e))
+
+  -- where there is room within a plan that the record has places for, the place is one of them
+  pub room-within : (n : ℕ) → n ≤ length xs → noRoom n o xs ≡ false → placeFor o xs < length xs
+  unfolding noRoom free-at
+  room-within n few room = go (any (matches o) xs) refl
+    where
+      go : (b : Bool) → any (matches o) xs ≡ b → placeFor o xs < length xs
+      go true e = key-within e
+      go false e =
+          let t : leb n (liveCount xs) ≡ false = sym (ap (λ (b : Bool). not b && leb n (liveCount xs)) e) ∙ room in
+          omega (arith, place-free e, free-lives xs, leb-false n (liveCount xs) t)
 
   -- what stands at the place is live exactly where the key has an assembly
   pub live-place : (d : Assembly) → placeFor o xs < length xs → live (getD xs (placeFor o xs) d) ≡ any (matches o) xs

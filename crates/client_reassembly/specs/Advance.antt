@@ -27,6 +27,7 @@ lost t a = cond (old t a) (bytesHeld a) 0
 -- the client's time is t, and what is old expires
 unfoldable pub elapse : ℕ → Client → Client
 elapse t c = record {
+  plan = c .plan;
   time = t;
   offered = c .offered;
   held = c .held - sum (lost t) (c .assemblies);

@@ -14,6 +14,7 @@ use Rattle.client_reassembly.specs.declared.Refusal.the-variants.{
   OfferedPastLimit,
   NoFreeAssembly,
   AssemblyFull,
+  PlanOutOfRange,
 }
 use Rattle.client_reassembly.specs.declared.Figures.{Figures}
 use Rattle.client_reassembly.specs.declared.Answer.{Answer}
@@ -43,6 +44,7 @@ numberOf TimeBeforeLast = 27
 numberOf OfferedPastLimit = 28
 numberOf NoFreeAssembly = 29
 numberOf AssemblyFull = 30
+numberOf PlanOutOfRange = 32
 
 abbrev pub figuresOf : Figures → List ℕ
 figuresOf f = f .offered ∷ f .held ∷ f .delivered ∷ f .expired ∷ f .conflicted ∷ f .repeated ∷ f .rejected ∷ []

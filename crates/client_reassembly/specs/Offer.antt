@@ -3,7 +3,7 @@ use Prim.Native.Nat.{ℕ, suc, _+_, _-_, _*_}
 use mathlib.Core.Bool.{Bool, not, _&&_, _||_, cond}
 use mathlib.Core.List.{List, [], _∷_}
 use mathlib.Core.Option.{Option, none, some}
-use lib.Dec.{eqb, ltb}
+use lib.Dec.{eqb, leb, ltb}
 use lib.ListN.{length, getD, set}
 use Rattle.number_tests.specs.Tests.{firstOf}
 use Rattle.number_octets.specs.Octets.{part, overlay}
@@ -11,7 +11,7 @@ use Rattle.client_record.specs.declared.Fragment.{Fragment}
 use Rattle.client_record.specs.declared.Assembly.{Assembly}
 use Rattle.client_record.specs.declared.Client.{Client}
 use Rattle.client_record.specs.Limits.{datagramLimit, fragmentLimit, offeredLimit}
-use Rattle.client_record.specs.Lists.{sameMark, sameBytes, all, any}
+use Rattle.client_record.specs.Lists.{sameMark, sameBytes, any}
 use Rattle.client_record.specs.Record.{
   freshAssembly,
   isLast,
@@ -24,6 +24,7 @@ use Rattle.client_record.specs.Record.{
   heldFragments,
   bytesHeld,
   hasKey,
+  liveCount,
   soundRecord,
 }
 use Rattle.client_reassembly.specs.declared.Arrival.{Arrival}
@@ -59,9 +60,9 @@ unfoldable pub firstIndex {ℓ} : {A : Type ℓ} → (A → Bool) → List A →
 firstIndex p [] = 0
 firstIndex p (x ∷ xs) = cond (p x) 0 (suc (firstIndex p xs))
 
--- 29: no assembly with this key, and every place live
-unfoldable pub noRoom : Arrival → List Assembly → Bool
-noRoom o xs = not (any (matches o) xs) && all live xs
+-- 29: no assembly with this key, and as many live as the plan allows (document 02, R-8)
+unfoldable pub noRoom : ℕ → Arrival → List Assembly → Bool
+noRoom plan o xs = not (any (matches o) xs) && leb plan (liveCount xs)
 
 -- the place of the key's assembly, or the lowest free one
 unfoldable pub placeFor : Arrival → List Assembly → ℕ
@@ -116,6 +117,7 @@ added a f = record {
 -- the bytes are offered, and turned away
 unfoldable pub rejecting : ℕ → Client → Client
 rejecting n c = record {
+  plan = c .plan;
   time = c .time;
   offered = c .offered + n;
   held = c .held;
@@ -129,6 +131,7 @@ rejecting n c = record {
 
 unfoldable pub repeating : ℕ → Client → Client
 repeating n c = record {
+  plan = c .plan;
   time = c .time;
   offered = c .offered + n;
   held = c .held;
@@ -143,6 +146,7 @@ repeating n c = record {
 -- the assembly a at place p ends: its bytes and the fragment's are conflicted
 unfoldable pub conflicting : ℕ → Assembly → ℕ → Client → Client
 conflicting p a n c = record {
+  plan = c .plan;
   time = c .time;
   offered = c .offered + n;
   held = c .held - bytesHeld a;
@@ -157,6 +161,7 @@ conflicting p a n c = record {
 -- the assembly at place p is b, with the fragment
 unfoldable pub storing : ℕ → Assembly → ℕ → Client → Client
 storing p b n c = record {
+  plan = c .plan;
   time = c .time;
   offered = c .offered + n;
   held = c .held + n;
@@ -171,6 +176,7 @@ storing p b n c = record {
 -- the assembly a at place p ends: its bytes and the fragment's are delivered
 unfoldable pub delivering : ℕ → Assembly → ℕ → Client → Client
 delivering p a n c = record {
+  plan = c .plan;
   time = c .time;
   offered = c .offered + n;
   held = c .held - bytesHeld a;
@@ -225,7 +231,7 @@ placed c share out p a f bytes =
 unfoldable pub taken : Client → List ℕ → List ℕ → Arrival → List ℕ → Outcome
 taken c share out o bytes =
     let p = placeFor o (c .assemblies) in
-    cond (noRoom o (c .assemblies)) (leaving (rejecting (length bytes) c) share out (refused 29))
+    cond (noRoom (c .plan) o (c .assemblies)) (leaving (rejecting (length bytes) c) share out (refused 29))
     (placed c share out p (assemblyFor o p (c .assemblies)) (fragmentOf o (length bytes)) bytes)
 
 -- a refusal changes nothing

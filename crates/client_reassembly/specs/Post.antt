@@ -10,7 +10,7 @@ use Rattle.client_record.specs.declared.Assembly.{Assembly}
 use Rattle.client_record.specs.declared.Client.{Client}
 use Rattle.client_record.specs.Limits.{datagramLimit, fragmentLimit, assemblyLimit, offeredLimit, shareSize}
 use Rattle.client_record.specs.Lists.{all, sum}
-use Rattle.client_record.specs.Record.{end, fits, compatible, heldFragments, bytesHeld, figureSum}
+use Rattle.client_record.specs.Record.{end, fits, compatible, heldFragments, bytesHeld, figureSum, withinPlan}
 use Rattle.client_reassembly.specs.declared.Step.{Step}
 use Rattle.client_reassembly.specs.declared.Arrival.{Arrival}
 use Rattle.client_reassembly.specs.Answer.{replyOf}
@@ -48,6 +48,11 @@ pub record Storing (c : Client) (p : ℕ) (n : ℕ) : Type 0 where
   pub room : Room c n
   pub within : p < assemblyLimit
 
+-- 32 has let the client's plan pass, and this is its share of the store
+pub record Share (c : Client) (share : List ℕ) : Type 0 where
+  pub plan : c .plan ≤ assemblyLimit
+  pub size : length share ≡ shareSize (c .plan)
+
 -- what a step leaves and answers is the outcome's
 pub record Left (o : Outcome) (s : Step) (share out : List ℕ) : Type 0 where
   pub client : s .client ≡ o .client
@@ -62,7 +67,8 @@ pub record Joining (c : Client) (share out : List ℕ) (p : ℕ) (a : Assembly) 
   pub ends : all fits (heldFragments a) ≡ true
   pub apart : compatible (heldFragments (added a f)) ≡ true
   pub last-end : end f ≤ datagramLimit
-  pub share-size : length share ≡ shareSize
+  pub place : p < c .plan
+  pub own : Share c share
   pub out-size : datagramLimit ≤ length out
 
 -- its fragments are within its slots, each ends within the limit, and none contradicts another
@@ -75,7 +81,8 @@ pub record Taking (c : Client) (share out : List ℕ) (o : Arrival) (bytes : Lis
   pub room : Room c (length bytes)
   pub held : c .held ≡ sum bytesHeld (c .assemblies)
   pub each : all steady (c .assemblies) ≡ true
-  pub share-size : length share ≡ shareSize
+  pub planned : withinPlan c ≡ true
+  pub own : Share c share
   pub out-size : datagramLimit ≤ length out
 
 -- a fragment f of these bytes can be looked at for the assembly a at place p
@@ -86,5 +93,6 @@ pub record Placing (c : Client) (share out : List ℕ) (p : ℕ) (a : Assembly) 
   pub apart : compatible (heldFragments a) ≡ true
   pub last-end : end f ≤ datagramLimit
   pub bytes-size : length bytes ≡ f .length
-  pub share-size : length share ≡ shareSize
+  pub place : p < c .plan
+  pub own : Share c share
   pub out-size : datagramLimit ≤ length out

@@ -1,4 +1,5 @@
--- The shape of a client's record: its lists are as long as the code's arrays, whatever they hold.
+-- The shape of a client's record: its lists are as long as the code's arrays, whatever they hold, and 32 lets its plan pass.
+use Prim.Native.Nat.{_≤_}
 use mathlib.Core.Path.{_≡_}
 use mathlib.Core.Bool.{Bool, true}
 use lib.Dec.{eqb}
@@ -15,3 +16,4 @@ slotted a = eqb (length (a .fragments)) fragmentLimit
 pub record Shaped (c : Client) : Type 0 where
   pub places : length (c .assemblies) ≡ assemblyLimit
   pub slots : all slotted (c .assemblies) ≡ true
+  pub plan : c .plan ≤ assemblyLimit

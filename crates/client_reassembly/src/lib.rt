@@ -1,5 +1,5 @@
 // One client's record by value (document 01, "The table"): its clock and its account, and the values that its calls take and answer. Where a
-// fragment belongs is `client_placement`'s, the fragment call itself `client_offer::offer`; refusals 20 and 21 belong to the table.
+// fragment belongs is `client_placement`'s, the fragment call itself `client_offer::offer`; refusals 20, 21 and 32 belong to the table.
 use client_record::Assembly;
 use client_record::Client;
 use client_record::Flow;
@@ -12,7 +12,8 @@ ghost use Rattle.client_record.specs.Record.{soundRecord};
 ghost use Rattle.client_reassembly.specs.Advance.{old, expire, lost, elapse, advanceOn, accountOn};
 ghost use Rattle.client_reassembly.specs.Post.{StepGives};
 
-// Why a call changes nothing (document 01's 20 to 28; 20 and 21 are the table's), or a fragment is turned away (29, 30).
+// Why a call changes nothing (document 01's 20 to 28 and document 02's 32; 20, 21 and 32 are the table's), or a fragment is turned
+// away (29, 30).
 pub enum Refusal {
     TableMisfit,
     NoSuchClient,
@@ -25,6 +26,7 @@ pub enum Refusal {
     OfferedPastLimit,
     NoFreeAssembly,
     AssemblyFull,
+    PlanOutOfRange,
 }
 
 // A client's account (document 01's bill).
@@ -142,6 +144,7 @@ pub fn elapsed(c: Client, time: u64) -> Client
     let gone = total_lost(c, time);
     let kept = expire_all(c, time);
     Client {
+        plan: c.plan,
         time: time,
         offered: c.offered,
         held: c.held - gone,

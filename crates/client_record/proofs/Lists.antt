@@ -7,9 +7,10 @@ use Prim.Native.Nat.{ℕ, zero, suc, _+_, _<_, _≤_}
 use native.Mathlib.Numerals.{add-one}
 use native.Mathlib.Omega.{arith}
 use native.Mathlib.Nat.{not-suc-le-zero, le-of-suc-le-suc}
-use lib.Dec.{eqb}
-use lib.ListN.{length, take, drop, getD, length-take, length-map, take-append-drop}
+use lib.Dec.{eqb, ltb, leb·suc-suc}
+use lib.ListN.{length, take, drop, getD, length-take, length-map, take-append-drop, drop-of-length-le}
 use lib.Seq.{take-suc, drop-cons, getD-take}
+use borrow.Author.Tests.{lt-ltb, le-ltb}
 use Rattle.number_tests.proofs.Tests.{true-false, both-true}
 use Rattle.client_record.specs.Lists.{sameBytes, all, any, pairs, sum}
 
@@ -29,6 +30,17 @@ module _ {ℓ} {A : Type ℓ} where
   unfolding all
   all-append p [] m = refl
   all-append p (x ∷ l) m = ap (λ (b : Bool). p x && b) (all-append p l m) ∙ sym (and-assoc (p x) (all p l) (all p m))
+
+  -- what all behind the first n pass, where one more element joins
+  pub all-behind : (p : A → Bool) (n : ℕ) (l : List A) (x : A) → all p (drop n (l ++ (x ∷ []))) ≡ all p (drop n l) && (ltb (length l) n || p x)
+  unfolding all
+  all-behind p zero l x =
+      all-append p l (x ∷ []) ∙ ap (λ (b : Bool). all p l && b) (and-true (p x) ∙ sym (ap (λ (b : Bool). b || p x) (le-ltb (length l) 0 (omega arith))))
+  all-behind p (suc n) [] x =
+      ap (all p) (drop-of-length-le [] {i = n} (omega arith))
+      ∙ sym (ap (λ (b : Bool). b || p x) (lt-ltb 0 (suc n) (omega arith)))
+  all-behind p (suc n) (y ∷ l) x =
+      all-behind p n l x ∙ ap (λ (b : Bool). all p (drop n l) && (b || p x)) (sym (leb·suc-suc (suc (length l)) n))
 
   pub any-append : (p : A → Bool) (l m : List A) → any p (l ++ m) ≡ any p l || any p m
   unfolding any

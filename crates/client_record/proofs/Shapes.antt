@@ -16,7 +16,7 @@ use Rattle.client_record.proofs.Client as Client·T
 
 pub places : (c : Client) (vs : List Val) → Is (row Client·T.the-type) c vs → length (c .assemblies) ≡ assemblyLimit
 unfolding assemblyLimit
-places c vs good = unmapped _ (c .assemblies) assemblyLimit (good .1 .1 .1 .1 .1 .1 .1 .1 .1 .1 .0 .1 .0 .1)
+places c vs good = unmapped _ (c .assemblies) assemblyLimit (good .1 .1 .1 .1 .1 .1 .1 .1 .1 .1 .1 .0 .1 .0 .1)
 
 pub slots : (a : Assembly) (vs : List Val) → Is (row Assembly·T.the-type) a vs → length (a .fragments) ≡ fragmentLimit
 unfolding fragmentLimit

@@ -1,18 +1,18 @@
 -- What a record that passes the record test is known to have: its parts, one by one, and sums that are bounded by sums.
 -- Assumes nothing.
 use mathlib.Core.Path.{_≡_, refl, ap, ap₂, _∙_}
-use mathlib.Core.Bool.{Bool, true, _&&_}
+use mathlib.Core.Bool.{Bool, true, not, _&&_}
 use mathlib.Core.List.{List, [], _∷_, map}
 use Prim.Native.Nat.{ℕ, zero, suc, _<_, _≤_}
 use native.Mathlib.Nat.{not-suc-le-zero, le-of-suc-le-suc}
 use native.Mathlib.Omega.{arith}
-use lib.ListN.{length, getD}
+use lib.ListN.{length, getD, drop}
 use borrow.Author.Tests.{eqb-true, leb-true}
 use Rattle.number_tests.proofs.Tests.{both-true}
 use Rattle.client_record.specs.declared.Client.{Client}
 use Rattle.client_record.specs.Limits.{offeredLimit}
 use Rattle.client_record.specs.Lists.{all, pairs, sum}
-use Rattle.client_record.specs.Record.{bytesHeld, soundAssembly, keysDiffer, heldRight, figureSum, sumsTo, balanced, soundRecord}
+use Rattle.client_record.specs.Record.{live, bytesHeld, soundAssembly, keysDiffer, heldRight, figureSum, sumsTo, balanced, withinPlan, soundRecord}
 
 pub record Sound (c : Client) : Type 0 where
   pub each : all (soundAssembly (c .time)) (c .assemblies) ≡ true
@@ -20,15 +20,24 @@ pub record Sound (c : Client) : Type 0 where
   pub held : c .held ≡ sum bytesHeld (c .assemblies)
   pub balance : figureSum c ≡ c .offered
   pub limit : c .offered ≤ offeredLimit
+  pub planned : all (λ a. not (live a)) (drop (c .plan) (c .assemblies)) ≡ true
 
 pub sound-parts : (c : Client) → soundRecord c ≡ true → Sound c
-unfolding soundRecord heldRight balanced sumsTo
+unfolding soundRecord heldRight balanced sumsTo withinPlan
 sound-parts c e =
     let one = both-true _ _ e in
     let two = both-true _ _ (one .1) in
     let three = both-true _ _ (two .1) in
     let four = both-true _ _ (three .1) in
-    record { each = one .0; keys = two .0; held = eqb-true _ _ (three .0); balance = eqb-true _ _ (four .0); limit = leb-true _ _ (four .1) }
+    let five = both-true _ _ (four .0) in
+    record {
+      each = one .0;
+      keys = two .0;
+      held = eqb-true _ _ (three .0);
+      balance = eqb-true _ _ (five .0);
+      limit = leb-true _ _ (five .1);
+      planned = four .1;
+    }
 
 module _ {ℓ} {A : Type ℓ} where
   -- a sum of smaller parts is smaller

@@ -9,9 +9,9 @@ datagramLimit = 8192
 unfoldable pub fragmentLimit : ℕ
 fragmentLimit = 64
 
--- the assemblies of a client
+-- the assemblies of a client at most: the largest plan
 unfoldable pub assemblyLimit : ℕ
-assemblyLimit = 4
+assemblyLimit = 8
 
 -- the bytes of an IPv4 address
 unfoldable pub addressSize : ℕ
@@ -25,10 +25,9 @@ lifetime = 120000
 unfoldable pub offeredLimit : ℕ
 offeredLimit = 1000000000000000
 
--- a client's share of the store: one place for each assembly
-unfoldable pub shareSize : ℕ
-unfolding assemblyLimit datagramLimit
-shareSize = assemblyLimit * datagramLimit
+-- the share of the store of a client with this plan: as many places as the plan has
+unfoldable pub shareSize : ℕ → ℕ
+shareSize plan = plan * datagramLimit
 
 -- the clients of a table
 unfoldable pub clientLimit : ℕ

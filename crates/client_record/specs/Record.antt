@@ -11,7 +11,7 @@ use Rattle.client_record.specs.declared.Client.{Client}
 use Rattle.client_record.specs.Limits.{datagramLimit, fragmentLimit, assemblyLimit, addressSize, lifetime, offeredLimit}
 use Rattle.client_record.specs.Lists.{sameBytes, all, any, pairs, sum}
 
--- ---- a fresh record: last time 0, no assembly, all figures 0
+-- ---- a fresh record of a plan: last time 0, no assembly, all figures 0
 
 unfoldable pub freshFragment : Fragment
 freshFragment = record { offset = 0; length = 0; «option_start» = 0; last = 0 }
@@ -22,8 +22,9 @@ freshFlow = record { source = replicate addressSize 0; destination = replicate a
 unfoldable pub freshAssembly : Assembly
 freshAssembly = record { flow = freshFlow; identification = 0; opened = 0; count = 0; fragments = replicate fragmentLimit freshFragment }
 
-unfoldable pub freshClient : Client
-freshClient = record {
+unfoldable pub freshClient : ℕ → Client
+freshClient plan = record {
+  plan = plan;
   time = 0;
   offered = 0;
   held = 0;
@@ -34,6 +35,10 @@ freshClient = record {
   rejected = 0;
   assemblies = replicate assemblyLimit freshAssembly;
 }
+
+-- a record of zeros, which has no plan: what stands past the end of a slice of records
+unfoldable pub blankClient : Client
+blankClient = freshClient 0
 
 -- ---- one fragment, and two
 
@@ -175,6 +180,16 @@ sumsTo offered total = eqb total offered && leb offered offeredLimit
 unfoldable pub balanced : Client → Bool
 balanced c = sumsTo (c .offered) (figureSum c)
 
+-- how many are live
+unfoldable pub liveCount : List Assembly → ℕ
+liveCount xs = sum (λ a. cond (live a) 1 0) xs
+
+-- no live place past the plan (document 02, R-8)
+unfoldable pub withinPlan : Client → Bool
+withinPlan c = all (λ a. not (live a)) (drop (c .plan) (c .assemblies))
+
 -- the record test
 unfoldable pub soundRecord : Client → Bool
-soundRecord c = all (soundAssembly (c .time)) (c .assemblies) && (keysDiffer (c .assemblies) && (heldRight c && balanced c))
+soundRecord c =
+    all (soundAssembly (c .time)) (c .assemblies)
+    && (keysDiffer (c .assemblies) && (heldRight c && (balanced c && withinPlan c)))

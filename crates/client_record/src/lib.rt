@@ -12,14 +12,11 @@ pub const DATAGRAM_LIMIT: usize = 8192;
 // The fragments of an assembly.
 pub const FRAGMENT_LIMIT: usize = 64;
 
-// The assemblies of a client.
-pub const ASSEMBLY_LIMIT: usize = 4;
+// The assemblies of a client at most: the largest plan.
+pub const ASSEMBLY_LIMIT: usize = 8;
 
 // The bytes of an IPv4 address.
 pub const ADDRESS: usize = 4;
-
-// A client's share of the store: one place for each assembly.
-pub const SHARE: usize = ASSEMBLY_LIMIT * DATAGRAM_LIMIT;
 
 // The bytes of a flow, a held fragment, an assembly and a record: their fields', with no gap between them.
 pub const FLOW_SIZE: usize = 2 * ADDRESS + 4;
@@ -28,7 +25,7 @@ pub const FRAGMENT_SIZE: usize = 8;
 
 pub const ASSEMBLY_SIZE: usize = FLOW_SIZE + 20 + FRAGMENT_LIMIT * FRAGMENT_SIZE;
 
-pub const RECORD_SIZE: usize = 64 + ASSEMBLY_LIMIT * ASSEMBLY_SIZE;
+pub const RECORD_SIZE: usize = 72 + ASSEMBLY_LIMIT * ASSEMBLY_SIZE;
 
 // The clients of a table.
 pub const CLIENT_LIMIT: usize = 12;
@@ -68,10 +65,12 @@ pub struct Assembly {
     pub fragments: [Fragment; FRAGMENT_LIMIT],
 }
 
-// All that is kept of one client beside its share of the store: its last time, the bytes offered, and the six figures that they
-// sum to. `conflicted` is document 01's clashed, `rejected` its turned away.
+// All that is kept of one client beside its share of the store: its plan, which is how many assemblies it may have at once and how
+// many places its share has; its last time, the bytes offered, and the six figures that they sum to. `conflicted` is document 01's
+// clashed, `rejected` its turned away.
 #[repr(C)]
 pub struct Client {
+    pub plan: u64,
     pub time: u64,
     pub offered: u64,
     pub held: u64,
@@ -123,13 +122,14 @@ pub fn fresh_assembly() -> Assembly
     }
 }
 
-// A client before its first call.
-pub fn fresh() -> Client
-    ensures { λ r. ⌜ r ≡ freshClient ⌝ }
+// A client of this plan before its first call.
+pub fn fresh(plan: u64) -> Client
+    ensures { λ r. ⌜ r ≡ freshClient plan ⌝ }
 {
     let unused = fresh_assembly();
     let assemblies = [unused; ASSEMBLY_LIMIT];
     Client {
+        plan: plan,
         time: 0,
         offered: 0,
         held: 0,

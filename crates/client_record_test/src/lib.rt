@@ -99,7 +99,7 @@ fn assembly_tested(a: Assembly, time: u64) -> Tested
 
 // ---- the record
 
-// Whether each assembly passes, and then the bytes of the live fragments.
+// Whether each assembly passes and none is live past the plan, and then the bytes of the live fragments.
 struct Assemblies {
     sound: bool,
     held: u64,
@@ -109,13 +109,15 @@ fn assemblies_tested(c: Client) -> Assemblies
     ensures { λ r. ⌜ AllTest c r ⌝ }
 {
     let time = c.time;
+    let plan = c.plan as usize;
     let mut ok = true;
     let mut total = 0u64;
     let mut i = 0;
     while i < client_record::ASSEMBLY_LIMIT {
         let a = c.assemblies[i];
         let tested = assembly_tested(a, time);
-        ok = client_record::both(ok, tested.sound);
+        let placed = client_record::either(i < plan, !client_record::live(a));
+        ok = client_record::both(ok, client_record::both(tested.sound, placed));
         total += tested.bytes as u64;
         i += 1;
     }
@@ -215,7 +217,7 @@ fn balanced(c: Client) -> bool
     )
 }
 
-// The record test of document 01 (refusal 22).
+// The record test of document 01 (refusal 22), with document 02's clause of the plan.
 pub fn sound(c: Client) -> bool
     ensures { λ r. ⌜ r ≡ soundRecord c ⌝ }
 {

@@ -21,8 +21,8 @@ ghost use Rattle.wire_datagram.specs.Reading.{reading};
 ghost use Rattle.wire_original.specs.Rereading.{rereading};
 ghost use Rattle.list_readings.specs.Catalogue.{walkOfValue};
 ghost use Rattle.list_writer.specs.Answer.{written, datagramFor};
-ghost use Rattle.client_record.specs.Limits.{datagramLimit, shareSize, clientLimit};
-ghost use Rattle.client_ledger.specs.History.{Ask, offering, advancing, accounting};
+ghost use Rattle.client_record.specs.Limits.{datagramLimit, clientLimit};
+ghost use Rattle.client_ledger.specs.History.{offering, advancing, accounting};
 ghost use Rattle.table_rules.specs.Table.{tableOf, resetOn, askOn};
 ghost use Rattle.table_receiver.specs.Receive.{receiveOn};
 ghost use Rattle.host_readings.specs.Reading.{hostReading};
@@ -33,6 +33,7 @@ ghost use Rattle.host_options.specs.Options.{nextIn, renextIn};
 ghost use Rattle.host_values.specs.Answer.{arrivalFrom};
 ghost use Rattle.host_wire.specs.Left.{Lists, Writes};
 ghost use Rattle.host_limits.specs.Layout.{recordSize};
+ghost use Rattle.host_limits.specs.Plans.{shareFor};
 ghost use Rattle.host_calls.specs.Left.{Leaves, Receives};
 
 // ---- reading
@@ -151,18 +152,18 @@ pub extern "C" fn wuraketozo_record_size() -> usize
 // The same under a name that has the number of the header's layout. The header and the wrapper for Rust refer to it, so that a host that was
 // compiled for another layout does not link. The number goes up with every change of a struct or of a call's arguments.
 #[no_mangle]
-pub extern "C" fn wuraketozo_layout_6() -> usize
+pub extern "C" fn wuraketozo_layout_7() -> usize
     ensures { λ r. ⌜ r ≡ recordSize ⌝ }
 {
     wuraketozo_record_size()
 }
 
-// The bytes of a client's share of the store.
+// The bytes of the store for a client of this plan; 0 if there is no such plan.
 #[no_mangle]
-pub extern "C" fn wuraketozo_share_size() -> usize
-    ensures { λ r. ⌜ r ≡ shareSize ⌝ }
+pub extern "C" fn wuraketozo_share_size(plan: u64) -> usize
+    ensures { λ r. ⌜ r ≡ shareFor plan ⌝ }
 {
-    host_limits::share_size()
+    host_limits::share_size(plan)
 }
 
 // The bytes of the smallest out buffer.
@@ -184,7 +185,7 @@ pub extern "C" fn wuraketozo_client_limit() -> usize
 // By hand from here on.
 // ---- the table
 
-// Makes every record fresh.
+// Makes every record fresh, with the plan that it has.
 #[no_mangle]
 pub extern "C" fn wuraketozo_reset(records: &mut [Client], store: &[u8]) -> Answer
     ensures { λ r. ⌜ Leaves (resetOn (tableOf (now (records .entry)) (now (store .entry)))) r (now (records .exit)) (now (store .entry)) [] ⌝ }

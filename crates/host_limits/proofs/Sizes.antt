@@ -24,8 +24,8 @@ use Rattle.host_values.proofs.Fragment.Laws as Fragment
 use Rattle.host_values.proofs.Received.Laws as Received
 use Rattle.host_limits.specs.Layout.{recordSize, fieldBytes}
 
--- eight numbers, and for each assembly its flow, three more numbers and its fragments
-pub record-size-is : recordSize ≡ 64 + assemblyLimit * (12 + 20 + fragmentLimit * 8)
+-- nine numbers, and for each assembly its flow, three more numbers and its fragments
+pub record-size-is : recordSize ≡ 72 + assemblyLimit * (12 + 20 + fragmentLimit * 8)
 unfolding recordSize assemblyLimit fragmentLimit
 record-size-is = refl
 

@@ -1,7 +1,8 @@
 // The sizes and limits that a host asks for; `host_calls` exports them.
 ghost use mathlib.Core.Path.{_≡_};
-ghost use Rattle.client_record.specs.Limits.{datagramLimit, shareSize, clientLimit};
+ghost use Rattle.client_record.specs.Limits.{datagramLimit, clientLimit};
 ghost use Rattle.host_limits.specs.Layout.{recordSize};
+ghost use Rattle.host_limits.specs.Plans.{shareFor};
 
 // The bytes of a record. `recordSize` is the size of the layout, so no other number is proved.
 pub fn record_size() -> usize
@@ -10,11 +11,15 @@ pub fn record_size() -> usize
     client_record::RECORD_SIZE
 }
 
-// The bytes of a client's share of the store.
-pub fn share_size() -> usize
-    ensures { λ r. ⌜ r ≡ shareSize ⌝ }
+// The bytes of the store for a client of this plan; 0 if there is no such plan.
+pub fn share_size(plan: u64) -> usize
+    ensures { λ r. ⌜ r ≡ shareFor plan ⌝ }
 {
-    client_record::SHARE
+    let places = plan as usize;
+    if client_record::ASSEMBLY_LIMIT < places {
+        return 0;
+    }
+    places * client_record::DATAGRAM_LIMIT
 }
 
 // The bytes of the smallest out buffer.

@@ -73,6 +73,7 @@ answer-recovered (Refused No.TimeBeforeLast) = refl
 answer-recovered (Refused No.OfferedPastLimit) = refl
 answer-recovered (Refused No.NoFreeAssembly) = refl
 answer-recovered (Refused No.AssemblyFull) = refl
+answer-recovered (Refused No.PlanOutOfRange) = refl
 answer-recovered Reset = refl
 answer-recovered Stored = refl
 answer-recovered Repeated = refl

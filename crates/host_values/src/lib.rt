@@ -136,6 +136,7 @@ fn table_number(refusal: client_reassembly::Refusal) -> u32
         client_reassembly::Refusal::OfferedPastLimit => 28,
         client_reassembly::Refusal::NoFreeAssembly => 29,
         client_reassembly::Refusal::AssemblyFull => 30,
+        client_reassembly::Refusal::PlanOutOfRange => 32,
     }
 }
 

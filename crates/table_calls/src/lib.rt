@@ -1,39 +1,33 @@
-// The table of up to 12 clients (document 01, "The table"): a lent slice of records, one per client, beside a lent store with
-// a share for each. A call takes its client's record out, lends the client's share of the store to the client's own rules, and puts the record
-// back. No call asks anything of its arguments: every refusal is an answer.
+// The table of up to 12 clients (document 01, "The table"; plans: document 02, R-8): a lent slice of records, one per client, beside a lent store
+// with a share for each, as long as the client's plan says. What every call meets first is `table_admission`'s. Behind it a call takes its
+// client's record out, lends the client's share of the store to the client's own rules, and puts the record back. No call asks anything of
+// its arguments: every refusal is an answer.
 use client_reassembly::Answer;
 use client_reassembly::Arrival;
-use client_reassembly::Refusal;
 use client_reassembly::Step;
 use client_record::Client;
 ghost use mathlib.Core.Path.{_≡_};
 ghost use mathlib.Core.List.{[]};
-ghost use Rattle.client_ledger.specs.History.{Ask, offering, advancing, accounting};
-ghost use Rattle.table_rules.specs.Table.{sized, tableOf, resetOn, askOn, Leaves};
+ghost use Prim.Native.Nat.{_≤_};
+ghost use Rattle.client_record.specs.Limits.{assemblyLimit, shareSize};
+ghost use Rattle.client_record.specs.Record.{freshClient};
+ghost use Rattle.client_ledger.specs.History.{offering, advancing, accounting};
+ghost use Rattle.table_rules.specs.Table.{tableOf, resetOn, askOn, Leaves};
 
-// Document 01's test for refusal 20: 1 to 12 records, and a share of the store for each.
-fn sized(count: usize, bytes: usize) -> bool
-    ensures { λ r. ⌜ r ≡ sized (record { count = count; bytes = bytes }) ⌝ }
+// The bytes of a client's share of the store.
+fn share_of(client: Client) -> usize
+    requires { ⌜ client .plan ≤ assemblyLimit ⌝ }
+    ensures { λ r. ⌜ r ≡ shareSize (client .plan) ⌝ }
 {
-    if count < 1 {
-        return false;
-    }
-    if client_record::CLIENT_LIMIT < count {
-        return false;
-    }
-    bytes == count * client_record::SHARE
+    let plan = client.plan as usize;
+    plan * client_record::DATAGRAM_LIMIT
 }
 
-fn misfit() -> Answer
-    ensures { λ r. ⌜ r ≡ Answer.Refused Refusal.TableMisfit ⌝ }
+// A fresh record with the client's plan.
+fn fresh_of(client: Client) -> Client
+    ensures { λ r. ⌜ r ≡ freshClient (client .plan) ⌝ }
 {
-    Answer::Refused(Refusal::TableMisfit)
-}
-
-fn unknown() -> Answer
-    ensures { λ r. ⌜ r ≡ Answer.Refused Refusal.NoSuchClient ⌝ }
-{
-    Answer::Refused(Refusal::NoSuchClient)
+    client_record::fresh(client.plan)
 }
 
 fn was_reset() -> Answer
@@ -57,17 +51,19 @@ fn answer_of(step: Step) -> Answer
 }
 
 // By hand from here on.
-// Document 01's set-up: every record is fresh, and the store stays.
+// Document 01's set-up: every record is fresh, with the plan that it has, and the store stays.
 pub fn reset(records: &mut [Client], store: &[u8]) -> Answer
     ensures { λ r. ⌜ Leaves (resetOn (tableOf (now (records .entry)) (now (store .entry)))) r (now (records .exit)) (now (store .entry)) [] ⌝ }
 {
-    if !sized(records.len(), store.len()) {
-        return misfit();
+    let admission = table_admission::admit(records, store.len(), 0);
+    if !table_admission::is_granted(admission) {
+        return table_admission::refusal_of(admission);
     }
-    let fresh = client_record::fresh();
     let mut i = 0;
     while i < records.len() {
-        records[i] = fresh;
+        let client = records[i];
+        let next = fresh_of(client);
+        records[i] = next;
         i += 1;
     }
     was_reset()
@@ -84,17 +80,16 @@ pub fn offer(
 ) -> Answer
     ensures { λ r. ⌜ Leaves (askOn k (offering arrival (now (bytes .entry)) (now (out .entry))) (tableOf (now (records .entry)) (now (store .entry)))) r (now (records .exit)) (now (store .exit)) (now (out .exit)) ⌝ }
 {
-    if !sized(records.len(), store.len()) {
-        return misfit();
-    }
-    if records.len() <= k {
-        return unknown();
+    let admission = table_admission::admit(records, store.len(), k);
+    if !table_admission::is_granted(admission) {
+        return table_admission::refusal_of(admission);
     }
     let client = records[k];
-    let start = k * client_record::SHARE;
-    let end = start + client_record::SHARE;
+    let start = table_admission::start_of(admission);
+    let end = start + share_of(client);
     let step = client_offer::offer(client, &mut store[start..end], out, arrival, bytes);
-    records[k] = client_of(step);
+    let next = client_of(step);
+    records[k] = next;
     answer_of(step)
 }
 
@@ -102,15 +97,14 @@ pub fn offer(
 pub fn advance(records: &mut [Client], store: &[u8], k: usize, time: u64) -> Answer
     ensures { λ r. ⌜ Leaves (askOn k (advancing time) (tableOf (now (records .entry)) (now (store .entry)))) r (now (records .exit)) (now (store .entry)) [] ⌝ }
 {
-    if !sized(records.len(), store.len()) {
-        return misfit();
-    }
-    if records.len() <= k {
-        return unknown();
+    let admission = table_admission::admit(records, store.len(), k);
+    if !table_admission::is_granted(admission) {
+        return table_admission::refusal_of(admission);
     }
     let client = records[k];
     let step = client_reassembly::advance(client, time);
-    records[k] = client_of(step);
+    let next = client_of(step);
+    records[k] = next;
     answer_of(step)
 }
 
@@ -118,11 +112,9 @@ pub fn advance(records: &mut [Client], store: &[u8], k: usize, time: u64) -> Ans
 pub fn account(records: &[Client], store: &[u8], k: usize) -> Answer
     ensures { λ r. ⌜ Leaves (askOn k accounting (tableOf (now (records .entry)) (now (store .entry)))) r (now (records .entry)) (now (store .entry)) [] ⌝ }
 {
-    if !sized(records.len(), store.len()) {
-        return misfit();
-    }
-    if records.len() <= k {
-        return unknown();
+    let admission = table_admission::admit(records, store.len(), k);
+    if !table_admission::is_granted(admission) {
+        return table_admission::refusal_of(admission);
     }
     let client = records[k];
     answer_of(client_reassembly::account(client))

@@ -19,6 +19,7 @@ use Rattle.wire_datagram.specs.Reading.{Answer}
 use Rattle.client_ledger.specs.Book as Book
 use Rattle.client_ledger.specs.Book.{Content, size}
 use Rattle.client_ledger.specs.Whole.{Whole, handed, Taken, assembled}
+use Rattle.client_ledger.specs.Lent.{since}
 use Rattle.client_ledger.specs.History.{Given}
 use Rattle.table_rules.specs.Table.{Table, lentOf, shareOf, recordOf, askOn}
 use Rattle.table_rules.specs.Events.{current, another, Event, resetting, asking, tableFor, next, final, givenBy, gives, ownOnly}
@@ -157,7 +158,7 @@ module _ (t : Table) (cs : List Call) (terms : Terms t (allEvents cs)) where
   unfolding allEvents
   table-is = finally-is (opening cs) t
 
-  answers-owed : (k : ℕ) → answersTo k t (opening cs) ≡ owes k (lentOf t) [] (Table.opening (allEvents cs))
+  answers-owed : (k : ℕ) → answersTo k t (opening cs) ≡ owes k (lentOf t) (since k (lentOf t)) (Table.opening (allEvents cs))
   unfolding allEvents
   answers-owed k = tells-is k (opening cs) t ∙ demand-3 .answers t (allEvents cs) terms k
 

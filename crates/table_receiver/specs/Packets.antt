@@ -16,6 +16,7 @@ use Rattle.client_ledger.specs.Book as Book
 use Rattle.client_ledger.specs.Book.{Book, Content, size, Offer}
 use Rattle.client_ledger.specs.Stands as Stands
 use Rattle.client_ledger.specs.Whole.{Whole, handed, Taken, assembled}
+use Rattle.client_ledger.specs.Lent.{since}
 use Rattle.client_ledger.specs.History.{Ask, Given}
 use Rattle.table_rules.specs.Table.{Table, lentOf, shareOf, recordOf, resetOn, askOn}
 use Rattle.table_rules.specs.Events.{Lending, current, another, Event, resetting, asking, tableFor, next, givenBy}
@@ -126,7 +127,7 @@ pub record OverPayloads : Type 0 where
   -- the table after a mixed list is the one that its fragments and its other calls leave: so what demand 3 says of any call that follows holds here
   pub events : (t : Table) (cs : List Call) → Terms t (allEvents cs) → tableAfter t cs ≡ Table.tableAfter t (allEvents cs)
   pub answers : (t : Table) (cs : List Call) → Terms t (allEvents cs) → (k : ℕ)
-      → answersTo k t (opening cs) ≡ owes k (lentOf t) [] (Table.opening (allEvents cs))
+      → answersTo k t (opening cs) ≡ owes k (lentOf t) (since k (lentOf t)) (Table.opening (allEvents cs))
   pub accounts : (t : Table) (cs : List Call) → Terms t (allEvents cs) → (k : ℕ) → k < length (tableAfter t cs .records)
       → figures (recordOf k (tableAfter t cs)) ≡ Book.figures (bookFrom k t cs)
   pub sum : (t : Table) (cs : List Call) → Terms t (allEvents cs) → (k : ℕ) → k < length (tableAfter t cs .records)

@@ -3,9 +3,9 @@
 -- Assumes nothing.
 use Prim.Native.Nat.{ℕ, _<_}
 use mathlib.Core.Path.{_≡_, refl, sym, ap, ap₂, subst, _∙_}
-use mathlib.Core.Bool.{Bool, true, false, not, cond}
-use mathlib.Core.List.{List, [], _∷_, _++_}
-use mathlib.Core.Option.{some}
+use mathlib.Core.Bool.{Bool, true, false}
+use mathlib.Core.List.{List, _∷_, _++_}
+use mathlib.Core.Option.{Option, some}
 use mathlib.Core.Logic.{_↔_}
 use native.Mathlib.Omega.{arith}
 use lib.Dec.{ltb}
@@ -18,7 +18,7 @@ use Rattle.client_reassembly.specs.Answer.{refused, delivered}
 use Rattle.client_reassembly.specs.Advance.{figures}
 use Rattle.client_ledger.specs.Book as Book
 use Rattle.client_ledger.specs.Book.{Content, size, endOf, lastOne, bytesTo, fragment}
-use Rattle.client_ledger.specs.Lent.{Own, answered, bookOf}
+use Rattle.client_ledger.specs.Lent.{Own, Past, since, answered, bookOf}
 use Rattle.client_ledger.specs.Stands.{Stands, offerOf}
 use Rattle.client_ledger.specs.History.{Lent, Ask, offering, Given}
 use Rattle.client_ledger.specs.Whole.{Whole, handed, Taken, assembled}
@@ -29,40 +29,40 @@ use Rattle.client_ledger.proofs.Placed.{each-placed}
 use Rattle.client_ledger.proofs.Delivered.{own-delivery, own-bytes, own-untouched}
 use Rattle.table_rules.specs.Table.{Table, lentOf, sized, shareOf, recordOf, After, cleared, askOn}
 use Rattle.table_rules.specs.Events.{Event, current, resetting, final, givenBy, gives, ownOnly}
-use Rattle.table_rules.specs.Owed.{givenIn, history, owes, sizesAfter, pastAfter}
+use Rattle.table_rules.specs.Owed.{givenIn, taken, history, owes, sizesAfter, pastAfter}
 use Rattle.table_rules.specs.Apart.{Sums, Same}
 use Rattle.table_rules.specs.Demand3.{Terms, opening, tableAfter, bookAfter, Demand3}
 use Rattle.table_rules.proofs.Facts.{unknown-is, granted-is}
-use Rattle.table_rules.proofs.Tests.{misfit-agrees}
 use Rattle.table_rules.proofs.Apart.{cleared-sizes, cleared-formed, cleared-tested, opens, apart}
-use Rattle.table_rules.proofs.Steps.{Holds, call-answer, cleared-holds}
+use Rattle.table_rules.proofs.Steps.{Holds, fits-too, call-answer, cleared-holds}
 use Rattle.table_rules.proofs.Lists.{reset-answer, answers-all, final-holds}
 
 -- ---- the set-up that opens the list
 
--- the book's side starts with the sizes of that table and no call
+-- the book's side starts with the sizes and plans of that table and no call
 opens-sizes : (t : Table) → sized (lentOf t) ≡ true → sizesAfter (lentOf t) (resetting current) ≡ lentOf (cleared t)
-opens-sizes t e = ap (λ (x : Bool). cond x (lentOf t) (lentOf t)) (misfit-agrees (lentOf t) ∙ ap not e) ∙ sym (cleared-sizes t)
+opens-sizes t e = ap (λ (r : Option ℕ). taken r (lentOf t) (lentOf t)) (fits-too (lentOf t) e) ∙ sym (cleared-sizes t)
 
-opens-past : (k : ℕ) (t : Table) → sized (lentOf t) ≡ true → pastAfter k (lentOf t) [] (resetting current) ≡ []
-opens-past k t e = ap (λ (x : Bool). cond {A = List Own} x [] []) (misfit-agrees (lentOf t) ∙ ap not e)
+opens-past : (k : ℕ) (t : Table) → sized (lentOf t) ≡ true
+    → pastAfter k (lentOf t) (since k (lentOf t)) (resetting current) ≡ since k (lentOf t)
+opens-past k t e = ap (λ (r : Option ℕ). taken r (since k (lentOf t)) (since k (lentOf t))) (fits-too (lentOf t) e)
 
 module _ (t : Table) (es : List Event) (terms : Terms t es) where
-  start : Holds (cleared t) (λ k. bookOf [])
+  start : Holds (cleared t) (λ k. bookOf (since k (lentOf t)))
   start = cleared-holds t (terms .fits)
 
   table-is : tableAfter t es ≡ final (cleared t) es
   unfolding final
   table-is = ap (λ (u : Table). final u es) (opens t (terms .fits))
 
-  book-is : (k : ℕ) → bookAfter k t es ≡ bookOf (history k (lentOf (cleared t)) [] es)
+  book-is : (k : ℕ) → bookAfter k t es ≡ bookOf (history k (lentOf (cleared t)) (since k (lentOf t)) es)
   unfolding history
-  book-is k = ap₂ (λ (l : Lent) (past : List Own). bookOf (history k l past es)) (opens-sizes t (terms .fits)) (opens-past k t (terms .fits))
+  book-is k = ap₂ (λ (l : Lent) (past : Past). bookOf (history k l past es)) (opens-sizes t (terms .fits)) (opens-past k t (terms .fits))
 
   -- after the list every record and share stands for its client's book
   pub stands-all : Holds (tableAfter t es) (λ k. bookAfter k t es)
   stands-all =
-      let h = final-holds es (cleared t) (λ k. []) start (terms .keeps) in
+      let h = final-holds es (cleared t) (λ k. since k (lentOf t)) start (terms .keeps) in
       let each = h .each in
       record {
         fit = subst (λ (u : Table). sized (lentOf u) ≡ true) (sym table-is) (h .fit);
@@ -72,12 +72,12 @@ module _ (t : Table) (es : List Event) (terms : Terms t es) where
             (each k (subst (λ (u : Table). k < length (u .records)) table-is in-it)));
       }
 
-  answers-given : (k : ℕ) → gives k t (opening es) ≡ owes k (lentOf t) [] (opening es)
+  answers-given : (k : ℕ) → gives k t (opening es) ≡ owes k (lentOf t) (since k (lentOf t)) (opening es)
   unfolding gives owes
   answers-given k =
       ap₂ _∷_ (reset-answer t)
-      (ap (λ (u : Table). gives k u es) (opens t (terms .fits)) ∙ answers-all k es (cleared t) (λ j. []) start (terms .keeps)
-      ∙ sym (ap₂ (λ (l : Lent) (past : List Own). owes k l past es) (opens-sizes t (terms .fits)) (opens-past k t (terms .fits))))
+      (ap (λ (u : Table). gives k u es) (opens t (terms .fits)) ∙ answers-all k es (cleared t) (λ j. since j (lentOf t)) start (terms .keeps)
+      ∙ sym (ap₂ (λ (l : Lent) (past : Past). owes k l past es) (opens-sizes t (terms .fits)) (opens-past k t (terms .fits))))
 
   -- a fragment call after the list
   module _ (k : ℕ) (o : Arrival) (bytes out : List ℕ) where
@@ -119,7 +119,7 @@ module _ (t : Table) (es : List Event) (terms : Terms t es) where
         let there = both .0 in
         let w = there d in
         let fs : List Content = assembled (offerOf o bytes) (bookAfter k t es) in
-        let calm : pairs follows fs ≡ true = assembled-pairs (history k (lentOf t) [] (opening es)) (offerOf o bytes) (w .0 .fitting) in
+        let calm : pairs follows fs ≡ true = assembled-pairs (history k (lentOf t) (since k (lentOf t)) (opening es)) (offerOf o bytes) (w .0 .fitting) in
         let whole = w .1 in
         let out-is : askOn k (offering o bytes out) (tableAfter t es) .out ≡ bytesTo (endOf (whole .last)) (before ++ g ∷ behind) ++ drop n out =
         bytes-delivered n r d ∙ ap₂ (λ (m : ℕ) (l : List Content). bytesTo m l ++ drop n out) (sym (whole .length-is)) same-list in
@@ -171,7 +171,7 @@ isolated : (t : Table) (es es′ : List Event) → Terms t es → Terms t es′ 
 unfolding gives final
 isolated t es es′ terms terms′ k same =
     let formed = cleared-formed t (terms .fits) in
-    let self : Same k (cleared t) (cleared t) = record { sizes = refl; client = refl; share = refl } in
+    let self : Same k (cleared t) (cleared t) = record { count = refl; client = refl; share = refl } in
     let i = apart .isolation k (cleared t) (cleared t) es es′ formed formed self (terms .keeps) (terms′ .keeps) same in
     let start = opens t (terms .fits) in (
       ap₂ _∷_ refl (ap (λ (u : Table). gives k u es) start ∙ i .0 ∙ sym (ap (λ (u : Table). gives k u es′) start)),

@@ -3,33 +3,38 @@
 -- Assumes nothing.
 use Prim.Native.Nat.{ℕ}
 use mathlib.Core.Path.{_≡_, refl, sym, ap, ap₂, subst, _∙_}
-use mathlib.Core.Bool.{Bool, true, false, not, cond}
+use mathlib.Core.Bool.{Bool, true, false, cond}
 use mathlib.Core.List.{List, [], _∷_}
+use mathlib.Core.Option.{Option, none, some}
 use lib.Dec.{eqb}
 use borrow.Author.Tests.{eqb-true}
-use Rattle.client_reassembly.specs.Answer.{refused, ready}
-use Rattle.client_ledger.specs.Lent.{Own, answered, bookOf}
-use Rattle.client_ledger.specs.History.{Lent}
-use Rattle.table_rules.specs.Table.{Table, lentOf, sized, resetOn, askOn}
+use Rattle.number_tests.specs.Tests.{firstOf}
+use Rattle.client_reassembly.specs.Answer.{ready}
+use Rattle.client_ledger.specs.Lent.{Past, answered, bookOf}
+use Rattle.client_ledger.specs.History.{Lent, Given}
+use Rattle.table_rules.specs.Table.{Table, lentOf, sizeTests, refuseOr, cleared, resetOn, askOn}
 use Rattle.table_rules.specs.Events.{Lending, current, another, Event, resetting, asking, tableFor, next, final, givenBy, gives, Keeps}
-use Rattle.table_rules.specs.Owed.{sizesFor, ownCall, pastAfter, history, givenIn, resetOwes, owes}
-use Rattle.table_rules.proofs.Facts.{reset-refused, reset-taken}
-use Rattle.table_rules.proofs.Tests.{misfit-agrees}
+use Rattle.table_rules.specs.Owed.{sizesFor, ownCall, pastAfter, history, givenIn, resetReply, resetOwes, owes}
+use Rattle.table_rules.proofs.Tests.{size-tests-agree}
 use Rattle.table_rules.proofs.Steps.{Holds, call-answer, event-next}
 
 -- a set-up's answer
 pub reset-answer : (u : Table) → givenBy (resetOn u) ≡ resetOwes (lentOf u)
-reset-answer u = go (sized (lentOf u)) refl ∙ ap (λ (x : Bool). record { reply = cond x (refused 20) ready; out = [] }) (sym (misfit-agrees (lentOf u)))
+unfolding resetOn
+reset-answer u = go (firstOf (sizeTests (lentOf u))) ∙ ap (λ (r : Option ℕ). answer r) (sym (ap firstOf (size-tests-agree (lentOf u))))
   where
-    go : (x : Bool) → sized (lentOf u) ≡ x → givenBy (resetOn u) ≡ record { reply = cond (not (sized (lentOf u))) (refused 20) ready; out = [] }
-    go true e = ap givenBy (reset-taken u e) ∙ ap (λ (x : Bool). record { reply = cond (not x) (refused 20) ready; out = [] }) (sym e)
-    go false e = ap givenBy (reset-refused u e) ∙ ap (λ (x : Bool). record { reply = cond (not x) (refused 20) ready; out = [] }) (sym e)
+    answer : Option ℕ → Given
+    answer r = record { reply = resetReply r; out = [] }
+
+    go : (r : Option ℕ) → givenBy (refuseOr u [] r (record { table = cleared u; out = []; reply = ready })) ≡ answer r
+    go none = refl
+    go (some n) = refl
 
 sizes-lent : (g : Lending) (t : Table) → lentOf (tableFor g t) ≡ sizesFor g (lentOf t)
 sizes-lent current t = refl
 sizes-lent (another u) t = refl
 
-pub answers-all : (k : ℕ) (es : List Event) (t : Table) (past : ℕ → List Own) → Holds t (λ j. bookOf (past j)) → Keeps es
+pub answers-all : (k : ℕ) (es : List Event) (t : Table) (past : ℕ → Past) → Holds t (λ j. bookOf (past j)) → Keeps es
     → gives k t es ≡ owes k (lentOf t) (past k) es
 unfolding gives owes
 answers-all k [] t past h keeps = refl
@@ -59,7 +64,7 @@ answers-all k (asking g j a ∷ es) t past h keeps =
     go false e rest = rest
 
 -- after the list
-pub final-holds : (es : List Event) (t : Table) (past : ℕ → List Own) → Holds t (λ j. bookOf (past j)) → Keeps es
+pub final-holds : (es : List Event) (t : Table) (past : ℕ → Past) → Holds t (λ j. bookOf (past j)) → Keeps es
     → Holds (final t es) (λ j. bookOf (history j (lentOf t) (past j) es))
 unfolding final history
 final-holds [] t past h keeps = h

@@ -1,17 +1,18 @@
--- The book's tests for 20 and 21, from document 01's words, agree with the table's, which are those of the code's contract.
+-- The book's tests for 20, 32 and 21, from the papers' words, agree with the table's, which are those of the code's contract.
 -- Assumes nothing.
-use Prim.Native.Nat.{ℕ, _*_}
+use Prim.Native.Nat.{ℕ, _+_, _*_}
 use mathlib.Core.Path.{_≡_, refl, sym, ap, ap₂, _∙_}
 use mathlib.Core.Bool.{Bool, true, false, not, _&&_, _||_}
-use mathlib.Core.List.{[], _∷_}
+use mathlib.Core.List.{List, [], _∷_, _++_}
 use native.Mathlib.Nat.{mul-comm}
 use native.Mathlib.Omega.{arith}
 use lib.Dec.{leb, ltb, eqb}
 use borrow.Author.Tests.{ltb-true, ltb-false, eqb-true, eqb-false, le-leb, lt-leb, eq-eqb, ne-eqb}
-use Rattle.client_record.specs.Limits.{shareSize, clientLimit}
-use Rattle.client_ledger.specs.Lent.{countOff, storeOff, misfits, noClient, lentTests}
+use Rattle.client_record.specs.Limits.{datagramLimit, shareSize, assemblyLimit, clientLimit}
+use Rattle.client_record.specs.Lists.{all, any, sum}
+use Rattle.client_ledger.specs.Lent.{countOff, planOff, plansOff, storeOff, tableTests, noClient, lentTests}
 use Rattle.client_ledger.specs.History.{Lent}
-use Rattle.table_rules.specs.Table.{sized, askTests}
+use Rattle.table_rules.specs.Table.{counted, inRange, sharesOf, sizeTests, askTests}
 
 -- ---- numbers
 
@@ -36,27 +37,57 @@ eqb-swap n m = go (eqb n m) refl
     go true e = sym (eq-eqb m n (sym (eqb-true n m e)))
     go false e = sym (ne-eqb m n (λ q. eqb-false n m e (sym q)))
 
-one-of-three : (x y z : Bool) → (x || y) || not z ≡ not (not x && (not y && z))
-one-of-three true y z = refl
-one-of-three false true z = refl
-one-of-three false false z = refl
+one-of-two : (x y : Bool) → x || y ≡ not (not x && not y)
+one-of-two true y = refl
+one-of-two false true = refl
+one-of-two false false = refl
+
+-- from 1 to m, or not
+out-of : (n m : ℕ) → eqb n 0 || ltb m n ≡ not (leb 1 n && leb n m)
+out-of n m =
+    one-of-two (eqb n 0) (ltb m n) ∙ ap₂ (λ (x y : Bool). not (x && y)) (sym (none-or-some n)) (sym (within-or-past n m))
 
 -- ---- the tests
 
-pub misfit-agrees : (l : Lent) → misfits l ≡ not (sized l)
-unfolding misfits countOff storeOff sized
-misfit-agrees l =
-    ap (λ (z : Bool). (eqb (l .count) 0 || ltb clientLimit (l .count)) || not z)
-    (ap (λ (n : ℕ). eqb n (l .bytes)) (mul-comm shareSize (l .count)) ∙ eqb-swap (l .count * shareSize) (l .bytes))
-    ∙ one-of-three (eqb (l .count) 0) (ltb clientLimit (l .count)) (eqb (l .bytes) (l .count * shareSize))
-    ∙ ap₂ (λ (x y : Bool). not (x && (y && eqb (l .bytes) (l .count * shareSize)))) (sym (none-or-some (l .count)))
-    (sym (within-or-past (l .count) clientLimit))
+count-agrees : (l : Lent) → countOff l ≡ not (counted (l .count))
+unfolding countOff counted
+count-agrees l = out-of (l .count) clientLimit
+
+plan-agrees : (plan : ℕ) → planOff plan ≡ not (inRange plan)
+unfolding planOff inRange
+plan-agrees plan = out-of plan assemblyLimit
+
+not-both : (x y : Bool) → not x || not y ≡ not (x && y)
+not-both true y = refl
+not-both false y = refl
+
+any-plan : (ps : List ℕ) → any planOff ps ≡ not (all inRange ps)
+unfolding any all
+any-plan [] = refl
+any-plan (p ∷ ps) = ap₂ _||_ (plan-agrees p) (any-plan ps) ∙ not-both (inRange p) (all inRange ps)
+
+plans-agree : (l : Lent) → plansOff l ≡ not (all inRange (l .plans))
+unfolding plansOff
+plans-agree l = any-plan (l .plans)
+
+shares-agree : (ps : List ℕ) → sum (λ plan. datagramLimit * plan) ps ≡ sharesOf ps
+unfolding sharesOf sum shareSize
+shares-agree [] = refl
+shares-agree (p ∷ ps) = ap₂ _+_ (mul-comm datagramLimit p) (shares-agree ps)
+
+store-agrees : (l : Lent) → storeOff l ≡ not (eqb (l .bytes) (sharesOf (l .plans)))
+unfolding storeOff
+store-agrees l = ap not (ap (λ (n : ℕ). eqb n (l .bytes)) (shares-agree (l .plans)) ∙ eqb-swap (sharesOf (l .plans)) (l .bytes))
 
 pub client-agrees : (l : Lent) (k : ℕ) → noClient l k ≡ leb (l .count) k
 unfolding noClient
 client-agrees l k = sym (within-or-past (l .count) k)
 
--- the two lists of tests are the same
+-- the lists of tests are the same
+pub size-tests-agree : (l : Lent) → tableTests l ≡ sizeTests l
+unfolding tableTests sizeTests
+size-tests-agree l = λ i. (count-agrees l i, 20) ∷ (plans-agree l i, 32) ∷ (store-agrees l i, 20) ∷ []
+
 pub tests-agree : (l : Lent) (k : ℕ) → lentTests l k ≡ askTests l k
 unfolding lentTests askTests
-tests-agree l k = ap₂ (λ (x y : Bool). (x, 20) ∷ (y, 21) ∷ []) (misfit-agrees l) (client-agrees l k)
+tests-agree l k = ap₂ (λ (xs : List (Bool × ℕ)) (y : Bool). xs ++ (y, 21) ∷ []) (size-tests-agree l) (client-agrees l k)

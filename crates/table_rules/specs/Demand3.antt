@@ -2,7 +2,7 @@
 use Prim.Native.Nat.{ℕ, _<_}
 use mathlib.Core.Path.{_≡_}
 use mathlib.Core.Bool.{true}
-use mathlib.Core.List.{List, [], _∷_, _++_}
+use mathlib.Core.List.{List, _∷_, _++_}
 use mathlib.Core.Logic.{_↔_}
 use lib.ListN.{length}
 use Rattle.number_octets.specs.Octets.{part}
@@ -11,7 +11,7 @@ use Rattle.client_reassembly.specs.Answer.{refused, delivered}
 use Rattle.client_reassembly.specs.Advance.{figures}
 use Rattle.client_ledger.specs.Book as Book
 use Rattle.client_ledger.specs.Book.{Book, Content, size}
-use Rattle.client_ledger.specs.Lent.{bookOf}
+use Rattle.client_ledger.specs.Lent.{since, bookOf}
 use Rattle.client_ledger.specs.Stands.{offerOf}
 use Rattle.client_ledger.specs.History.{Ask, offering}
 use Rattle.client_ledger.specs.Whole.{Whole, handed, Taken, assembled}
@@ -20,7 +20,7 @@ use Rattle.table_rules.specs.Events.{Event, resetting, current, final, g
 use Rattle.table_rules.specs.Owed.{history, owes}
 use Rattle.table_rules.specs.Apart.{Sums}
 
--- the list opens with a set-up that is taken: the table has the sizes that 20 asks for, and the calls behind it keep the terms
+-- the list opens with a set-up that is taken: 20 and 32 let the table pass, and the calls behind it keep the terms
 pub record Terms (t : Table) (es : List Event) : Type 0 where
   pub fits : sized (lentOf t) ≡ true
   pub keeps : Keeps es
@@ -35,11 +35,12 @@ tableAfter t es = final t (opening es)
 
 -- client k's plain book after the list, from its own calls alone
 abbrev pub bookAfter : ℕ → Table → List Event → Book
-bookAfter k t es = bookOf (history k (lentOf t) [] (opening es))
+bookAfter k t es = bookOf (history k (lentOf t) (since k (lentOf t)) (opening es))
 
 pub record Demand3 : Type 0 where
   -- every answer and every byte of out is the book's
-  pub answers : (t : Table) (es : List Event) → Terms t es → (k : ℕ) → gives k t (opening es) ≡ owes k (lentOf t) [] (opening es)
+  pub answers : (t : Table) (es : List Event) → Terms t es → (k : ℕ) → gives k t (opening es)
+      ≡ owes k (lentOf t) (since k (lentOf t)) (opening es)
   -- offered and the six figures are the book's
   pub accounts : (t : Table) (es : List Event) → Terms t es → (k : ℕ) → k < length (tableAfter t es .records)
       → figures (recordOf k (tableAfter t es)) ≡ Book.figures (bookAfter k t es)

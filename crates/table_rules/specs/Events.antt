@@ -46,7 +46,7 @@ gives k t (asking g j a ∷ es) =
 
 -- ---- the terms of a list
 
--- "every call up to the next set-up taken, save one that 20 refuses, gets that same whole table"
+-- "every call up to the next set-up taken, save one that 20 [or 32] refuses, gets that same whole table"
 abbrev pub Allowed : Event → Type 0
 Allowed (resetting g) = Unit {0}
 Allowed (asking current k a) = Unit {0}

@@ -125,6 +125,31 @@ fn growth(results: &[Result]) -> String {
     text
 }
 
+/// What each of the 11 other clients of a table adds to a call, over the same
+/// call where there is no other.
+fn further(results: &[Result]) -> String {
+    let mut text = String::from(
+        "| for each further client, ns | library | plain | good |\n|---|---|---|---|\n",
+    );
+    for many in results {
+        let Some((call, rest)) = many.name.split_once(", client ") else {
+            continue;
+        };
+        let Some((client, held)) = rest.split_once(" of 12,") else {
+            continue;
+        };
+        let alone = format!("{call}, client 0 of 1,{held}");
+        if let Some(alone) = results.iter().find(|result| result.name == alone) {
+            let times = many.times.iter().zip(&alone.times);
+            let cells: Vec<String> = times
+                .map(|(many, alone)| format!("{:.1}", (many - alone) / 11.0))
+                .collect();
+            text += &format!("| {call}, client {client} | {} |\n", cells.join(" | "));
+        }
+    }
+    text
+}
+
 fn tables(results: &[Result]) -> String {
     [
         table(
@@ -138,6 +163,7 @@ fn tables(results: &[Result]) -> String {
             results,
         ),
         growth(results),
+        further(results),
     ]
     .join("\n")
 }

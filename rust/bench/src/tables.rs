@@ -1,13 +1,15 @@
 //! The table's cases: the same calls on the library's table and on the
-//! reference's two, the plain one and the good one, on each of 12 clients.
+//! reference's two, the plain one and the good one, on each of 12 clients or on
+//! one of them.
 
 use crate::cases::{bytes, Case, Make, Side, FLOW, PLAIN, PLAIN_FLOW};
 use reference as plain;
 use reference::generate::Random;
 use reference::{swift, Answer};
 use std::hint::black_box;
+use std::ops::Range;
 use std::rc::Rc;
-use wuraketozo::{Arrival, Client, Place, Received, Refusal, ORIGINAL_LIMIT, SHARE};
+use wuraketozo::{Arrival, Client, Place, Plan, Received, Refusal, CLIENT_LIMIT, ORIGINAL_LIMIT};
 
 /// When every call comes, in ms.
 const TIME: u64 = 1_000;
@@ -33,30 +35,53 @@ enum Work {
 }
 
 impl Work {
+    /// The calls on one client in a turn.
     fn calls(&self) -> usize {
-        self.clients().count()
-            * match self {
-                Work::Offer(pieces) => pieces.len(),
-                Work::Receive(payloads) => payloads.len(),
-                Work::Clock | Work::Account => 1,
-            }
-    }
-
-    /// The clients in turn: eight times where the work changes nothing, so
-    /// that short calls make a long batch.
-    fn clients(&self) -> impl Iterator<Item = usize> {
-        let rounds = match self {
-            Work::Offer(_) | Work::Receive(_) => 1,
-            Work::Clock | Work::Account => 8,
-        };
-        (0..rounds).flat_map(|_| 0..12)
+        match self {
+            Work::Offer(pieces) => pieces.len(),
+            Work::Receive(payloads) => payloads.len(),
+            Work::Clock | Work::Account => 1,
+        }
     }
 }
 
-/// What is held when the time starts, and what is timed.
-struct Plan {
+/// A table, what each of its clients holds when the time starts, and what is
+/// timed.
+#[derive(Clone)]
+struct Task {
+    /// The plan of every client.
+    plan: Plan,
+    clients: usize,
+    /// The clients that the work is done on.
+    busy: Range<usize>,
     before: Vec<Piece>,
     work: Work,
+}
+
+impl Task {
+    fn calls(&self) -> usize {
+        self.turns().count() * self.work.calls()
+    }
+
+    /// The busy clients in turn: where the work changes nothing as often as
+    /// there are 96 calls, so that short calls make a long batch.
+    fn turns(&self) -> impl Iterator<Item = usize> {
+        let busy = self.busy.clone();
+        let rounds = match self.work {
+            Work::Offer(_) | Work::Receive(_) => 1,
+            Work::Clock | Work::Account => 96 / busy.len(),
+        };
+        (0..rounds).flat_map(move |_| busy.clone())
+    }
+
+    /// The same on every client.
+    fn on_all(&self, work: Work) -> Task {
+        Task {
+            busy: 0..self.clients,
+            work,
+            ..self.clone()
+        }
+    }
 }
 
 /// A side's table, and the calls on it; `start` is what the records are put
@@ -67,7 +92,7 @@ struct Host<T: Table> {
     store: Vec<u8>,
     out: Vec<u8>,
     bytes: Vec<u8>,
-    work: Work,
+    task: Task,
 }
 
 /// The answer to a payload that is no fragment.
@@ -75,7 +100,9 @@ const NO_FRAGMENT: Answer = Answer::Refused(0);
 
 /// A side's table.
 trait Table: Sized + 'static {
-    type Record: Copy + Default + 'static;
+    type Record: Copy + 'static;
+
+    fn fresh(plan: Plan) -> Self::Record;
 
     /// Does the host's work. `note` may ask for each answer, in the
     /// reference's words; it is not worked out unless asked for.
@@ -83,18 +110,18 @@ trait Table: Sized + 'static {
 }
 
 impl<T: Table> Host<T> {
-    fn new(plan: &Plan) -> Host<T> {
+    fn new(task: &Task) -> Host<T> {
         let mut host = Host {
-            start: vec![T::Record::default(); 12],
-            records: vec![T::Record::default(); 12],
-            store: vec![0; 12 * SHARE],
+            start: vec![],
+            records: vec![T::fresh(task.plan); task.clients],
+            store: vec![0; task.clients * task.plan.share()],
             out: vec![0; ORIGINAL_LIMIT],
             bytes: bytes(ORIGINAL_LIMIT),
-            work: Work::Offer(plan.before.clone()),
+            task: task.on_all(Work::Offer(task.before.clone())),
         };
         T::run(&mut host, |answer| assert_eq!(answer(), Answer::Stored));
-        host.start.copy_from_slice(&host.records);
-        host.work = plan.work.clone();
+        host.start = host.records.clone();
+        host.task = task.clone();
         host
     }
 
@@ -103,15 +130,17 @@ impl<T: Table> Host<T> {
     fn outcome(mut self) -> (Vec<Answer>, Vec<Answer>, Vec<u8>, Vec<u8>) {
         let (mut answers, mut accounts) = (Vec::new(), Vec::new());
         T::run(&mut self, |answer| answers.push(answer()));
-        self.work = Work::Account;
+        self.task = self.task.on_all(Work::Account);
         T::run(&mut self, |answer| accounts.push(answer()));
         (answers, accounts, self.store, self.out)
     }
 }
 
 impl<T: Table> Side for Host<T> {
+    /// Puts back the records that the work may change, and touches no other.
     fn prepare(&mut self) {
-        self.records.copy_from_slice(&self.start);
+        let busy = self.task.busy.clone();
+        self.records[busy.clone()].copy_from_slice(&self.start[busy]);
     }
 
     fn run(&mut self) {
@@ -157,10 +186,14 @@ struct Library;
 impl Table for Library {
     type Record = Client;
 
+    fn fresh(plan: Plan) -> Client {
+        Client::new(plan)
+    }
+
     fn run(host: &mut Host<Library>, mut note: impl FnMut(&dyn Fn() -> Answer)) {
         let mut table = wuraketozo::Table::new(&mut host.records, &mut host.store);
-        for client in host.work.clients() {
-            match &host.work {
+        for client in host.task.turns() {
+            match &host.task.work {
                 Work::Offer(pieces) => {
                     for piece in pieces {
                         let arrival = Arrival {
@@ -258,10 +291,14 @@ reference!(Good, swift);
 impl<T: Reference> Table for T {
     type Record = plain::Record;
 
+    fn fresh(plan: Plan) -> plain::Record {
+        plain::fresh(plan.get())
+    }
+
     fn run(host: &mut Host<T>, mut note: impl FnMut(&dyn Fn() -> Answer)) {
         let (records, store) = (&mut host.records, &mut host.store);
-        for client in host.work.clients() {
-            match &host.work {
+        for client in host.task.turns() {
+            match &host.task.work {
                 Work::Offer(pieces) => {
                     for piece in pieces {
                         let call = plain::PieceCall {
@@ -324,24 +361,47 @@ impl<T: Reference> Table for T {
     }
 }
 
-/// A case of tables that hold `before`; each answer has to be a `wanted` one.
+/// A case of 12 clients that hold `before`, on each of them; each answer has to
+/// be a `wanted` one. Their plan is of four originals.
 fn case(name: String, before: Vec<Piece>, work: Work, wanted: fn(&Answer) -> bool) -> Case {
-    let calls = work.calls();
-    let plan = Rc::new(Plan { before, work });
-    fn make<T: Table>(plan: &Rc<Plan>) -> Make {
-        let plan = plan.clone();
-        Box::new(move || Box::new(Host::<T>::new(&plan)))
+    case_of(name, FOUR, before, work, wanted)
+}
+
+/// The same with any plan.
+fn case_of(
+    name: String,
+    plan: Plan,
+    before: Vec<Piece>,
+    work: Work,
+    wanted: fn(&Answer) -> bool,
+) -> Case {
+    let task = Task {
+        plan,
+        clients: CLIENT_LIMIT,
+        busy: 0..CLIENT_LIMIT,
+        before,
+        work,
+    };
+    case_on(name, task, wanted)
+}
+
+fn case_on(name: String, task: Task, wanted: fn(&Answer) -> bool) -> Case {
+    let calls = task.calls();
+    let task = Rc::new(task);
+    fn make<T: Table>(task: &Rc<Task>) -> Make {
+        let task = task.clone();
+        Box::new(move || Box::new(Host::<T>::new(&task)))
     }
     Case {
         name,
         calls,
-        library: make::<Library>(&plan),
-        reference: make::<Plain>(&plan),
-        good: Some(make::<Good>(&plan)),
+        library: make::<Library>(&task),
+        reference: make::<Plain>(&task),
+        good: Some(make::<Good>(&task)),
         alike: Box::new(move || {
-            let one = Host::<Library>::new(&plan).outcome();
-            let two = Host::<Plain>::new(&plan).outcome();
-            let three = Host::<Good>::new(&plan).outcome();
+            let one = Host::<Library>::new(&task).outcome();
+            let two = Host::<Plain>::new(&task).outcome();
+            let three = Host::<Good>::new(&task).outcome();
             one == two && one == three && one.0.iter().all(wanted) && one.1.iter().all(is_account)
         }),
     }
@@ -372,9 +432,20 @@ fn piece(identification: u32, place: usize, length: usize, last: bool) -> Piece 
     }
 }
 
+/// The plan of most tables: four originals at once.
+const FOUR: Plan = match Plan::new(4) {
+    Some(plan) => plan,
+    None => panic!(),
+};
+
+/// The identifications of as many originals as a plan allows.
+fn originals(plan: Plan) -> Range<u32> {
+    0..plan.get() as u32
+}
+
 /// The same fragment of each of four originals.
 fn of_each(place: usize, length: usize) -> Vec<Piece> {
-    (0..4)
+    originals(FOUR)
         .map(|number| piece(number, place, length, false))
         .collect()
 }
@@ -460,34 +531,79 @@ fn fragments(identification: u32, count: usize, length: usize, order: Order) -> 
 /// The bytes of a fragment of a crowd: 64 of them are 8,000.
 const FRAGMENT: usize = 125;
 
-/// Four originals under way, each with `count` fragments held and one open,
-/// and 20 bytes of each open one. They come last, so that the order goes on.
-fn crowd(count: usize, order: Order) -> (Vec<Piece>, Vec<Piece>) {
-    let (mut held, mut next) = (Vec::new(), Vec::new());
-    for identification in 0..4 {
-        let mut pieces = fragments(identification, count + 1, FRAGMENT, order);
-        let open = pieces.pop().map_or(0, |piece| piece.place);
-        held.extend(pieces);
-        next.push(piece(identification, open, 20, false));
-    }
-    (held, next)
+/// A crowd: as many originals under way as the plan allows, with so many
+/// fragments held of each, which came in this order.
+#[derive(Clone, Copy)]
+struct Crowd {
+    plan: Plan,
+    count: usize,
+    order: Order,
 }
 
-/// A crowd, in words; one fragment has no order.
-fn crowd_words(count: usize, order: Order) -> String {
-    match count {
-        1 => "4 x 1 held".into(),
-        _ => format!("4 x {count} held, {}", order.words()),
+impl Crowd {
+    /// What is held, and 20 bytes of the one fragment of each original that is
+    /// open. These come last, so that the order goes on.
+    fn pieces(self) -> (Vec<Piece>, Vec<Piece>) {
+        let (mut held, mut next) = (Vec::new(), Vec::new());
+        for identification in originals(self.plan) {
+            let mut pieces = fragments(identification, self.count + 1, FRAGMENT, self.order);
+            let open = pieces.pop().map_or(0, |piece| piece.place);
+            held.extend(pieces);
+            next.push(piece(identification, open, 20, false));
+        }
+        (held, next)
+    }
+
+    /// In words; one fragment has no order.
+    fn words(self) -> String {
+        let (originals, count) = (self.plan.get(), self.count);
+        match count {
+            1 => format!("{originals} x 1 held"),
+            _ => format!("{originals} x {count} held, {}", self.order.words()),
+        }
     }
 }
 
 /// The crowds: 63 fragments leave room for one more.
-fn crowds() -> Vec<(usize, Order)> {
-    let mut crowds = vec![(1, Order::Rising)];
-    for count in [16, 63] {
-        crowds.extend(ORDERS.map(|order| (count, order)));
+fn crowds() -> Vec<Crowd> {
+    let one = |plan, count, order| Crowd { plan, count, order };
+    let mut crowds = vec![one(FOUR, 1, Order::Rising)];
+    for (plan, count) in [(FOUR, 16), (FOUR, 63), (Plan::LARGEST, 63)] {
+        crowds.extend(ORDERS.map(|order| one(plan, count, order)));
     }
     crowds
+}
+
+/// One client of a table whose clients all hold as much as they can and still
+/// take a fragment: what the other clients cost it.
+fn among_others(client: usize, clients: usize) -> Vec<Case> {
+    let full = Crowd {
+        plan: Plan::LARGEST,
+        count: 63,
+        order: Order::Rising,
+    };
+    let (before, next) = full.pieces();
+    let one = |call: &str, work, wanted| {
+        let words = full.words();
+        let name = format!("{call}, client {client} of {clients}, each with {words}");
+        let task = Task {
+            plan: full.plan,
+            clients,
+            busy: client..client + 1,
+            before: before.clone(),
+            work,
+        };
+        case_on(name, task, wanted)
+    };
+    vec![
+        one("account", Work::Account, is_account),
+        one("clock", Work::Clock, is_clock),
+        one(
+            "fragment call, 20 bytes stored",
+            Work::Offer(next),
+            is_stored,
+        ),
+    ]
 }
 
 /// An original of 8,192 bytes in 64 fragments, all but one held.
@@ -515,13 +631,11 @@ fn offers() -> Vec<Case> {
             is_stored,
         ));
     }
-    for (count, order) in crowds() {
-        let (held, next) = crowd(count, order);
-        cases.push(case(
-            format!(
-                "fragment call, 20 bytes stored, {}",
-                crowd_words(count, order)
-            ),
+    for crowd in crowds() {
+        let (held, next) = crowd.pieces();
+        cases.push(case_of(
+            format!("fragment call, 20 bytes stored, {}", crowd.words()),
+            crowd.plan,
             held,
             Work::Offer(next),
             is_stored,
@@ -539,7 +653,7 @@ fn offers() -> Vec<Case> {
 
 pub fn all() -> Vec<Case> {
     let mut cases = offers();
-    let payloads = (0..4).map(|number| fragment_payload(number, 1_400));
+    let payloads = originals(FOUR).map(|number| fragment_payload(number, 1_400));
     cases.push(case(
         "receive, a fragment of 1,400 bytes stored".into(),
         vec![],
@@ -558,13 +672,17 @@ pub fn all() -> Vec<Case> {
         Work::Account,
         is_account,
     ));
-    for (count, order) in crowds() {
-        cases.push(case(
-            format!("account, {}", crowd_words(count, order)),
-            crowd(count, order).0,
+    for crowd in crowds() {
+        cases.push(case_of(
+            format!("account, {}", crowd.words()),
+            crowd.plan,
+            crowd.pieces().0,
             Work::Account,
             is_account,
         ));
+    }
+    for (client, clients) in [(0, 1), (0, CLIENT_LIMIT), (CLIENT_LIMIT - 1, CLIENT_LIMIT)] {
+        cases.extend(among_others(client, clients));
     }
     cases
 }

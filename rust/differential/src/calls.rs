@@ -7,7 +7,7 @@ use crate::convert::{
 };
 use crate::counts::Counts;
 use crate::payloads::{same, same_bytes, Check};
-use crate::records::{bytes_of, count_assemblies, patterned};
+use crate::records::{bytes_of, count_assemblies, patterned, sort};
 use reference as plain;
 use reference::checksum;
 use reference::generate::{self, Ask, Call, Datagram, Lent, Random, World};
@@ -59,13 +59,10 @@ impl Pair {
         self.store[..reach].copy_from_slice(&before.store[..reach]);
     }
 
-    /// The table as it is, with other lengths: what is refused with 20 must
-    /// leave live records alone.
-    fn resized(&self, lent: Lent) -> Pair {
-        let mut plain = self.plain.clone();
-        plain.records.resize(lent.records, plain::fresh());
-        plain.store.resize(lent.store, 0xA5);
-        Pair::of(plain)
+    /// The table as it is, with other lengths or plans: what is refused with 20
+    /// or 32 must leave live records alone.
+    fn resized(&self, lent: &Lent) -> Pair {
+        Pair::of(self.plain.resized(lent))
     }
 
     /// Compares every byte of every record, and the whole store.
@@ -111,14 +108,14 @@ fn history(
     clients: usize,
     most: usize,
 ) -> Result<u64, String> {
-    let mut pair = Pair::of(World::new(Lent::of(1)));
+    let mut pair = Pair::of(World::new(&Lent::of(&[1])));
     let list = generate::calls(random, clients, most);
     for call in &list {
         if call.lent == pair.plain.lent() {
             run(random, counts, way, &mut pair, call)?;
             continue;
         }
-        let mut other = pair.resized(call.lent);
+        let mut other = pair.resized(&call.lent);
         let answer = run(random, counts, way, &mut other, call)?;
         if answer == Some(plain::Answer::SetUp) {
             pair = other;
@@ -144,10 +141,15 @@ fn forged(random: &mut Random, counts: &mut Counts, way: Way, most: usize) -> Re
         world.records[number] = generate::sound_record(random);
         generate::summed(random, &mut world.records[number]);
     }
+    // A plan may be another one now.
+    let length = plain::store_length(&world.records);
+    world.store.resize(length, 0x5A);
+    if random.one_in(8) {
+        generate::misfit(random, &mut world);
+    }
     for record in &world.records {
         count_assemblies(counts, record);
-        let sound = plain::record_test(record);
-        counts.add("forged record", if sound { "sound" } else { "damaged" });
+        counts.add("forged record", sort(record));
     }
     let mut pair = Pair::of(world);
     for _ in 0..most {
@@ -169,7 +171,7 @@ pub fn originals(random: &mut Random, counts: &mut Counts) -> Result<u64, String
     let mut made = 0;
     for number in 0..ORIGINALS {
         let way = [Way::Offered, Way::Received][(number % 2) as usize];
-        let mut pair = Pair::of(World::new(Lent::of(1)));
+        let mut pair = Pair::of(World::new(&Lent::of(&[1])));
         for call in &generate::original_calls(random) {
             for _ in 0..TRIES {
                 let before = standing(&pair.plain, call);
@@ -210,7 +212,7 @@ pub fn sweep(random: &mut Random, counts: &mut Counts) -> Result<u64, String> {
     calls.push(small(0, 1, false, 0, 1));
     calls.push(small(1, 2, false, 0, 1));
     let mut made = 0;
-    let pair = Pair::of(World::new(Lent::of(1)));
+    let pair = Pair::of(World::new(&Lent::of(&[1])));
     sweep_from(random, counts, &calls, &pair, 4, &mut made)?;
     Ok(made)
 }
@@ -241,7 +243,7 @@ fn sweep_from(
 fn small(place: usize, length: usize, last: bool, r: usize, other: u8) -> Call {
     let bytes = (place..place + length).map(|at| at as u8 ^ other).collect();
     Call {
-        lent: Lent::of(1),
+        lent: Lent::of(&[1]),
         ask: Ask::Piece {
             client: 0,
             time: 5,
@@ -262,7 +264,7 @@ fn wild(random: &mut Random, record: &mut plain::Record) {
         let number = random.draw() >> random.below(64);
         let assembly = &mut record.assemblies[random.below(ASSEMBLIES)];
         let slot = &mut assembly.pieces[random.below(PIECES)];
-        match random.below(16) {
+        match random.below(17) {
             0 => record.time = number,
             1 => record.offered = number,
             2 => record.held = number,
@@ -278,7 +280,8 @@ fn wild(random: &mut Random, record: &mut plain::Record) {
             12 => slot.offset = number as u16,
             13 => slot.length = number as u16,
             14 => slot.option_start = number as u16,
-            _ => slot.last = number as u16,
+            15 => slot.last = number as u16,
+            _ => record.plan = random.pick(&[number, number % 10]),
         }
     }
 }
@@ -318,10 +321,14 @@ pub fn run(
         Ask::Clock { .. } => "advance",
         Ask::Bill { .. } => "account",
     };
-    counts.add(word, &answer_word(&expected));
-    for name in generate::limit_sorts(held.unwrap_or(0), &expected) {
-        counts.add(word, name);
-    }
+    count_answer(
+        counts,
+        word,
+        &call.lent,
+        call.client(),
+        held.unwrap_or(0),
+        &expected,
+    );
     let found = if random.one_in(2) {
         by_c(random, pair, call, &mut right)
     } else {
@@ -334,10 +341,35 @@ pub fn run(
     Ok(Some(expected))
 }
 
+/// Counts an answer: to which call, on which table, for which client, and how
+/// many fragments of its original were held.
+fn count_answer(
+    counts: &mut Counts,
+    word: &str,
+    lent: &Lent,
+    client: Option<usize>,
+    held: usize,
+    answer: &plain::Answer,
+) {
+    counts.add(word, &answer_word(answer));
+    for name in generate::limit_sorts(held, answer) {
+        counts.add(word, name);
+    }
+    // Of a set-up no plan is its own.
+    match lent.fault(client) {
+        Some(name) if client.is_some() || lent.refusal() == Some(20) => counts.add(word, name),
+        _ => {}
+    }
+    let plan = client.and_then(|client| lent.plans.get(client));
+    if let (plain::Answer::Refused(29), Some(plan)) = (answer, plan) {
+        counts.add(word, &format!("29 at a plan of {plan}"));
+    }
+}
+
 /// A call in words, its bytes in hex.
 fn show_call(call: &Call) -> String {
-    let Lent { records, store } = call.lent;
-    let table = format!("{records} records, store of {store} bytes");
+    let Lent { plans, store } = &call.lent;
+    let table = format!("plans {plans:?}, store of {store} bytes");
     match &call.ask {
         Ask::Piece {
             client,
@@ -544,10 +576,7 @@ fn receive(
             let world = &mut pair.plain;
             let held = generate::held_before(world, &call);
             let came = plain::piece(&mut world.records, &mut world.store, &call, &mut left);
-            counts.add("receive", &answer_word(&came));
-            for name in generate::limit_sorts(held, &came) {
-                counts.add("receive", name);
-            }
+            count_answer(counts, "receive", &world.lent(), Some(client), held, &came);
             raw::Received {
                 what: 2,
                 answer: answer(&came),

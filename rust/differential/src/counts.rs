@@ -1,6 +1,7 @@
 //! How often each verdict, refusal and answer came.
 
 use reference::generate;
+use reference::table::ASSEMBLIES;
 use std::collections::BTreeMap;
 
 /// What must be reached, in the order of the table that is printed.
@@ -43,23 +44,38 @@ fn wanted() -> Vec<String> {
     add(word, &["no option", "tail", "options", "8"]);
     add(word, &["options beside padding"]);
     add("write", &["taken", "7", "8", "9"]);
-    add("reset", &["taken", "20"]);
+    add("reset", &["taken", "20", "32"]);
+    let of_20 = generate::TABLE_FAULTS.iter().copied();
+    let of_20: Vec<&str> = of_20.filter(|name| name.contains("20")).collect();
+    add("reset", &of_20);
     add("offer", &["stored", "repeated", "conflict", "delivered"]);
     let numbers: Vec<String> = (20..=30).map(|number| number.to_string()).collect();
-    let numbers: Vec<&str> = numbers.iter().map(String::as_str).collect();
+    let mut numbers: Vec<&str> = numbers.iter().map(String::as_str).collect();
+    numbers.push("32");
+    let full: Vec<String> = (1..=ASSEMBLIES)
+        .map(|plan| format!("29 at a plan of {plan}"))
+        .collect();
+    let full: Vec<&str> = full.iter().map(String::as_str).collect();
     add("offer", &numbers);
+    add("offer", &generate::TABLE_FAULTS);
+    add("offer", &full);
     add("offer", &generate::LIMIT_SORTS);
-    add("advance", &["taken", "20", "21", "22", "27"]);
-    add("account", &["taken", "20", "21", "22"]);
+    add("advance", &["taken", "20", "21", "22", "27", "32"]);
+    add("advance", &generate::TABLE_FAULTS);
+    add("account", &["taken", "20", "21", "22", "32"]);
+    add("account", &generate::TABLE_FAULTS);
     add("receive", &["datagram", "1", "2", "3", "4"]);
     add("receive", &["malformed", "unsafe", "fragdata", "crowded"]);
     add("receive", &["tail", "tail led by FRAG", "padded"]);
     add("receive", &["padded before FRAG", "padded behind FRAG"]);
     add("receive", &["stored", "repeated", "conflict", "delivered"]);
     add("receive", &numbers);
+    add("receive", &generate::TABLE_FAULTS);
+    add("receive", &full);
     add("receive", &generate::LIMIT_SORTS);
-    add("forged record", &["sound", "damaged"]);
-    add("record with one byte changed", &["sound", "damaged"]);
+    for word in ["forged record", "record with one byte changed"] {
+        add(word, &["sound", "damaged", "live past its plan"]);
+    }
     let word = "forged assembly";
     add(word, &["no last one", "sum T, covered", "sum T, a gap"]);
     add(word, &["sum T with unused slots, a gap"]);

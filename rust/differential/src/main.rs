@@ -13,6 +13,7 @@ mod calls;
 mod convert;
 mod counts;
 mod payloads;
+mod plans;
 mod records;
 mod steps;
 
@@ -24,7 +25,7 @@ use std::time::Instant;
 /// The calls of one list.
 const LIST: usize = 250;
 
-struct Plan {
+struct Arguments {
     seed: u64,
     payloads: u64,
     calls: u64,
@@ -34,15 +35,15 @@ struct Plan {
     first_list: Option<u64>,
 }
 
-impl Plan {
+impl Arguments {
     fn is_whole(&self) -> bool {
         self.first_payload.is_none() && self.first_list.is_none()
     }
 }
 
 /// The command line's numbers, or the word that is not one.
-fn plan() -> Result<Plan, String> {
-    let mut plan = Plan {
+fn arguments() -> Result<Arguments, String> {
+    let mut arguments = Arguments {
         seed: 1,
         payloads: 200_000,
         calls: 50_000,
@@ -54,15 +55,15 @@ fn plan() -> Result<Plan, String> {
         let number = words.next().and_then(|value| value.parse().ok());
         let number: u64 = number.ok_or(format!("{word} needs a number"))?;
         match word.as_str() {
-            "--seed" => plan.seed = number,
-            "--payloads" => plan.payloads = number,
-            "--calls" => plan.calls = number,
-            "--first-payload" => plan.first_payload = Some(number),
-            "--first-list" => plan.first_list = Some(number),
+            "--seed" => arguments.seed = number,
+            "--payloads" => arguments.payloads = number,
+            "--calls" => arguments.calls = number,
+            "--first-payload" => arguments.first_payload = Some(number),
+            "--first-list" => arguments.first_list = Some(number),
             _ => return Err(format!("{word} is not known")),
         }
     }
-    Ok(plan)
+    Ok(arguments)
 }
 
 /// The generator of one round or list.
@@ -72,12 +73,12 @@ fn random(seed: u64, part: u64, number: u64) -> Random {
     Random::new(Random::new(start).draw())
 }
 
-fn run(plan: &Plan, counts: &mut Counts) -> Result<(), String> {
-    let seed = plan.seed;
+fn run(arguments: &Arguments, counts: &mut Counts) -> Result<(), String> {
+    let seed = arguments.seed;
     let start = Instant::now();
-    let whole = plan.is_whole();
-    let first_payload = plan.first_payload.unwrap_or(0);
-    let first_list = plan.first_list.unwrap_or(0);
+    let whole = arguments.is_whole();
+    let first_payload = arguments.first_payload.unwrap_or(0);
+    let first_list = arguments.first_list.unwrap_or(0);
     let told = |text: String| format!("--seed {seed}, sweep\n{text}");
     let swept = if whole {
         payloads::sweep(&mut random(seed, 0, 0), counts).map_err(told)?
@@ -87,20 +88,21 @@ fn run(plan: &Plan, counts: &mut Counts) -> Result<(), String> {
     } else {
         0
     };
-    for number in first_payload..first_payload + plan.payloads {
+    for number in first_payload..first_payload + arguments.payloads {
         payloads::round(&mut random(seed, 1, number), counts).map_err(|text| {
             format!("--seed {seed} --first-payload {number} --payloads 1 --calls 0\n{text}")
         })?;
     }
     println!(
         "{} payloads in rounds with an original and a writing each, {swept} swept: {:.1} s",
-        plan.payloads,
+        arguments.payloads,
         start.elapsed().as_secs_f64()
     );
     let start = Instant::now();
     let swept = if whole {
         calls::sweep(&mut random(seed, 0, 1), counts).map_err(told)?
             + calls::originals(&mut random(seed, 0, 8), counts).map_err(told)?
+            + plans::sweep(&mut random(seed, 0, 9), counts).map_err(told)?
             + records::sweep(&mut random(seed, 0, 2), counts).map_err(told)?
             + records::lists(&mut random(seed, 0, 3), counts).map_err(told)?
             + records::overlaps(&mut random(seed, 0, 7), counts).map_err(told)?
@@ -109,7 +111,7 @@ fn run(plan: &Plan, counts: &mut Counts) -> Result<(), String> {
     };
     let mut made = 0;
     let mut number = first_list;
-    while made < plan.calls {
+    while made < arguments.calls {
         made += calls::list(&mut random(seed, 2, number), counts, LIST).map_err(|text| {
             format!("--seed {seed} --payloads 0 --first-list {number} --calls 1\n{text}")
         })?;
@@ -124,25 +126,25 @@ fn run(plan: &Plan, counts: &mut Counts) -> Result<(), String> {
 }
 
 fn main() -> ExitCode {
-    let plan = match plan() {
-        Ok(plan) => plan,
+    let arguments = match arguments() {
+        Ok(arguments) => arguments,
         Err(text) => {
             eprintln!("{text}");
             return ExitCode::from(2);
         }
     };
-    println!("seed {}", plan.seed);
+    println!("seed {}", arguments.seed);
     if !wuraketozo::fits() {
         println!("the library's sizes are not those of its header");
         return ExitCode::FAILURE;
     }
     let mut counts = Counts::new();
-    if let Err(text) = run(&plan, &mut counts) {
+    if let Err(text) = run(&arguments, &mut counts) {
         println!("DIFFERENCE: {text}");
         return ExitCode::FAILURE;
     }
     let missing = counts.print();
-    if plan.is_whole() && !missing.is_empty() {
+    if arguments.is_whole() && !missing.is_empty() {
         println!("never reached: {}", missing.join(", "));
         return ExitCode::FAILURE;
     }

@@ -6,7 +6,7 @@ use crate::counts::Counts;
 use reference as plain;
 use reference::generate::{self, Ask, Call, Lent, Random, World};
 use reference::table::{ASSEMBLIES, PIECES, PLACE};
-use wuraketozo::{Client, SHARE};
+use wuraketozo::Client;
 
 /// How many records of each sort `lists` makes.
 const LISTS: u64 = 10_000;
@@ -52,6 +52,7 @@ impl Fields<'_> {
     }
 
     fn record(&mut self, record: &mut plain::Record) {
+        self.u64(&mut record.plan);
         self.u64(&mut record.time);
         self.u64(&mut record.offered);
         self.u64(&mut record.held);
@@ -94,7 +95,7 @@ pub fn bytes_of(record: &plain::Record) -> Bytes {
 
 /// The reference's record of any bytes.
 pub fn record_of(mut bytes: Bytes) -> plain::Record {
-    let mut record = plain::fresh();
+    let mut record = plain::fresh(0);
     let mut fields = Fields {
         bytes: &mut bytes,
         at: 0,
@@ -104,7 +105,8 @@ pub fn record_of(mut bytes: Bytes) -> plain::Record {
     record
 }
 
-/// A record of any bytes, or a sound one with some bytes changed.
+/// A record of any bytes, or a sound one with some bytes changed. Mostly it
+/// keeps the plan, so that the record test looks at it.
 pub fn patterned(random: &mut Random, sound: &plain::Record) -> plain::Record {
     let mut bytes = bytes_of(sound);
     match random.below(3) {
@@ -119,7 +121,27 @@ pub fn patterned(random: &mut Random, sound: &plain::Record) -> plain::Record {
             }
         }
     }
-    record_of(bytes)
+    let mut record = record_of(bytes);
+    if !random.one_in(4) {
+        record.plan = sound.plan;
+    }
+    record
+}
+
+/// What the record test says of a record; whether it is the plan alone that
+/// makes it fail.
+pub fn sort(record: &plain::Record) -> &'static str {
+    let largest = plain::Record {
+        plan: ASSEMBLIES as u64,
+        ..*record
+    };
+    if plain::record_test(record) {
+        "sound"
+    } else if plain::record_test(&largest) {
+        "live past its plan"
+    } else {
+        "damaged"
+    }
 }
 
 /// The end of the last one that is held, T.
@@ -219,8 +241,8 @@ pub fn lists(random: &mut Random, counts: &mut Counts) -> Result<u64, String> {
         let time = record.time;
         asks.push(Ask::Clock { client: 0, time });
         asks.extend((0..3).filter_map(|_| filling(random, &record)));
-        let store = random.bytes(SHARE);
         let records = vec![record];
+        let store = random.bytes(plain::store_length(&records));
         let mut pair = Pair::of(World { records, store });
         asks.extend((0..2).map(|_| generate::call_on(random, &pair.plain).ask));
         let way = random.pick(&[Way::Offered, Way::Offered, Way::Received]);
@@ -252,7 +274,7 @@ fn asked(
     list: &[plain::Slot],
     sound: bool,
 ) -> Result<(), String> {
-    let mut record = plain::fresh();
+    let mut record = plain::fresh(1);
     record.assemblies[0].count = list.len() as u64;
     record.assemblies[0].pieces[..list.len()].copy_from_slice(list);
     record.held = sum(list) as u64;
@@ -290,7 +312,7 @@ const ORDERS: [fn(usize) -> usize; 4] = [
 /// or beside it; and full lists in every order, with a byte that two of them
 /// share at every border, or a range twice. Returns the calls made.
 pub fn overlaps(random: &mut Random, counts: &mut Counts) -> Result<u64, String> {
-    let mut pair = Pair::of(World::new(Lent::of(1)));
+    let mut pair = Pair::of(World::new(&Lent::of(&[1])));
     let mut made = 0;
     let mut ask = |list: &[plain::Slot], sound| {
         made += 1;
@@ -345,7 +367,8 @@ pub fn overlaps(random: &mut Random, counts: &mut Counts) -> Result<u64, String>
     Ok(made)
 }
 
-/// Each byte of a sound record set to every value, and a call made on it.
+/// Each byte of a sound record set to every value, and a call made on it. Some
+/// of its assemblies are live, some could be, and some stand past its plan.
 /// Returns the calls made.
 pub fn sweep(random: &mut Random, counts: &mut Counts) -> Result<u64, String> {
     let mut made = 0;
@@ -353,7 +376,8 @@ pub fn sweep(random: &mut Random, counts: &mut Counts) -> Result<u64, String> {
         let world = generate::forged_world(random, 1);
         let live = world.records[0].assemblies.iter();
         let live = live.filter(|assembly| assembly.count != 0).count();
-        if plain::record_test(&world.records[0]) && (1..ASSEMBLIES).contains(&live) {
+        let plan = world.records[0].plan as usize;
+        if plain::record_test(&world.records[0]) && 0 < live && live < plan && plan < ASSEMBLIES {
             break world;
         }
     };
@@ -364,14 +388,7 @@ pub fn sweep(random: &mut Random, counts: &mut Counts) -> Result<u64, String> {
             let mut changed = bytes;
             changed[at] = value;
             let record = record_of(changed);
-            counts.add(
-                "record with one byte changed",
-                if plain::record_test(&record) {
-                    "sound"
-                } else {
-                    "damaged"
-                },
-            );
+            counts.add("record with one byte changed", sort(&record));
             pair.set_record(record);
             let ask = if value % 2 == 0 {
                 Ask::Bill { client: 0 }

@@ -1,11 +1,11 @@
 //! "A client's plain book" (section "The table", last paragraph): the same
 //! answers and figures from a flat list of open pieces. It follows one
-//! client's calls, knows of the table only the record count and the store's
-//! length, and shares no code with the table, only the limits and the types
-//! of arguments and answers.
+//! client's calls, sees of each call's table only the plans, one for each
+//! record, and the store's length, and shares no code with the table, only the
+//! limits and the types of arguments and answers.
 
 use crate::table::{Account, Answer, Flow, PieceCall};
-use crate::table::{ASSEMBLIES, CLIENTS_MOST, LIFE, OFFERED_MOST, PIECES, PLACE, SHARE};
+use crate::table::{ASSEMBLIES, CLIENTS_MOST, LIFE, OFFERED_MOST, PIECES, PLACE};
 
 /// An open piece.
 #[derive(Clone, Debug, PartialEq, Eq)]
@@ -18,10 +18,12 @@ pub struct OpenPiece {
     pub r: usize,
 }
 
-/// The plain book of one client, at first all 0 and empty.
+/// The plain book of one client, at first all 0 and empty. Its plan is that of
+/// the last set-up taken.
 #[derive(Clone, Debug, Default, PartialEq, Eq)]
 pub struct Book {
     pub client: usize,
+    pub plan: u64,
     pub time: u64,
     pub offered: u64,
     pub delivered: u64,
@@ -32,33 +34,57 @@ pub struct Book {
     pub open: Vec<OpenPiece>,
 }
 
-fn table_refused(records: usize, store: usize) -> bool {
-    !(1..=CLIENTS_MOST).contains(&records) || store != SHARE * records
+/// Refusals 20 and 32, of the plans and the store's length.
+fn table_refused(plans: &[u64], store: usize) -> Result<(), Answer> {
+    if !(1..=CLIENTS_MOST).contains(&plans.len()) {
+        return Err(Answer::Refused(20));
+    }
+    let mut bytes = 0;
+    for &plan in plans {
+        if plan == 0 || plan > ASSEMBLIES as u64 {
+            return Err(Answer::Refused(32));
+        }
+        bytes += PLACE as u64 * plan;
+    }
+    if store as u64 != bytes {
+        return Err(Answer::Refused(20));
+    }
+    Ok(())
 }
 
 impl Book {
-    pub fn new(client: usize) -> Book {
+    /// The book of a client whose last set-up taken had this plan.
+    pub fn new(client: usize, plan: u64) -> Book {
         Book {
             client,
+            plan,
             ..Book::default()
         }
     }
 
     /// A set-up taken starts the history anew.
-    pub fn set_up(&mut self, records: usize, store: usize) -> Answer {
-        if table_refused(records, store) {
-            return Answer::Refused(20);
+    pub fn set_up(&mut self, plans: &[u64], store: usize) -> Answer {
+        if let Err(refused) = table_refused(plans, store) {
+            return refused;
         }
-        *self = Book::new(self.client);
+        // A client that this table has not gets 21 till the next one.
+        let plan = plans.get(self.client).copied().unwrap_or(0);
+        *self = Book::new(self.client, plan);
         Answer::SetUp
     }
 
-    pub fn clock(&mut self, records: usize, store: usize, time: u64) -> Answer {
-        if table_refused(records, store) {
-            return Answer::Refused(20);
+    /// Refusals 20, 32 and 21.
+    fn client_refused(&self, plans: &[u64], store: usize) -> Result<(), Answer> {
+        table_refused(plans, store)?;
+        if self.client >= plans.len() {
+            return Err(Answer::Refused(21));
         }
-        if self.client >= records {
-            return Answer::Refused(21);
+        Ok(())
+    }
+
+    pub fn clock(&mut self, plans: &[u64], store: usize, time: u64) -> Answer {
+        if let Err(refused) = self.client_refused(plans, store) {
+            return refused;
         }
         if time < self.time {
             return Answer::Refused(27);
@@ -67,12 +93,9 @@ impl Book {
         Answer::Clocked
     }
 
-    pub fn bill(&self, records: usize, store: usize) -> Answer {
-        if table_refused(records, store) {
-            return Answer::Refused(20);
-        }
-        if self.client >= records {
-            return Answer::Refused(21);
+    pub fn bill(&self, plans: &[u64], store: usize) -> Answer {
+        if let Err(refused) = self.client_refused(plans, store) {
+            return refused;
         }
         Answer::Billed(self.account())
     }
@@ -93,17 +116,14 @@ impl Book {
     /// A piece call on this client; `call.client` is taken to be its number.
     pub fn piece(
         &mut self,
-        records: usize,
+        plans: &[u64],
         store: usize,
         call: &PieceCall,
         out: &mut [u8],
     ) -> Answer {
         let length = call.bytes.len();
-        if table_refused(records, store) {
-            return Answer::Refused(20);
-        }
-        if self.client >= records {
-            return Answer::Refused(21);
+        if let Err(refused) = self.client_refused(plans, store) {
+            return refused;
         }
         if out.len() < PLACE {
             return Answer::Refused(23);
@@ -128,7 +148,7 @@ impl Book {
 
         let key = (call.flow, call.identification);
         let mine: Vec<&OpenPiece> = self.open.iter().filter(|open| open.key == key).collect();
-        if mine.is_empty() && self.live_keys() >= ASSEMBLIES {
+        if mine.is_empty() && self.live_keys() >= self.plan {
             self.turned_away += length as u64;
             return Answer::Refused(29);
         }
@@ -175,11 +195,11 @@ impl Book {
     }
 
     /// How many keys have open pieces.
-    fn live_keys(&self) -> usize {
+    fn live_keys(&self) -> u64 {
         let first = |(index, piece): &(usize, &OpenPiece)| {
             self.open[..*index].iter().all(|open| open.key != piece.key)
         };
-        self.open.iter().enumerate().filter(first).count()
+        self.open.iter().enumerate().filter(first).count() as u64
     }
 
     /// The pieces of a key leave the list; returns their bytes.

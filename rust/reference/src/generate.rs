@@ -10,8 +10,9 @@ use crate::reader::{
     Strictness, Verdict,
 };
 use crate::table::{
-    bill, clock, fresh, piece, record_test, set_up, Answer, Assembly, Flow, PieceCall, Record,
-    Slot, ASSEMBLIES, CLIENTS_MOST, LIFE, OFFERED_MOST, PIECES, PLACE, SHARE,
+    bill, clock, fresh, in_range, piece, record_test, set_up, share, share_start, store_length,
+    Answer, Assembly, Flow, PieceCall, Record, Slot, ASSEMBLIES, CLIENTS_MOST, LIFE, OFFERED_MOST,
+    PIECES, PLACE,
 };
 use crate::writer::write;
 use std::collections::BTreeMap;
@@ -706,26 +707,90 @@ impl Writing {
 
 // -------------------------------------------------------------- table calls
 
-/// The lengths of the table lent to a call.
-#[derive(Clone, Copy, Debug, PartialEq, Eq)]
+/// What a call's book sees of the table lent to it: each record's plan, and
+/// the store's length.
+#[derive(Clone, Debug, PartialEq, Eq)]
 pub struct Lent {
-    pub records: usize,
+    pub plans: Vec<u64>,
     pub store: usize,
 }
 
 impl Lent {
-    /// The table of this many clients.
-    pub fn of(clients: usize) -> Lent {
+    /// The table of clients with these plans.
+    pub fn of(plans: &[u64]) -> Lent {
         Lent {
-            records: clients,
-            store: clients * SHARE,
+            plans: plans.to_vec(),
+            store: plans.iter().map(|&plan| share(plan)).sum(),
         }
     }
 
-    /// Whether 20 lets it pass.
-    pub fn passes(&self) -> bool {
-        (1..=CLIENTS_MOST).contains(&self.records) && self.store == self.records * SHARE
+    /// The count of records.
+    pub fn records(&self) -> usize {
+        self.plans.len()
     }
+
+    /// Whether 20 and 32 let it pass.
+    pub fn passes(&self) -> bool {
+        self.refusal().is_none()
+    }
+
+    /// 20 or 32.
+    pub fn refusal(&self) -> Option<u32> {
+        let wrong_count = !(1..=CLIENTS_MOST).contains(&self.records());
+        let wrong_plan = !self.plans.iter().all(|&plan| in_range(plan));
+        let wrong_store = self.store != Lent::of(&self.plans).store;
+        match (wrong_count, wrong_plan, wrong_store) {
+            (true, _, _) => Some(20),
+            (_, true, _) => Some(32),
+            (_, _, true) => Some(20),
+            _ => None,
+        }
+    }
+
+    /// What 20 or 32 finds wrong, in a call of this client: a name of
+    /// [`TABLE_FAULTS`].
+    pub fn fault(&self, client: Option<usize>) -> Option<&'static str> {
+        let plans = self.plans.iter();
+        let wrong: Vec<bool> = plans.map(|&plan| !in_range(plan)).collect();
+        let own = client.and_then(|client| wrong.get(client)).copied();
+        match self.refusal()? {
+            32 if own == Some(true) => Some("refused 32, its own plan"),
+            32 => Some("refused 32, another's plan"),
+            _ if (1..=CLIENTS_MOST).contains(&self.records()) => Some("refused 20, store"),
+            _ if wrong.contains(&true) => Some("refused 20, count, with a wrong plan"),
+            _ => Some("refused 20, count"),
+        }
+    }
+}
+
+/// Every name that [`Lent::fault`] has.
+pub const TABLE_FAULTS: [&str; 5] = [
+    "refused 20, count",
+    "refused 20, count, with a wrong plan",
+    "refused 32, its own plan",
+    "refused 32, another's plan",
+    "refused 20, store",
+];
+
+/// A plan in range.
+pub fn plan(random: &mut Random) -> u64 {
+    let any = 1 + random.below(ASSEMBLIES) as u64;
+    random.pick(&[1, 2, 4, 8, any, any])
+}
+
+/// A plan out of range. The lowest bits of some are in range, or those of the
+/// share that they would have.
+pub fn wrong_plan(random: &mut Random) -> u64 {
+    let low = plan(random);
+    let past = ASSEMBLIES as u64 + 1;
+    let high = low | 1 << random.pick(&[8, 16, 32, 51, 63]);
+    random.pick(&[0, 0, past, past, past + 1, 12, u64::MAX, high, high])
+}
+
+/// The plans of up to `clients` clients.
+fn plans(random: &mut Random, clients: usize) -> Vec<u64> {
+    let count = 1 + random.below(clients);
+    (0..count).map(|_| plan(random)).collect()
 }
 
 /// What a call asks of the table.
@@ -804,13 +869,13 @@ impl Call {
 
     /// Runs the call on the book of its client.
     pub fn on_book(&self, book: &mut Book, out: &mut [u8]) -> Answer {
-        let Lent { records, store } = self.lent;
+        let (plans, store) = (&self.lent.plans, self.lent.store);
         match &self.ask {
-            Ask::SetUp => book.set_up(records, store),
-            Ask::Clock { time, .. } => book.clock(records, store, *time),
-            Ask::Bill { .. } => book.bill(records, store),
+            Ask::SetUp => book.set_up(plans, store),
+            Ask::Clock { time, .. } => book.clock(plans, store, *time),
+            Ask::Bill { .. } => book.bill(plans, store),
             Ask::Piece { .. } => match self.piece_call() {
-                Some(call) => book.piece(records, store, &call, out),
+                Some(call) => book.piece(plans, store, &call, out),
                 None => Answer::Refused(0),
             },
         }
@@ -845,36 +910,49 @@ impl Call {
 }
 
 /// A table that lists are run on.
-#[derive(Clone, Debug)]
+#[derive(Clone, Debug, PartialEq, Eq)]
 pub struct World {
     pub records: Vec<Record>,
     pub store: Vec<u8>,
 }
 
 impl World {
-    /// A table of any lengths; the store starts with bytes that are not 0.
-    pub fn new(lent: Lent) -> World {
+    /// A table of any plans and length; the store starts with bytes that are
+    /// not 0.
+    pub fn new(lent: &Lent) -> World {
         World {
-            records: vec![fresh(); lent.records],
+            records: lent.plans.iter().map(|&plan| fresh(plan)).collect(),
             store: vec![0xA5; lent.store],
         }
     }
 
     pub fn lent(&self) -> Lent {
         Lent {
-            records: self.records.len(),
+            plans: self.records.iter().map(|record| record.plan).collect(),
             store: self.store.len(),
         }
     }
 
+    /// The table as it is, with other plans and lengths: what 20 or 32 refuses
+    /// leaves live records alone, and a set-up taken makes them fresh.
+    pub fn resized(&self, lent: &Lent) -> World {
+        let mut other = self.clone();
+        other.records.resize(lent.records(), fresh(0));
+        other.store.resize(lent.store, 0xA5);
+        for (record, &plan) in other.records.iter_mut().zip(&lent.plans) {
+            record.plan = plan;
+        }
+        other
+    }
+
     /// Runs a call on this table if it is the one lent; else a set-up that 20
-    /// lets pass brings another table, and other calls get a table of their
-    /// own that is dropped again.
+    /// and 32 let pass brings another table, and other calls get a table of
+    /// their own that is dropped again.
     pub fn run(&mut self, call: &Call, out: &mut [u8]) -> Answer {
         if call.lent == self.lent() {
             return call.on_table(&mut self.records, &mut self.store, out);
         }
-        let mut other = World::new(call.lent);
+        let mut other = self.resized(&call.lent);
         let answer = call.on_table(&mut other.records, &mut other.store, out);
         if answer == Answer::SetUp {
             *self = other;
@@ -883,34 +961,34 @@ impl World {
     }
 }
 
-/// The original that a key's pieces are cut from, and the order in which they
-/// mostly come.
+/// Where the original is cut that a key's pieces are of, and the order in which
+/// they mostly come.
 #[derive(Clone, Debug)]
-struct Plan {
+struct Cutting {
     cuts: Vec<usize>,
     r: usize,
     order: Vec<usize>,
 }
 
-fn plan(random: &mut Random) -> Plan {
+fn cutting(random: &mut Random) -> Cutting {
     let t = random.pick(&[1, 2, 12, 40, 40, 100, PLACE - 1, PLACE]);
     let count = random.pick(&[1, 2, 3, 5, 17, PIECES - 1, PIECES, PIECES + 1]);
-    planned(random, t, count)
+    cut_into(random, t, count)
 }
 
-/// A plan with about as many pieces as an assembly may have.
-fn long_plan(random: &mut Random) -> Plan {
+/// About as many pieces as an assembly may have.
+fn long_cutting(random: &mut Random) -> Cutting {
     let t = random.pick(&[100, 300, PLACE - 1, PLACE]);
     let count = random.pick(&[PIECES - 1, PIECES, PIECES + 1, PIECES + 1]);
-    planned(random, t, count)
+    cut_into(random, t, count)
 }
 
-fn planned(random: &mut Random, t: usize, count: usize) -> Plan {
+fn cut_into(random: &mut Random, t: usize, count: usize) -> Cutting {
     let cuts = cuts(random, t, count.min(t));
     let mut order: Vec<usize> = (0..cuts.len() - 1).collect();
     arrange(random, &mut order);
     let r = random.pick(&[0, t / 2, t]);
-    Plan { cuts, r, order }
+    Cutting { cuts, r, order }
 }
 
 /// Where an original of `t` bytes is cut into `count` pieces: both ends, and
@@ -953,7 +1031,10 @@ fn arrange<T: Clone>(random: &mut Random, list: &mut [T]) {
     }
 }
 
-/// Six keys that differ in one component each.
+/// How many keys there are: more than any plan allows.
+const KEYS: usize = 10;
+
+/// Keys that mostly differ in one component.
 fn key(number: usize) -> (Flow, u32) {
     let mut flow = Flow {
         source: [10, 0, 0, 1],
@@ -968,6 +1049,10 @@ fn key(number: usize) -> (Flow, u32) {
         3 => flow.source_port = 4_001,
         4 => flow.destination_port = 4_000,
         5 => identification = u32::MAX,
+        6 => identification = 7 << 24,
+        7 => flow.source[0] = 11,
+        8 => flow.destination[3] = 1,
+        9 => (flow.source_port, flow.destination_port) = (5_000, 4_000),
         _ => {}
     }
     (flow, identification)
@@ -978,31 +1063,51 @@ fn content(number: usize, place: usize) -> u8 {
     Random::new((number * 65_536 + place) as u64).byte()
 }
 
-/// A table of lengths that 20 refuses.
-fn wrong_lent(random: &mut Random, right: Lent) -> Lent {
-    let wrong = match random.below(7) {
-        0 => Lent::of(0),
-        1 => Lent::of(CLIENTS_MOST + 1),
-        2 => Lent {
-            records: right.records + 1,
-            ..right
-        },
-        3 => Lent {
-            records: right.records - 1,
-            ..right
-        },
-        4 => Lent {
-            store: right.store - 1,
-            ..right
-        },
-        5 => Lent {
-            store: right.store + SHARE,
-            ..right
-        },
-        _ => Lent { store: 0, ..right },
-    };
+/// A table that 20 or 32 refuses.
+fn wrong_lent(random: &mut Random, right: &Lent) -> Lent {
+    let mut wrong = right.clone();
+    match random.below(12) {
+        0 => wrong = Lent::of(&[]),
+        1 => wrong = Lent::of(&[plan(random); CLIENTS_MOST + 1]),
+        2 => {
+            // Too many records, one of them with a wrong plan.
+            wrong.plans.resize(CLIENTS_MOST + 1, 1);
+            misplan(random, &mut wrong.plans);
+            wrong.store = Lent::of(&wrong.plans).store;
+        }
+        3 => wrong.plans.push(plan(random)),
+        4 => {
+            wrong.plans.pop();
+        }
+        5 => {
+            // Another plan, whose share is not there.
+            let at = random.below(right.records());
+            wrong.plans[at] = wrong.plans[at] % ASSEMBLIES as u64 + 1;
+        }
+        6 => wrong.store -= 1,
+        7 => wrong.store += random.pick(&[1, PLACE]),
+        8 => wrong.store = 0,
+        _ => {
+            misplan(random, &mut wrong.plans);
+            match random.below(3) {
+                0 => wrong.store = Lent::of(&wrong.plans).store,
+                1 => wrong.store += PLACE,
+                _ => {}
+            }
+        }
+    }
     debug_assert!(!wrong.passes());
     wrong
+}
+
+/// Puts a plan out of range into one of the records, now and then into all.
+fn misplan(random: &mut Random, plans: &mut [u64]) {
+    let wrong = wrong_plan(random);
+    if random.one_in(8) {
+        plans.fill(wrong);
+    }
+    let at = random.below(plans.len());
+    plans[at] = wrong;
 }
 
 /// The next time of a client: mostly at once or soon, now and then at an
@@ -1029,46 +1134,50 @@ fn next_time(random: &mut Random, now: &mut u64, pace: usize) -> u64 {
 }
 
 /// A list of calls on a table of at most `clients` clients. Every call that
-/// 20 lets pass gets the table of the last set-up taken.
+/// 20 and 32 let pass gets the table of the last set-up taken.
 pub fn calls(random: &mut Random, clients: usize, count: usize) -> Vec<Call> {
-    let mut table = Lent::of(1 + random.below(clients));
+    let mut table = Lent::of(&plans(random, clients));
     // Of each client and of one that is none: the time, and how far it is in
-    // the plan of each key.
+    // the pieces of each key.
     let mut now = [0u64; CLIENTS_MOST + 1];
-    let mut sent = [[0usize; 6]; CLIENTS_MOST + 1];
+    let mut sent = [[0usize; KEYS]; CLIENTS_MOST + 1];
     // A calm list changes little, has a place for each key, and favours one
     // client and one key, so that assemblies grow to the limit.
     let calm = random.one_in(2);
-    let keys = if calm { ASSEMBLIES } else { 6 };
     let pace = if calm { 1_000 } else { random.pick(&[50, 400]) };
-    let mut plans: Vec<Plan> = (0..keys).map(|_| plan(random)).collect();
+    let mut cuttings: Vec<Cutting> = (0..KEYS).map(|_| cutting(random)).collect();
     if calm {
-        plans[0] = long_plan(random);
+        cuttings[0] = long_cutting(random);
     }
     let mut list = vec![Call {
-        lent: table,
+        lent: table.clone(),
         ask: Ask::SetUp,
     }];
     while list.len() < count {
-        let mut lent = table;
+        let mut lent = table.clone();
         if random.one_in(50) {
-            lent = wrong_lent(random, table);
+            lent = wrong_lent(random, &table);
         }
         let client = if random.one_in(50) {
-            random.pick(&[table.records, CLIENTS_MOST, CLIENTS_MOST + 1, usize::MAX])
+            random.pick(&[table.records(), CLIENTS_MOST, CLIENTS_MOST + 1, usize::MAX])
         } else if calm && !random.one_in(4) {
             0
         } else {
-            random.below(table.records)
+            random.below(table.records())
         };
         let known = client.min(CLIENTS_MOST);
         let ask = match random.below(100) {
             0 if random.one_in(if calm { 8 } else { 2 }) => {
-                match random.below(3) {
-                    0 => lent = wrong_lent(random, table),
+                match random.below(4) {
+                    0 => lent = wrong_lent(random, &table),
                     1 if lent == table => {
-                        table = Lent::of(1 + random.below(clients));
-                        lent = table;
+                        table = Lent::of(&plans(random, clients));
+                        lent = table.clone();
+                    }
+                    2 if lent == table => {
+                        // As many bytes, in other shares.
+                        table.plans.rotate_left(1);
+                        lent = table.clone();
                     }
                     _ => {}
                 }
@@ -1084,24 +1193,29 @@ pub fn calls(random: &mut Random, clients: usize, count: usize) -> Vec<Call> {
             5..=8 => Ask::Bill { client },
             _ => {
                 let favoured = calm && !random.one_in(4);
-                let number = if favoured { 0 } else { random.below(keys) };
+                let own = table.plans.get(client).map_or(1, |&plan| plan as usize);
+                let number = match calm {
+                    _ if favoured => 0,
+                    true => random.below(own),
+                    false => random.below(KEYS),
+                };
                 if random.one_in(if calm { 300 } else { 20 }) {
-                    plans[number] = if favoured {
-                        long_plan(random)
+                    cuttings[number] = if favoured {
+                        long_cutting(random)
                     } else {
-                        plan(random)
+                        cutting(random)
                     };
                 }
                 let changed = random.one_in(if calm { 200 } else { 7 });
                 let time = next_time(random, &mut now[known], pace);
-                let plan = &plans[number];
+                let cutting = &cuttings[number];
                 let index = if random.one_in(8) || lent != table {
-                    random.pick(&plan.order)
+                    random.pick(&cutting.order)
                 } else {
                     sent[known][number] += 1;
-                    plan.order[(sent[known][number] - 1) % plan.order.len()]
+                    cutting.order[(sent[known][number] - 1) % cutting.order.len()]
                 };
-                planned_piece(random, plan, index, number, client, time, changed)
+                cut_piece(random, cutting, index, number, client, time, changed)
             }
         };
         list.push(Call { lent, ask });
@@ -1109,24 +1223,23 @@ pub fn calls(random: &mut Random, clients: usize, count: usize) -> Vec<Call> {
     list
 }
 
-/// The pieces of one original, at one time and in any order: as many as an
-/// assembly may have, or nearly, or some.
+/// The pieces of one original, at one time and in any order, for a client with
+/// a plan of 1: as many as an assembly may have, or nearly, or some.
 pub fn original_calls(random: &mut Random) -> Vec<Call> {
     let t = random.pick(&[100, 300, PLACE - 1, PLACE]);
     let count = random.pick(&[2, 17, PIECES - 1, PIECES, PIECES]);
-    let plan = planned(random, t, count);
-    let lent = Lent::of(1);
+    let cutting = cut_into(random, t, count);
     let one = |&index: &usize| Call {
-        lent,
-        ask: planned_piece(random, &plan, index, 0, 0, 5, false),
+        lent: Lent::of(&[1]),
+        ask: cut_piece(random, &cutting, index, 0, 0, 5, false),
     };
-    plan.order.iter().map(one).collect()
+    cutting.order.iter().map(one).collect()
 }
 
-/// A piece of a plan, as it should be or with one thing changed.
-fn planned_piece(
+/// A piece of an original, as it should be or with one thing changed.
+fn cut_piece(
     random: &mut Random,
-    plan: &Plan,
+    cutting: &Cutting,
     index: usize,
     number: usize,
     client: usize,
@@ -1134,11 +1247,11 @@ fn planned_piece(
     changed: bool,
 ) -> Ask {
     let (flow, identification) = key(number);
-    let mut place = plan.cuts[index];
-    let mut end = plan.cuts[index + 1];
-    let mut last = index + 2 == plan.cuts.len();
+    let mut place = cutting.cuts[index];
+    let mut end = cutting.cuts[index + 1];
+    let mut last = index + 2 == cutting.cuts.len();
     let mut r = if last {
-        plan.r
+        cutting.r
     } else {
         random.below(PLACE + 1_000)
     };
@@ -1185,19 +1298,22 @@ fn planned_piece(
 
 /// A record that passes the record test, without a history.
 pub fn sound_record(random: &mut Random) -> Record {
-    let mut record = fresh();
+    let mut record = fresh(plan(random));
     record.time = match random.below(4) {
         0 => random.below(200_000) as u64,
         1 => u64::MAX - random.below(200_000) as u64,
         2 => u64::MAX,
         _ => random.draw(),
     };
-    let skip = random.below(6);
-    for (number, assembly) in record.assemblies.iter_mut().enumerate() {
-        if random.one_in(3) {
+    let skip = random.below(KEYS);
+    let places = &mut record.assemblies[..record.plan as usize];
+    // Now and then as many are live as the plan allows.
+    let full = random.one_in(3);
+    for (number, assembly) in places.iter_mut().enumerate() {
+        if !full && random.one_in(3) {
             continue;
         }
-        let (flow, identification) = key((number + skip) % 6);
+        let (flow, identification) = key((number + skip) % KEYS);
         let age = random.pick(&[0, 1, 60_000, LIFE - 1]);
         *assembly = Assembly {
             flow,
@@ -1298,7 +1414,7 @@ fn mark_last(random: &mut Random, slots: &mut [Slot]) {
 }
 
 /// The count of ways in which `damage` breaks a record.
-pub const DAMAGES: usize = 31;
+pub const DAMAGES: usize = 33;
 
 /// Breaks one field of a sound record, so that it fails the record test.
 /// False where the record has nothing to break in this way.
@@ -1306,7 +1422,9 @@ pub fn damage(random: &mut Random, record: &mut Record, way: usize) -> bool {
     let live: Vec<usize> = (0..ASSEMBLIES)
         .filter(|&index| record.assemblies[index].count != 0)
         .collect();
-    let unused = (0..ASSEMBLIES).find(|&index| record.assemblies[index].count == 0);
+    let unused: Vec<usize> = (0..ASSEMBLIES)
+        .filter(|&index| record.assemblies[index].count == 0)
+        .collect();
     // Figures that must fit each other.
     match way {
         0 => record.offered = record.offered.wrapping_add(1),
@@ -1339,8 +1457,10 @@ pub fn damage(random: &mut Random, record: &mut Record, way: usize) -> bool {
         }
         // An unused assembly that is not fresh.
         11..=16 => {
-            let Some(index) = unused else { return false };
-            let assembly = &mut record.assemblies[index];
+            if unused.is_empty() {
+                return false;
+            }
+            let assembly = &mut record.assemblies[random.pick(&unused)];
             match way {
                 11 => assembly.opened = record.time.max(1),
                 12 => assembly.identification = 7,
@@ -1363,6 +1483,22 @@ pub fn damage(random: &mut Random, record: &mut Record, way: usize) -> bool {
                 record.assemblies[index].flow = record.assemblies[other].flow;
                 record.assemblies[index].identification = record.assemblies[other].identification;
                 return true;
+            }
+            // A live one past the plan, which is less now.
+            if way == 31 {
+                if index > 0 {
+                    record.plan = 1 + random.below(index) as u64;
+                }
+                return index > 0;
+            }
+            // One that has changed its place for one past the plan.
+            if way == 32 {
+                let plan = record.plan as usize;
+                let past = plan + random.below(ASSEMBLIES - plan);
+                if past < ASSEMBLIES {
+                    record.assemblies.swap(index, past);
+                }
+                return past < ASSEMBLIES;
             }
             let time = record.time;
             let assembly = &mut record.assemblies[index];
@@ -1593,7 +1729,7 @@ fn replace_pieces(random: &mut Random, record: &mut Record, slots: &[Slot], coun
 /// A forged table: mostly sound records, a few with one damaged field or a
 /// list of pieces that may overlap, and a store of any bytes.
 pub fn forged_world(random: &mut Random, clients: usize) -> World {
-    let records = (0..clients)
+    let records: Vec<Record> = (0..clients)
         .map(|_| {
             let mut record = sound_record(random);
             match random.below(8) {
@@ -1609,10 +1745,24 @@ pub fn forged_world(random: &mut Random, clients: usize) -> World {
             record
         })
         .collect();
-    World {
-        records,
-        store: random.bytes(clients * SHARE),
+    let store = random.bytes(store_length(&records));
+    World { records, store }
+}
+
+/// Breaks a table so that 20 or 32 refuses it: a byte of store too many or too
+/// few, or a plan out of range.
+pub fn misfit(random: &mut Random, world: &mut World) {
+    let mut lent = world.lent();
+    match random.below(4) {
+        0 => lent.store -= 1,
+        1 => lent.store += 1,
+        2 => misplan(random, &mut lent.plans),
+        _ => {
+            misplan(random, &mut lent.plans);
+            lent.store = Lent::of(&lent.plans).store;
+        }
     }
+    *world = world.resized(&lent);
 }
 
 /// A call on a forged table that looks at what its client's record holds.
@@ -1626,10 +1776,10 @@ pub fn call_on(random: &mut Random, world: &World) -> Call {
         0 => Ask::Clock { client, time },
         1 => Ask::Bill { client },
         2 | 3 => {
-            let plan = plan(random);
-            let index = random.pick(&plan.order);
-            let number = random.below(6);
-            planned_piece(random, &plan, index, number, client, time, true)
+            let cutting = cutting(random);
+            let index = random.pick(&cutting.order);
+            let number = random.below(KEYS);
+            cut_piece(random, &cutting, index, number, client, time, true)
         }
         _ => near_piece(random, world, client, time),
     };
@@ -1638,7 +1788,10 @@ pub fn call_on(random: &mut Random, world: &World) -> Call {
 
 /// A piece at or beside one that is held.
 fn near_piece(random: &mut Random, world: &World, client: usize, time: u64) -> Ask {
-    let index = random.below(ASSEMBLIES);
+    // Mostly within the plan.
+    let plan = world.records[client].plan.min(ASSEMBLIES as u64) as usize;
+    let places = if random.one_in(8) { ASSEMBLIES } else { plan };
+    let index = random.below(places);
     let assembly = &world.records[client].assemblies[index];
     let count = assembly.filled();
     let slot = assembly.pieces[random.below(count)];
@@ -1664,8 +1817,12 @@ fn near_piece(random: &mut Random, world: &World, client: usize, time: u64) -> A
         4 => end = (end + 1).min(PLACE),
         _ => {}
     }
-    let start = client * SHARE + index * PLACE;
-    let mut bytes = world.store[start + place..start + end].to_vec();
+    let start = share_start(&world.records, client) + index * PLACE;
+    // A place past the plan may lie past the store.
+    let mut bytes = match world.store.get(start + place..start + end) {
+        Some(held) => held.to_vec(),
+        None => random.bytes(end - place),
+    };
     if random.one_in(8) {
         bytes[0] ^= 0x10;
     }
@@ -1685,7 +1842,7 @@ fn near_piece(random: &mut Random, world: &World, client: usize, time: u64) -> A
 /// The book that stands where a sound record and its store stand.
 pub fn book_of(world: &World, client: usize) -> Book {
     let record = &world.records[client];
-    let mut book = Book::new(client);
+    let mut book = Book::new(client, record.plan);
     book.time = record.time;
     book.offered = record.offered;
     book.delivered = record.delivered;
@@ -1694,7 +1851,7 @@ pub fn book_of(world: &World, client: usize) -> Book {
     book.repeated = record.repeated;
     book.turned_away = record.turned_away;
     for (index, assembly) in record.assemblies.iter().enumerate() {
-        let start = client * SHARE + index * PLACE;
+        let start = share_start(&world.records, client) + index * PLACE;
         for slot in &assembly.pieces[..assembly.filled()] {
             let from = start + usize::from(slot.offset);
             book.open.push(OpenPiece {
@@ -1739,6 +1896,12 @@ fn count_answer(coverage: &mut Coverage, call: &Call, answer: &Answer) {
         Answer::SetUp | Answer::Clocked | Answer::Billed(_) => "taken".into(),
     };
     count(coverage, format!("{}: {name}", call.word()));
+}
+
+/// The plan at which a new key was turned away.
+pub fn full_plan(call: &Call, answer: &Answer) -> Option<String> {
+    let plan = call.lent.plans.get(call.client()?)?;
+    (*answer == Answer::Refused(29)).then(|| format!("a key too many for a plan of {plan}"))
 }
 
 /// How many pieces the assembly holds that a piece is for, at the time of its
@@ -2028,12 +2191,18 @@ pub fn coverage(seed: u64, rounds: usize) -> Coverage {
     }
     for round in 0..rounds.div_ceil(100) {
         let clients = if round % 2 == 0 { 1 } else { CLIENTS_MOST };
-        let mut world = World::new(Lent::of(1));
+        let mut world = World::new(&Lent::of(&[1]));
         for call in calls(&mut random, clients, 250) {
             let mut out = vec![0; call.out_length()];
             let held = call.piece_call().map(|piece| held_before(&world, &piece));
             let answer = world.run(&call, &mut out);
             count_answer(&mut seen, &call, &answer);
+            if let Some(name) = call.lent.fault(call.client()) {
+                count(&mut seen, format!("table: {name}"));
+            }
+            if let Some(name) = full_plan(&call, &answer) {
+                count(&mut seen, format!("piece: {name}"));
+            }
             for name in limit_sorts(held.unwrap_or(0), &answer) {
                 count(&mut seen, format!("piece: {name}"));
             }
@@ -2051,6 +2220,9 @@ pub fn coverage(seed: u64, rounds: usize) -> Coverage {
                 "damaged"
             };
             count(&mut seen, format!("forged record: {word}"));
+        }
+        if round % 8 == 7 {
+            misfit(&mut random, &mut world);
         }
         for _ in 0..20 {
             let call = call_on(&mut random, &world);
@@ -2103,22 +2275,21 @@ pub fn wanted() -> Vec<String> {
     add("list", &["taken", "refused 8"]);
     add("list reread", &["taken", "refused 8"]);
     add("write", &["taken", "refused 7", "refused 8", "refused 9"]);
-    add("set up", &["taken", "refused 20"]);
-    add("bill", &["taken", "refused 20", "refused 21", "refused 22"]);
-    add(
-        "clock",
-        &[
-            "taken",
-            "refused 20",
-            "refused 21",
-            "refused 22",
-            "refused 27",
-        ],
-    );
+    add("set up", &["taken", "refused 20", "refused 32"]);
+    let refused = ["refused 20", "refused 32", "refused 21", "refused 22"];
+    add("bill", &["taken"]);
+    add("bill", &refused);
+    add("clock", &["taken", "refused 27"]);
+    add("clock", &refused);
     add("piece", &["stored", "repeated", "clash", "delivered"]);
-    for number in 20..=30 {
+    for number in (20..=30).chain([32]) {
         add("piece", &[&format!("refused {number}")]);
     }
+    for plan in 1..=ASSEMBLIES {
+        let name = format!("a key too many for a plan of {plan}");
+        add("piece", &[&name]);
+    }
+    add("table", &TABLE_FAULTS);
     add("piece", &LIMIT_SORTS);
     add("forged record", &["sound", "damaged"]);
     add("forged list", &LIST_SORTS);

@@ -4,8 +4,8 @@
 //! logic.
 
 use crate::table::{
-    Account, Answer, Assembly, Flow, PieceCall, Record, Slot, CLIENTS_MOST, LIFE, OFFERED_MOST,
-    PIECES, PLACE, SHARE,
+    Account, Answer, Assembly, Flow, PieceCall, Record, Slot, ASSEMBLIES, CLIENTS_MOST, LIFE,
+    OFFERED_MOST, PIECES, PLACE,
 };
 
 /// One bit for each byte of an original.
@@ -35,6 +35,7 @@ pub fn record_test(record: &Record) -> bool {
         if earlier
             .iter()
             .any(|other| has_key(other, &assembly.flow, assembly.identification))
+            || index as u64 >= record.plan
             || assembly.opened > record.time
             || record.time - assembly.opened >= LIFE
         {
@@ -192,24 +193,38 @@ fn has_key(assembly: &Assembly, flow: &Flow, identification: u32) -> bool {
     assembly.identification == identification && assembly.count != 0 && assembly.flow == *flow
 }
 
-/// Refusals 20, 21 and 22, in this order; 0 is none.
-fn refusal(records: &[Record], store: usize, client: usize) -> u32 {
-    let count = records.len();
-    if count == 0 || count > CLIENTS_MOST || store != count * SHARE {
-        return 20;
+/// Refusals 20, 32, 21 and 22, in their order; else where the client's share
+/// starts.
+fn client_share(records: &[Record], store: usize, client: usize) -> Result<usize, u32> {
+    if records.is_empty() || records.len() > CLIENTS_MOST {
+        return Err(20);
+    }
+    // One pass over the plans; a sum counts only if all are in range.
+    let (mut wrong, mut sum, mut before) = (false, 0u64, 0);
+    for (number, record) in records.iter().enumerate() {
+        if number == client {
+            before = sum;
+        }
+        wrong |= record.plan.wrapping_sub(1) >= ASSEMBLIES as u64;
+        sum = sum.wrapping_add(record.plan);
+    }
+    if wrong {
+        return Err(32);
+    }
+    if store != PLACE * sum as usize {
+        return Err(20);
     }
     match records.get(client) {
-        None => 21,
-        Some(record) if record_test(record) => 0,
-        Some(_) => 22,
+        None => Err(21),
+        Some(record) if record_test(record) => Ok(PLACE * before as usize),
+        Some(_) => Err(22),
     }
 }
 
-/// The client's account; refusals 20, 21, 22; changes nothing.
+/// The client's account; refusals 20, 32, 21, 22; changes nothing.
 pub fn bill(records: &[Record], store: &[u8], client: usize) -> Answer {
-    match refusal(records, store.len(), client) {
-        0 => {}
-        number => return Answer::Refused(number),
+    if let Err(number) = client_share(records, store.len(), client) {
+        return Answer::Refused(number);
     }
     let record = &records[client];
     Answer::Billed(Account {
@@ -223,11 +238,10 @@ pub fn bill(records: &[Record], store: &[u8], client: usize) -> Answer {
     })
 }
 
-/// Sets the client's time and expires; refusals 20, 21, 22, 27.
+/// Sets the client's time and expires; refusals 20, 32, 21, 22, 27.
 pub fn clock(records: &mut [Record], store: &[u8], client: usize, time: u64) -> Answer {
-    match refusal(records, store.len(), client) {
-        0 => {}
-        number => return Answer::Refused(number),
+    if let Err(number) = client_share(records, store.len(), client) {
+        return Answer::Refused(number);
     }
     let record = &mut records[client];
     if time < record.time {
@@ -269,12 +283,12 @@ enum Joining {
     Fits(usize, Option<(usize, usize)>),
 }
 
-/// Takes one piece of a client; refusals 20 to 30.
+/// Takes one piece of a client; refusals 20 to 30, and 32.
 pub fn piece(records: &mut [Record], store: &mut [u8], call: &PieceCall, out: &mut [u8]) -> Answer {
-    match refusal(records, store.len(), call.client) {
-        0 => {}
-        number => return Answer::Refused(number),
-    }
+    let share = match client_share(records, store.len(), call.client) {
+        Ok(share) => share,
+        Err(number) => return Answer::Refused(number),
+    };
     let record = &mut records[call.client];
     let room = call.place.saturating_add(call.bytes.len());
     let length = call.bytes.len() as u64;
@@ -303,7 +317,7 @@ pub fn piece(records: &mut [Record], store: &mut [u8], call: &PieceCall, out: &m
         record.turned_away += length;
         return Answer::Refused(29);
     };
-    let from = SHARE * call.client + PLACE * index;
+    let from = share + PLACE * index;
     let bytes = &mut store[from..from + PLACE];
     let assembly = &mut record.assemblies[index];
     let (total, known) = match joining(assembly, call, bytes) {
@@ -352,9 +366,10 @@ pub fn piece(records: &mut [Record], store: &mut [u8], call: &PieceCall, out: &m
     }
 }
 
-/// The assembly with the call's key, else the lowest free place, if any.
+/// The assembly with the call's key, else the lowest free place, if any. None
+/// is live past the plan.
 fn place_of(record: &Record, call: &PieceCall) -> Option<usize> {
-    let assemblies = &record.assemblies;
+    let assemblies = &record.assemblies[..record.plan as usize];
     assemblies
         .iter()
         .position(|assembly| has_key(assembly, &call.flow, call.identification))

@@ -2,15 +2,13 @@
 
 /// The most clients (refusal 20).
 pub const CLIENTS_MOST: usize = 12;
-/// Assemblies of one client.
-pub const ASSEMBLIES: usize = 4;
+/// Assemblies in a record: the largest plan (refusal 32).
+pub const ASSEMBLIES: usize = 8;
 /// The most pieces of one assembly (refusal 30).
 pub const PIECES: usize = 64;
 /// Store bytes of one assembly, the longest original (refusal 25) and the
 /// smallest out buffer (refusal 23).
 pub const PLACE: usize = 8_192;
-/// Store bytes of one client.
-pub const SHARE: usize = ASSEMBLIES * PLACE;
 /// An assembly expires when it was opened this many ms ago or more.
 pub const LIFE: u64 = 120_000;
 /// The most bytes that a client may offer (refusal 28).
@@ -58,9 +56,11 @@ impl Default for Assembly {
     }
 }
 
-/// One client's record.
-#[derive(Clone, Copy, Debug, PartialEq, Eq, Default)]
+/// One client's record. The plan says how many assemblies the client may have
+/// at once, 1 to 8.
+#[derive(Clone, Copy, Debug, PartialEq, Eq)]
 pub struct Record {
+    pub plan: u64,
     pub time: u64,
     pub offered: u64,
     pub held: u64,
@@ -87,7 +87,7 @@ pub struct Account {
 /// The answer of a call.
 #[derive(Clone, Copy, Debug, PartialEq, Eq)]
 pub enum Answer {
-    /// 20 to 30.
+    /// 20 to 30, and 32.
     Refused(u32),
     Stored,
     Repeated,
@@ -117,9 +117,44 @@ pub struct PieceCall<'a> {
     pub r: usize,
 }
 
-/// A fresh record: last time 0, no assembly, all figures 0.
-pub fn fresh() -> Record {
-    Record::default()
+/// A fresh record of this plan: last time 0, no assembly, all figures 0.
+pub fn fresh(plan: u64) -> Record {
+    Record {
+        plan,
+        time: 0,
+        offered: 0,
+        held: 0,
+        delivered: 0,
+        expired: 0,
+        clashed: 0,
+        repeated: 0,
+        turned_away: 0,
+        assemblies: [Assembly::default(); ASSEMBLIES],
+    }
+}
+
+/// Whether a plan is 1 to 8.
+pub fn in_range(plan: u64) -> bool {
+    (1..=ASSEMBLIES as u64).contains(&plan)
+}
+
+/// Store bytes of a client with this plan; 0 for a plan out of range.
+pub fn share(plan: u64) -> usize {
+    if in_range(plan) {
+        plan as usize * PLACE
+    } else {
+        0
+    }
+}
+
+/// Store bytes of all these clients: each share follows those before it.
+pub fn store_length(records: &[Record]) -> usize {
+    records.iter().map(|record| share(record.plan)).sum()
+}
+
+/// Where a client's share starts in the store.
+pub fn share_start(records: &[Record], client: usize) -> usize {
+    store_length(&records[..client])
 }
 
 impl Slot {
@@ -133,6 +168,13 @@ impl Slot {
 
     fn end(&self) -> usize {
         usize::from(self.offset) + usize::from(self.length)
+    }
+}
+
+impl Record {
+    /// How many assemblies are live.
+    fn live(&self) -> u64 {
+        self.assemblies.iter().filter(|a| a.is_live()).count() as u64
     }
 }
 
@@ -168,7 +210,8 @@ impl Assembly {
     }
 }
 
-/// The record test (refusal 22), for records with any values.
+/// The record test (refusal 22), for records with any values. It says nothing
+/// of the plan's range (refusal 32).
 pub fn record_test(record: &Record) -> bool {
     let figures = [
         record.held,
@@ -190,6 +233,10 @@ pub fn record_test(record: &Record) -> bool {
                 return false;
             }
             continue;
+        }
+        // A live one at or past the plan.
+        if index as u64 >= record.plan {
+            return false;
         }
         let earlier = &record.assemblies[..index];
         if earlier
@@ -247,24 +294,35 @@ fn pieces_test(assembly: &Assembly) -> bool {
     unused.iter().all(|slot| *slot == Slot::default())
 }
 
-/// The cause of refusal 20.
-fn wrong_table(records: usize, store: usize) -> bool {
-    records == 0 || records > CLIENTS_MOST || store != records * SHARE
+/// Refusals 20 and 32: the record count, every plan, the store's length.
+fn table_refusal(records: &[Record], store: &[u8]) -> Option<u32> {
+    if records.is_empty() || records.len() > CLIENTS_MOST {
+        Some(20)
+    } else if records.iter().any(|record| !in_range(record.plan)) {
+        Some(32)
+    } else if store.len() != store_length(records) {
+        Some(20)
+    } else {
+        None
+    }
 }
 
-/// Makes all records fresh and leaves the store; refusal 20.
+/// Makes all records fresh but their plans, and leaves the store; refusals 20
+/// and 32.
 pub fn set_up(records: &mut [Record], store: &[u8]) -> Answer {
-    if wrong_table(records.len(), store.len()) {
-        return Answer::Refused(20);
+    if let Some(number) = table_refusal(records, store) {
+        return Answer::Refused(number);
     }
-    records.fill(fresh());
+    for record in records {
+        *record = fresh(record.plan);
+    }
     Answer::SetUp
 }
 
-/// Sets the client's time and expires; refusals 20, 21, 22, 27.
+/// Sets the client's time and expires; refusals 20, 32, 21, 22, 27.
 pub fn clock(records: &mut [Record], store: &[u8], client: usize, time: u64) -> Answer {
-    if wrong_table(records.len(), store.len()) {
-        return Answer::Refused(20);
+    if let Some(number) = table_refusal(records, store) {
+        return Answer::Refused(number);
     }
     let Some(record) = records.get_mut(client) else {
         return Answer::Refused(21);
@@ -279,10 +337,10 @@ pub fn clock(records: &mut [Record], store: &[u8], client: usize, time: u64) -> 
     Answer::Clocked
 }
 
-/// The client's account; refusals 20, 21, 22; changes nothing.
+/// The client's account; refusals 20, 32, 21, 22; changes nothing.
 pub fn bill(records: &[Record], store: &[u8], client: usize) -> Answer {
-    if wrong_table(records.len(), store.len()) {
-        return Answer::Refused(20);
+    if let Some(number) = table_refusal(records, store) {
+        return Answer::Refused(number);
     }
     let Some(record) = records.get(client) else {
         return Answer::Refused(21);
@@ -314,14 +372,16 @@ fn advance(record: &mut Record, time: u64) {
     }
 }
 
-/// Takes one piece of a client; refusals 20 to 30.
+/// Takes one piece of a client; refusals 20 to 30, and 32.
 pub fn piece(records: &mut [Record], store: &mut [u8], call: &PieceCall, out: &mut [u8]) -> Answer {
-    if wrong_table(records.len(), store.len()) {
-        return Answer::Refused(20);
+    if let Some(number) = table_refusal(records, store) {
+        return Answer::Refused(number);
     }
-    let Some(record) = records.get_mut(call.client) else {
+    if call.client >= records.len() {
         return Answer::Refused(21);
-    };
+    }
+    let start = share_start(records, call.client);
+    let record = &mut records[call.client];
     if !record_test(record) {
         return Answer::Refused(22);
     }
@@ -349,7 +409,7 @@ pub fn piece(records: &mut [Record], store: &mut [u8], call: &PieceCall, out: &m
     advance(record, call.time);
     record.offered += length;
 
-    let share = &mut store[SHARE * call.client..SHARE * (call.client + 1)];
+    let share = &mut store[start..start + share(record.plan)];
     let known = record
         .assemblies
         .iter()
@@ -358,8 +418,8 @@ pub fn piece(records: &mut [Record], store: &mut [u8], call: &PieceCall, out: &m
         Some(index) => index,
         // A new assembly takes the lowest free place.
         None => match record.assemblies.iter().position(|a| !a.is_live()) {
-            Some(index) => index,
-            None => {
+            Some(index) if record.live() < record.plan => index,
+            _ => {
                 record.turned_away += length;
                 return Answer::Refused(29);
             }

@@ -1,6 +1,6 @@
 //! Document 01, "Figures to check by hand", 1 to 13.
 
-use reference::table::{PIECES, PLACE, SHARE};
+use reference::table::{ASSEMBLIES, PIECES, PLACE};
 use reference::*;
 
 const SOURCE: [u8; 4] = [192, 0, 2, 1];
@@ -40,9 +40,13 @@ struct One {
 
 impl One {
     fn new() -> One {
+        One::of(4)
+    }
+
+    fn of(plan: u64) -> One {
         let mut one = One {
-            records: vec![fresh(); 1],
-            store: vec![0; SHARE],
+            records: vec![fresh(plan); 1],
+            store: vec![0; share(plan)],
             out: vec![0xEE; PLACE],
         };
         assert_eq!(set_up(&mut one.records, &one.store), Answer::SetUp);
@@ -180,32 +184,49 @@ fn figure_11_expiry() {
             time: 120_000,
             offered: 8,
             expired: 8,
-            ..fresh()
+            ..fresh(4)
         }
     );
 }
 
+/// As document 02 has it: a plan of 4.
 #[test]
 fn figure_12_fifth_key() {
-    let mut one = One::new();
-    for id in 0..4 {
+    one_key_too_many(4);
+}
+
+#[test]
+fn figure_12_for_every_plan() {
+    for plan in 1..=ASSEMBLIES as u32 {
+        one_key_too_many(plan);
+    }
+}
+
+/// As many keys as the plan allows, and one more: 29; after one expiry: taken.
+fn one_key_too_many(plan: u32) {
+    let mut one = One::of(plan.into());
+    for id in 0..plan {
         assert_eq!(one.piece(id.into(), id, 0, &[1; 8], false), Answer::Stored);
+        assert_eq!(one.records[0].assemblies[id as usize].identification, id);
     }
     assert_eq!(
-        one.piece(119_999, 4, 0, &[1; 8], false),
+        one.piece(119_999, plan, 0, &[1; 8], false),
         Answer::Refused(29)
     );
     assert_eq!(one.account().turned_away, 8);
-    assert_eq!(one.piece(120_000, 4, 0, &[1; 8], false), Answer::Stored);
-    assert_eq!(one.account().expired, 8);
+    // Of a key that is there a piece is taken.
+    let known = one.piece(119_999, plan - 1, 8, &[1; 8], false);
+    assert_eq!(known, Answer::Stored);
+    assert_eq!(one.piece(120_000, plan, 0, &[1; 8], false), Answer::Stored);
+    assert_eq!(one.account().expired, if plan == 1 { 16 } else { 8 });
     // The lowest free place.
-    assert_eq!(one.records[0].assemblies[0].identification, 4);
+    assert_eq!(one.records[0].assemblies[0].identification, plan);
 }
 
 /// As document 02 has it.
 #[test]
 fn figure_13_limits() {
-    assert_eq!((PLACE, PIECES, SHARE), (8_192, 64, 32_768));
+    assert_eq!((PLACE, PIECES), (8_192, 64));
     let mut one = One::new();
     let end = PLACE - 6;
     assert_eq!(one.piece(0, 1, end, &[1; 6], false), Answer::Stored);
@@ -256,4 +277,51 @@ fn the_most_pieces_of_the_longest_original() {
         let wanted: Vec<u8> = (0..PLACE).map(|place| (place / step) as u8).collect();
         assert!(one.out == wanted);
     }
+}
+
+/// Document 02: 1 to 8 places of 8,192 bytes, behind the shares before.
+#[test]
+fn shares() {
+    assert_eq!(ASSEMBLIES, 8);
+    assert_eq!([1, 4, 8].map(share), [8_192, 32_768, 65_536]);
+    assert_eq!([0, 9, 1 << 51, u64::MAX].map(share), [0; 4]);
+    let records = [1, 8, 4, 1].map(fresh);
+    assert_eq!(store_length(&records), 14 * 8_192);
+    let starts = [0, 1, 2, 3].map(|client| share_start(&records, client));
+    assert_eq!(starts, [0, 8_192, 73_728, 106_496]);
+}
+
+/// Clients with plans of 1, 8 and 4: each byte stands in its own share.
+#[test]
+fn share_places() {
+    let mut records = [1, 8, 4].map(fresh);
+    let mut store = vec![0xA5; store_length(&records)];
+    let mut out = vec![0xEE; PLACE];
+    assert_eq!(set_up(&mut records, &store), Answer::SetUp);
+    let mut expected = store.clone();
+    for (client, plan) in [1, 8, 4].into_iter().enumerate() {
+        let start = share_start(&records, client);
+        for id in 0..=plan {
+            let bytes = [(16 * client) as u8 + id as u8; 8];
+            let call = PieceCall {
+                client,
+                time: 0,
+                flow: Flow::default(),
+                identification: id,
+                place: PLACE - 8,
+                bytes: &bytes,
+                last: false,
+                r: 0,
+            };
+            let answer = piece(&mut records, &mut store, &call, &mut out);
+            if id == plan {
+                assert_eq!(answer, Answer::Refused(29));
+            } else {
+                assert_eq!(answer, Answer::Stored);
+                let end = start + PLACE * (id as usize + 1);
+                expected[end - 8..end].copy_from_slice(&bytes);
+            }
+        }
+    }
+    assert!(store == expected);
 }

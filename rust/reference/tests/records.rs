@@ -11,13 +11,15 @@ use std::collections::BTreeMap;
 fn second_test(record: &Record) -> bool {
     let mut held = 0u128;
     let mut keys = Vec::new();
-    for assembly in &record.assemblies {
+    let mut live = Vec::new();
+    for (place, assembly) in record.assemblies.iter().enumerate() {
         if assembly.count == 0 {
-            if *assembly != fresh().assemblies[0] {
+            if *assembly != fresh(1).assemblies[0] {
                 return false;
             }
             continue;
         }
+        live.push(place);
         if assembly.count > PIECES as u64 {
             return false;
         }
@@ -35,7 +37,7 @@ fn second_test(record: &Record) -> bool {
         let mut lasts = Vec::new();
         for (index, slot) in assembly.pieces.iter().enumerate() {
             if index as u64 >= assembly.count {
-                if *slot != fresh().assemblies[0].pieces[0] {
+                if *slot != fresh(1).assemblies[0].pieces[0] {
                     return false;
                 }
                 continue;
@@ -75,7 +77,9 @@ fn second_test(record: &Record) -> bool {
         record.turned_away,
     ];
     let sum: u128 = others.iter().map(|&figure| u128::from(figure)).sum();
-    held == u128::from(record.held)
+    let highest = live.last().map_or(0, |&place| place as u64 + 1);
+    highest <= record.plan
+        && held == u128::from(record.held)
         && sum + held == u128::from(record.offered)
         && record.offered <= OFFERED_MOST
 }
@@ -116,7 +120,7 @@ fn one_field_changed() {
         let s = random.below(PIECES);
         let assembly = &mut record.assemblies[a];
         let slot = &mut assembly.pieces[s];
-        match random.below(18) {
+        match random.below(20) {
             0 => record.time = near,
             1 => record.offered = value,
             2 => record.held = value,
@@ -134,6 +138,8 @@ fn one_field_changed() {
             14 => slot.offset = value as u16,
             15 => slot.length = value as u16,
             16 => slot.option_start = value as u16,
+            17 => record.plan = value,
+            18 => record.plan = random.below(ASSEMBLIES + 2) as u64,
             _ => slot.last ^= random.pick(&[1, 2, 255]),
         }
         assert_eq!(record_test(&record), second_test(&record), "{record:?}");
@@ -152,7 +158,7 @@ fn small_assemblies() {
     let mut random = Random::new(14);
     let mut sound = 0;
     for _ in 0..10_000 {
-        let mut record = fresh();
+        let mut record = fresh(1);
         let count = 1 + random.below(4);
         record.assemblies[0].count = count as u64;
         for slot in &mut record.assemblies[0].pieces[..count] {
@@ -197,7 +203,7 @@ fn summed_assemblies() {
 /// The record test against the second one, and whether it passes. The record
 /// has this list in its first assembly, and figures that fit.
 fn passes(slots: &[Slot]) -> bool {
-    let mut record = fresh();
+    let mut record = fresh(1);
     record.assemblies[0].count = slots.len() as u64;
     record.assemblies[0].pieces[..slots.len()].copy_from_slice(slots);
     record.held = slots.iter().map(|slot| u64::from(slot.length)).sum();
@@ -316,7 +322,7 @@ fn one_byte_at_each_place() {
 fn at_the_limits() {
     let most: Vec<Slot> = (0..PIECES).map(|at| slot(at, at + 1)).collect();
     assert!(passes(&most));
-    let mut record = fresh();
+    let mut record = fresh(1);
     record.assemblies[0].pieces.copy_from_slice(&most);
     record.held = PIECES as u64;
     record.offered = record.held;
@@ -330,4 +336,55 @@ fn at_the_limits() {
     assert!(!passes(&[slot(PLACE, PLACE + 1)]));
     assert!(!passes(&[slot(0, PLACE + 1)]));
     assert!(!passes(&[slot(1, PLACE + 1)]));
+}
+
+/// One live assembly, at each place and under each plan.
+#[test]
+fn live_places_and_plans() {
+    for plan in 0..=ASSEMBLIES + 1 {
+        for place in 0..ASSEMBLIES {
+            let mut record = fresh(plan as u64);
+            assert!(record_test(&record) && second_test(&record));
+            record.assemblies[place].count = 1;
+            record.assemblies[place].pieces[0] = slot(0, 8);
+            (record.held, record.offered) = (8, 8);
+            assert_eq!(record_test(&record), place < plan, "{place} of {plan}");
+            assert_eq!(second_test(&record), place < plan, "{place} of {plan}");
+            // As many as there may be, and this one.
+            for other in 0..plan.min(ASSEMBLIES) {
+                record.assemblies[other] = record.assemblies[place];
+                record.assemblies[other].identification = other as u32 + 1;
+            }
+            let live = record.assemblies.iter().filter(|a| a.count != 0).count() as u64;
+            (record.held, record.offered) = (8 * live, 8 * live);
+            assert_eq!(record_test(&record), place < plan, "{place} of {plan}");
+            assert_eq!(second_test(&record), place < plan, "{place} of {plan}");
+        }
+    }
+}
+
+/// An unused place that is not fresh fails, within the plan and past it.
+#[test]
+fn unused_places_past_the_plan() {
+    let strays: [fn(&mut Assembly); 9] = [
+        |unused| unused.flow.source[3] = 1,
+        |unused| unused.flow.destination[0] = 1,
+        |unused| unused.flow.source_port = 1,
+        |unused| unused.flow.destination_port = 256,
+        |unused| unused.identification = 1 << 31,
+        |unused| unused.opened = 1,
+        |unused| unused.pieces[0].length = 1,
+        |unused| unused.pieces[PIECES - 1].last = 256,
+        |unused| unused.pieces[PIECES / 2].option_start = 1,
+    ];
+    for plan in 1..=ASSEMBLIES as u64 {
+        for place in 0..ASSEMBLIES {
+            for stray in strays {
+                let mut record = fresh(plan);
+                record.time = 5;
+                stray(&mut record.assemblies[place]);
+                assert!(!record_test(&record) && !second_test(&record));
+            }
+        }
+    }
 }

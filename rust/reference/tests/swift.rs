@@ -1,10 +1,10 @@
 //! The swift table against the plain one: answers, records, store and out.
 
 use reference::generate::{
-    call_on, calls, damage, forged_world, sound_record, summed, Ask, Call, Lent, Random, World,
-    DAMAGES,
+    call_on, calls, damage, forged_world, full_plan, misfit, sound_record, summed, Ask, Call, Lent,
+    Random, World, DAMAGES,
 };
-use reference::table::{PIECES, PLACE, SHARE};
+use reference::table::{ASSEMBLIES, PIECES, PLACE};
 use reference::*;
 use std::collections::BTreeMap;
 
@@ -25,9 +25,11 @@ fn step(plain: &mut World, swift: &mut World, call: &Call) -> Answer {
     let mut swift_out = plain_out.clone();
     if call.lent != plain.lent() {
         // As `World::run` has it: another table, kept after a set-up taken.
-        let (mut one, mut two) = (World::new(call.lent), World::new(call.lent));
+        let mut one = plain.resized(&call.lent);
+        let mut two = one.clone();
         let answer = call.on_table(&mut one.records, &mut one.store, &mut plain_out);
         assert_eq!(on_swift(call, &mut two, &mut swift_out), answer, "{call:?}");
+        assert!(one == two && swift_out == plain_out, "{call:?}");
         if answer == Answer::SetUp {
             (*plain, *swift) = (one, two);
         }
@@ -55,16 +57,23 @@ fn lists_of_calls() {
     let mut random = Random::new(21);
     let mut answers = BTreeMap::new();
     for round in 0..300 {
-        let mut plain = World::new(Lent::of(1));
+        let mut plain = World::new(&Lent::of(&[1]));
         let mut swift = plain.clone();
         let clients = [1, 2, 12][round % 3];
         for call in calls(&mut random, clients, 400) {
             let answer = step(&mut plain, &mut swift, &call);
             *answers.entry(name(&answer)).or_insert(0) += 1;
+            if let Some(name) = full_plan(&call, &answer) {
+                *answers.entry(name).or_insert(0) += 1;
+            }
         }
     }
     println!("{answers:?}");
-    let refused = [20, 21, 23, 24, 25, 26, 27, 29].map(|number| format!("Refused({number})"));
+    for plan in 1..=ASSEMBLIES {
+        let name = format!("a key too many for a plan of {plan}");
+        assert!(answers.contains_key(&name), "{name}");
+    }
+    let refused = [20, 32, 21, 23, 24, 25, 26, 27, 29].map(|number| format!("Refused({number})"));
     let taken = [
         "Stored",
         "Repeated",
@@ -79,13 +88,17 @@ fn lists_of_calls() {
     }
 }
 
-/// From records that no history made, damaged ones among them.
+/// From records that no history made, damaged ones among them, now and then in
+/// a table that does not fit.
 #[test]
 fn forged_records() {
     let mut random = Random::new(22);
     let mut answers = BTreeMap::new();
-    for _ in 0..1_500 {
-        let mut plain = forged_world(&mut random, 2);
+    for round in 0..1_500 {
+        let mut plain = forged_world(&mut random, 1 + round % 3);
+        if random.one_in(8) {
+            misfit(&mut random, &mut plain);
+        }
         let mut swift = plain.clone();
         for _ in 0..20 {
             let call = call_on(&mut random, &plain);
@@ -95,8 +108,11 @@ fn forged_records() {
     }
     println!("{answers:?}");
     for name in [
+        "Refused(20)",
+        "Refused(32)",
         "Refused(22)",
         "Refused(28)",
+        "Refused(29)",
         "Stored",
         "Repeated",
         "Clash",
@@ -217,9 +233,10 @@ fn nudge(random: &mut Random, slots: &mut [Slot]) {
 
 /// A record with pieces in some order; a nudged one mostly fails the test.
 fn ordered_record(random: &mut Random, order: Order, nudged: bool) -> Record {
-    let mut record = fresh();
+    let plan = 1 + random.below(ASSEMBLIES);
+    let mut record = fresh(plan as u64);
     record.time = 500;
-    let live = 1 + random.below(record.assemblies.len());
+    let live = 1 + random.below(plan);
     for (number, assembly) in record.assemblies[..live].iter_mut().enumerate() {
         let mut slots = pieces(random);
         if nudged && random.one_in(live) {
@@ -272,10 +289,9 @@ fn calls_on_orders() {
     for round in 0..1_500 {
         let order = ORDERS[round % ORDERS.len()];
         let nudged = random.one_in(8);
-        let mut plain = World {
-            records: vec![ordered_record(&mut random, order, nudged)],
-            store: random.bytes(SHARE),
-        };
+        let records = vec![ordered_record(&mut random, order, nudged)];
+        let store = random.bytes(store_length(&records));
+        let mut plain = World { records, store };
         let mut swift = plain.clone();
         for _ in 0..20 {
             let call = call_on(&mut random, &plain);
@@ -331,9 +347,9 @@ fn change_field(random: &mut Random, record: &mut Record) {
         3 => 1 << random.below(64),
         _ => random.draw(),
     };
-    let assembly = &mut record.assemblies[random.below(4)];
+    let assembly = &mut record.assemblies[random.below(ASSEMBLIES)];
     let slot = &mut assembly.pieces[random.below(PIECES)];
-    match random.below(17) {
+    match random.below(19) {
         0 => record.time = value,
         1 => record.offered = value,
         2 => record.held = value,
@@ -350,6 +366,67 @@ fn change_field(random: &mut Random, record: &mut Record) {
         13 => slot.offset = value as u16,
         14 => slot.length = value as u16,
         15 => slot.option_start = value as u16,
+        16 => record.plan = value,
+        17 => record.plan = random.below(ASSEMBLIES + 2) as u64,
         _ => slot.last = value as u16,
+    }
+}
+
+/// A table as it is lent, and one thing asked of it: all that 20, 32, 21 and 22
+/// look at, every mix of it.
+#[test]
+fn tables_lent() {
+    let mut random = Random::new(26);
+    let mut answers = BTreeMap::new();
+    for _ in 0..20_000 {
+        let count = random.pick(&[0, 1, 2, 3, 12, 13]);
+        let plans: Vec<u64> = (0..count)
+            .map(|_| match random.below(count.max(6)) {
+                0 => generate::wrong_plan(&mut random),
+                _ => generate::plan(&mut random),
+            })
+            .collect();
+        let mut lent = Lent::of(&plans);
+        match random.below(6) {
+            0 => lent.store += 1,
+            1 => lent.store = lent.store.saturating_sub(1),
+            2 => lent.store = random.below(14) * share(8),
+            _ => {}
+        }
+        let mut plain = World::new(&lent);
+        for record in &mut plain.records {
+            record.offered = u64::from(random.one_in(4));
+        }
+        let client = random.pick(&[0, 1, count, usize::MAX]);
+        let ask = match random.below(4) {
+            0 => Ask::SetUp,
+            1 => Ask::Bill { client },
+            2 => Ask::Clock { client, time: 1 },
+            _ => Ask::Piece {
+                client,
+                time: 1,
+                flow: Flow::default(),
+                identification: 1,
+                place: 0,
+                bytes: vec![7; 8],
+                last: random.one_in(2),
+                r: 0,
+                out: PLACE - usize::from(random.one_in(8)),
+            },
+        };
+        let call = Call { lent, ask };
+        let mut swift = plain.clone();
+        let answer = step(&mut plain, &mut swift, &call);
+        if let Some(number) = call.lent.refusal() {
+            assert_eq!(answer, Answer::Refused(number), "{call:?}");
+        } else {
+            assert!(!matches!(answer, Answer::Refused(20 | 32)), "{call:?}");
+        }
+        *answers.entry(name(&answer)).or_insert(0) += 1;
+    }
+    println!("{answers:?}");
+    for number in [20, 32, 21, 22] {
+        let count = answers.get(&format!("Refused({number})"));
+        assert!(count.is_some_and(|&count| count > 100), "{number}");
     }
 }

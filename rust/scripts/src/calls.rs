@@ -1,23 +1,25 @@
-//! Lists of calls on a table. Lines: `table of RECORDS, store BYTES, out
-//! BYTES` (what is lent from here on), `set up`, `piece` or `last` CLIENT at
-//! TIME key FLOW/IDENTIFICATION place PLACE length LENGTH r R other OTHER,
-//! `clock CLIENT at TIME`, `bill CLIENT`, `forge CLIENT field FIELD place
-//! PLACE slot SLOT value VALUE`, and `end`. Of a line its first letter and its
-//! numbers count; a number that is not there is 0. Other lines are titles.
+//! Lists of calls on a table. Lines: `table of plans PLAN PLAN .., store BYTES,
+//! out BYTES` (what is lent from here on: a record for each plan, which gets
+//! it), `set up`, `piece` or `last` CLIENT at TIME key FLOW/IDENTIFICATION
+//! place PLACE length LENGTH r R other OTHER, `clock CLIENT at TIME`, `bill
+//! CLIENT`, `forge CLIENT field FIELD place PLACE slot SLOT value VALUE`, and
+//! `end`. Of a line its first letter and its numbers count; a number that is
+//! not there is 0. Other lines are titles.
 //!
 //! Every line is printed with its answer, and at the end of a list the CRC32c
 //! of the whole store. A list starts with a store of 5a, and finds the records
-//! as the one before left them.
+//! as the one before left them, but for the plans that its table has.
 
 use crate::crc::crc32c;
 use crate::forge::forge;
 use wuraketozo::{
-    Account, Answer, Arrival, Client, Flow, Place, Refusal, Table, CLIENT_LIMIT, SHARE,
+    Account, Answer, Arrival, Client, Flow, Place, Plan, Refusal, Table, CLIENT_LIMIT,
 };
 
-/// One record more than a table may have, and one byte more than their store.
+/// One record more than a table may have, and one byte more than their store
+/// if all have the largest plan.
 const RECORDS: usize = CLIENT_LIMIT + 1;
-const STORE: usize = RECORDS * SHARE + 1;
+const STORE: usize = RECORDS * Plan::LARGEST.share() + 1;
 
 /// What the store holds before a list, and an out buffer before a call.
 const UNUSED: u8 = 0x5A;
@@ -25,7 +27,7 @@ const BLANK: u8 = 0xA5;
 
 pub fn run(script: &str) -> Result<String, String> {
     let mut lists = Lists {
-        records: [Client::default(); RECORDS],
+        records: [Client::new(Plan::SMALLEST); RECORDS],
         store: vec![UNUSED; STORE],
         lent: (0, 0),
         room: 0,
@@ -52,8 +54,7 @@ impl Lists {
         let numbers = Numbers::of(line);
         let answer = match line.chars().next() {
             Some('t') => {
-                self.lent = (numbers.size(0), numbers.size(1));
-                self.room = numbers.size(2);
+                self.lend(&numbers, line)?;
                 String::new()
             }
             Some('f') => {
@@ -69,6 +70,20 @@ impl Lists {
             None => String::new(),
         };
         Ok(format!("{line}{answer}"))
+    }
+
+    /// The plans, the bytes of store, and those of the out buffer.
+    fn lend(&mut self, numbers: &Numbers, line: &str) -> Result<(), String> {
+        let Some(count) = numbers.0.len().checked_sub(2) else {
+            return Err(format!("store and out are missing: {line}"));
+        };
+        let plans = &numbers.0[..count];
+        for (record, plan) in self.records.iter_mut().zip(plans) {
+            record.plan = *plan;
+        }
+        self.lent = (count, numbers.size(count));
+        self.room = numbers.size(count + 1);
+        Ok(())
     }
 
     /// Only a record that is lent can be forged.

@@ -3,7 +3,8 @@
 
 use wuraketozo::{Assembly, Client, Held, ASSEMBLY_LIMIT, FRAGMENT_LIMIT};
 
-/// Fields 0 to 7 are the time and the figures, in document 01's order.
+/// Fields 0 to 7 are the time and the figures, in document 01's order; 19 is
+/// the plan.
 pub fn forge(record: &mut Client, field: u64, place: usize, slot: usize, value: u64) {
     match field {
         0 => record.time = value,
@@ -14,6 +15,7 @@ pub fn forge(record: &mut Client, field: u64, place: usize, slot: usize, value: 
         5 => record.conflicted = value,
         6 => record.repeated = value,
         7 => record.rejected = value,
+        19 => record.plan = value,
         _ => {
             let assembly = &mut record.assemblies[place % ASSEMBLY_LIMIT];
             forge_assembly(assembly, field, slot, value);

@@ -2,8 +2,8 @@
 //! and faults are shown with their offsets, as in a packet trace.
 
 use wuraketozo::{
-    entries, list, relist, reread, rewalk, walk, write, Answer, Apc, Client, Entry, Flow, Located,
-    Received, Refusal, Strictness, Table, Value, Verdict, ORIGINAL_LIMIT, SHARE,
+    entries, list, relist, reread, rewalk, store_length, walk, write, Answer, Apc, Client, Entry,
+    Flow, Located, Plan, Received, Refusal, Strictness, Table, Value, Verdict, ORIGINAL_LIMIT,
 };
 
 const GAUGE: Flow = Flow {
@@ -46,11 +46,11 @@ fn show<'a>(
 }
 
 /// A fragment's payload without checksums, which IPv4 allows.
-fn fragment(place: u16, bytes: &[u8], option_start: Option<u16>) -> Vec<u8> {
+fn fragment(identification: u8, place: u16, bytes: &[u8], option_start: Option<u16>) -> Vec<u8> {
     let mut payload = vec![0x12, 0x34, 0, 53, 0, 8, 0, 0, 0, 0];
     let length: u8 = if option_start.is_some() { 12 } else { 10 };
-    // FRAG: kind, length, where the bytes start, identification 7, offset.
-    payload.extend([3, length, 0, 10 + length, 0, 0, 0, 7]);
+    // FRAG: kind, length, where the bytes start, identification, offset.
+    payload.extend([3, length, 0, 10 + length, 0, 0, 0, identification]);
     payload.extend((8 + place).to_be_bytes());
     if let Some(start) = option_start {
         payload.extend((8 + start).to_be_bytes());
@@ -68,22 +68,25 @@ fn faulty() -> Vec<u8> {
 }
 
 fn main() -> Result<(), Refusal> {
-    let mut records = [Client::default(); 3];
-    let mut store = vec![0; 3 * SHARE];
+    // The first client may have eight originals under way at once, the other one.
+    let mut records = [Plan::LARGEST, Plan::SMALLEST].map(Client::new);
+    let mut store = vec![0; store_length(&records)];
     let mut out = vec![0; ORIGINAL_LIMIT];
     let mut table = Table::new(&mut records, &mut store);
     table.reset()?;
 
     // A datagram with an APC and a REQ with token 300, one with a fault, then a
     // fragmented original, its last fragment first: 12 bytes of data, then its
-    // options.
+    // options. A fragment of another original comes in between: the plan has no
+    // place for it.
     let mut whole = [0; 64];
     let length = write(&GAUGE, b"level 412 cm", &[2, 2, 6, 0xAC, 2], 0, &mut whole)?;
     let arrivals = [
         whole[..length].to_vec(),
         faulty(),
-        fragment(6, b"413 cm\0\0\x06\x06\0\0\x01\x2d", Some(12)),
-        fragment(0, b"level ", None),
+        fragment(7, 6, b"413 cm\0\0\x06\x06\0\0\x01\x2d", Some(12)),
+        fragment(8, 0, b"next: ", None),
+        fragment(7, 0, b"level ", None),
     ];
     let mut buffer = [0; 256];
     for (time, payload) in arrivals.iter().enumerate() {

@@ -8,7 +8,7 @@
 //!   other thread uses it: it comes from a `&mut`.
 
 use crate::reading::PacketOffset;
-use crate::record::{Account, Client, Flow, Place};
+use crate::record::{Account, Client, Flow, Place, Plan};
 use core::mem::{align_of, offset_of, size_of};
 
 #[repr(C)]
@@ -202,8 +202,8 @@ mod c {
             buffer: *mut u8,
             room: usize,
         ) -> Written;
-        pub fn wuraketozo_layout_6() -> usize;
-        pub fn wuraketozo_share_size() -> usize;
+        pub fn wuraketozo_layout_7() -> usize;
+        pub fn wuraketozo_share_size(plan: u64) -> usize;
         pub fn wuraketozo_out_size() -> usize;
         pub fn wuraketozo_client_limit() -> usize;
         pub fn wuraketozo_reset(
@@ -260,7 +260,7 @@ mod c {
 /// A library of another layout has no symbol of this name, so that nothing
 /// that uses this crate links against it.
 #[used]
-static LAYOUT: unsafe extern "C" fn() -> usize = c::wuraketozo_layout_6;
+static LAYOUT: unsafe extern "C" fn() -> usize = c::wuraketozo_layout_7;
 
 #[inline]
 pub fn read(payload: &[u8], source: [u8; 4], destination: [u8; 4], strictness: u32) -> Reading {
@@ -357,16 +357,19 @@ pub fn write(
     }
 }
 
-/// The sizes that the library was built with: of a record, of a share of
-/// the store, of the smallest out buffer, and the most clients.
-pub fn sizes() -> [usize; 4] {
-    // SAFETY: these take nothing and touch nothing.
+/// The sizes that the library was built with: of a record, of the smallest out
+/// buffer, the most clients, and of the shares of the smallest plan, of the
+/// largest one and of the number behind it, which is no plan.
+pub fn sizes() -> [usize; 6] {
+    // SAFETY: these take numbers and touch nothing.
     unsafe {
         [
-            c::wuraketozo_layout_6(),
-            c::wuraketozo_share_size(),
+            c::wuraketozo_layout_7(),
             c::wuraketozo_out_size(),
             c::wuraketozo_client_limit(),
+            c::wuraketozo_share_size(Plan::SMALLEST.get()),
+            c::wuraketozo_share_size(Plan::LARGEST.get()),
+            c::wuraketozo_share_size(Plan::LARGEST.get() + 1),
         ]
     }
 }
@@ -487,7 +490,7 @@ const NO_GAP: () = {
     assert!(
         size_of::<Assembly>() == size_of::<Flow>() + 4 + 8 + 8 + FRAGMENT_LIMIT * size_of::<Held>()
     );
-    assert!(size_of::<Client>() == 8 * 8 + ASSEMBLY_LIMIT * size_of::<Assembly>());
+    assert!(size_of::<Client>() == 9 * 8 + ASSEMBLY_LIMIT * size_of::<Assembly>());
 };
 
 /// A struct's name in C, its size, and where its fields stand.
@@ -519,9 +522,9 @@ layouts! {
     Held "wuraketozo_held" 8 2: offset 0, length 2, option_start 4, last 6;
     Assembly "wuraketozo_assembly" 544 8:
         flow 0, identification 12, opened 16, count 24, fragments 32;
-    Client "wuraketozo_client" 2240 8:
-        time 0, offered 8, held 16, delivered 24, expired 32, conflicted 40, repeated 48,
-        rejected 56, assemblies 64;
+    Client "wuraketozo_client" 4424 8:
+        plan 0, time 8, offered 16, held 24, delivered 32, expired 40, conflicted 48,
+        repeated 56, rejected 64, assemblies 72;
     Account "wuraketozo_figures" 56 8:
         offered 0, held 8, delivered 16, expired 24, conflicted 32, repeated 40, rejected 48;
     Extent "wuraketozo_extent" 16 8: from 0, to 8;
@@ -546,7 +549,7 @@ layouts! {
 mod tests {
     use super::LAYOUTS;
     use crate::reading::tests::verdicts;
-    use crate::{Strictness, ASSEMBLY_LIMIT, CLIENT_LIMIT, FRAGMENT_LIMIT, ORIGINAL_LIMIT, SHARE};
+    use crate::{Plan, Strictness, ASSEMBLY_LIMIT, CLIENT_LIMIT, FRAGMENT_LIMIT, ORIGINAL_LIMIT};
     use std::io::Write;
     use std::process::{Command, Stdio};
 
@@ -578,9 +581,12 @@ mod tests {
             ("ASSEMBLY_LIMIT", ASSEMBLY_LIMIT),
             ("FRAGMENT_LIMIT", FRAGMENT_LIMIT),
             ("ORIGINAL_LIMIT", ORIGINAL_LIMIT),
-            ("SHARE", SHARE),
         ] {
             text += &format!("_Static_assert(WURAKETOZO_{name} == {number}, \"{name}\");\n");
+        }
+        for plan in (0..=ASSEMBLY_LIMIT as u64 + 1).filter_map(Plan::new) {
+            let (plan, share) = (plan.get(), plan.share());
+            text += &format!("_Static_assert(WURAKETOZO_SHARE({plan}) == {share}, \"share\");\n");
         }
         let include = concat!(env!("CARGO_MANIFEST_DIR"), "/../../include");
         let spawned = Command::new("gcc")

@@ -1,6 +1,7 @@
 //! Safe Rust over the proved library for UDP datagrams with the options of
 //! RFC 9868: a reader, a writer, and reassembly for up to 12 clients that do
-//! not show in each other's accounts.
+//! not show in each other's accounts, each with as many originals under way at
+//! once as its plan allows.
 //!
 //! Every call takes any input: what can't be taken is refused, and no input
 //! panics. What the library answers and what it leaves in each buffer and
@@ -23,8 +24,8 @@ pub use reading::{
     read, reread, Apc, Fragment, PacketOffset, Reading, Rereading, Strictness, Verdict,
 };
 pub use record::{
-    Account, Assembly, Client, Flow, Held, Place, ASSEMBLY_LIMIT, CLIENT_LIMIT, FRAGMENT_LIMIT,
-    ORIGINAL_LIMIT, SHARE,
+    store_length, Account, Assembly, Client, Flow, Held, Place, Plan, ASSEMBLY_LIMIT, CLIENT_LIMIT,
+    FRAGMENT_LIMIT, ORIGINAL_LIMIT,
 };
 pub use refusal::Refusal;
 pub use table::{Answer, Arrival, Received, Table};
@@ -38,8 +39,9 @@ pub use writing::write;
 /// assert!(wuraketozo::fits());
 /// ```
 pub fn fits() -> bool {
-    let record = core::mem::size_of::<Client>();
-    ffi::sizes() == [record, SHARE, ORIGINAL_LIMIT, CLIENT_LIMIT]
+    let shares = [Plan::SMALLEST.share(), Plan::LARGEST.share(), 0];
+    let [record, out, clients, rest @ ..] = ffi::sizes();
+    [record, out, clients] == [Client::SIZE, ORIGINAL_LIMIT, CLIENT_LIMIT] && rest == shares
 }
 
 /// The C structs as the library filled them, for tests.

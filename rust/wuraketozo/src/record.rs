@@ -5,12 +5,67 @@
 pub const ORIGINAL_LIMIT: usize = 8_192;
 /// The most fragments of an original.
 pub const FRAGMENT_LIMIT: usize = 64;
-/// The most originals that are put together at once for a client.
-pub const ASSEMBLY_LIMIT: usize = 4;
-/// The bytes of the store for one client.
-pub const SHARE: usize = ASSEMBLY_LIMIT * ORIGINAL_LIMIT;
+/// The most originals that are put together at once for a client: the largest
+/// plan.
+pub const ASSEMBLY_LIMIT: usize = 8;
 /// The most clients of a table.
 pub const CLIENT_LIMIT: usize = 12;
+
+/// A client's plan: how many originals are put together for it at once, 1 to
+/// [`ASSEMBLY_LIMIT`].
+///
+/// ```
+/// use wuraketozo::{Client, Plan};
+/// let plan = Plan::new(4).ok_or("not 1 to 8")?;
+/// assert_eq!((plan.get(), plan.share()), (4, 32_768));
+/// assert_eq!(Client::new(plan).plan, 4);
+/// assert_eq!((Plan::new(0), Plan::new(9)), (None, None));
+/// # Ok::<(), &str>(())
+/// ```
+#[derive(Clone, Copy, Debug, PartialEq, Eq, PartialOrd, Ord, Hash)]
+pub struct Plan(u64);
+
+impl Plan {
+    /// One original at once.
+    pub const SMALLEST: Plan = Plan(1);
+    /// [`ASSEMBLY_LIMIT`] originals at once.
+    pub const LARGEST: Plan = Plan(ASSEMBLY_LIMIT as u64);
+
+    /// The plan for so many originals at once; none unless it is 1 to
+    /// [`ASSEMBLY_LIMIT`].
+    pub const fn new(originals: u64) -> Option<Plan> {
+        if Plan::SMALLEST.0 <= originals && originals <= Plan::LARGEST.0 {
+            Some(Plan(originals))
+        } else {
+            None
+        }
+    }
+
+    /// How many originals at once.
+    pub const fn get(self) -> u64 {
+        self.0
+    }
+
+    /// The bytes of the store for a client with this plan.
+    pub const fn share(self) -> usize {
+        self.0 as usize * ORIGINAL_LIMIT
+    }
+}
+
+/// The bytes that the store of a table with these records must have: the sum
+/// of the clients' shares. A plan that is none has no share; a table with one
+/// is refused with 32 anyway
+/// ([`Refusal::PlanOutOfRange`](crate::Refusal::PlanOutOfRange)).
+///
+/// ```
+/// use wuraketozo::{store_length, Client, Plan};
+/// let records = [Plan::SMALLEST, Plan::LARGEST].map(Client::new);
+/// assert_eq!(store_length(&records), (1 + 8) * 8_192);
+/// ```
+pub fn store_length(records: &[Client]) -> usize {
+    let plans = records.iter().filter_map(|record| Plan::new(record.plan));
+    plans.map(Plan::share).sum()
+}
 
 /// A place in an original: a count from its first user byte. An offset counts
 /// from the UDP header: by itself it is a
@@ -64,26 +119,51 @@ pub struct Assembly {
     pub fragments: [Held; FRAGMENT_LIMIT],
 }
 
+impl Assembly {
+    /// As in a fresh record.
+    const FRESH: Assembly = Assembly {
+        flow: Flow {
+            source: [0; 4],
+            destination: [0; 4],
+            source_port: 0,
+            destination_port: 0,
+        },
+        identification: 0,
+        opened: 0,
+        count: 0,
+        fragments: [Held {
+            offset: 0,
+            length: 0,
+            option_start: 0,
+            last: 0,
+        }; FRAGMENT_LIMIT],
+    };
+}
+
 impl Default for Assembly {
     /// As in a fresh record.
     fn default() -> Assembly {
-        Assembly {
-            flow: Flow::default(),
-            identification: 0,
-            opened: 0,
-            count: 0,
-            fragments: [Held::default(); FRAGMENT_LIMIT],
-        }
+        Assembly::FRESH
     }
 }
 
-/// One client's record. `Client::default()` is a fresh one. A host need not
-/// look inside. Any bytes are a record, and one that fails document 01's
-/// record test is refused with 22
-/// ([`Refusal::UnsoundRecord`](crate::Refusal::UnsoundRecord)).
+/// One client's record. [`Client::new`] makes a fresh one, which is all zeros
+/// but its plan. A host need not look inside. Any bytes are a record; one that
+/// fails document 01's record test is refused with 22
+/// ([`Refusal::UnsoundRecord`](crate::Refusal::UnsoundRecord)), and a table
+/// with a plan that is none with 32
+/// ([`Refusal::PlanOutOfRange`](crate::Refusal::PlanOutOfRange)). That holds of
+/// a record of zeros too, so there is no `Default`.
+///
+/// To change a plan, make the records anew, lend a store of the new length and
+/// set the table up: a plan that changes under a table moves the shares of the
+/// clients behind it.
 #[repr(C)]
-#[derive(Clone, Copy, Debug, Default, PartialEq, Eq)]
+#[derive(Clone, Copy, Debug, PartialEq, Eq)]
 pub struct Client {
+    /// How many originals are put together at once, 1 to [`ASSEMBLY_LIMIT`]. A
+    /// set-up reads it and keeps it.
+    pub plan: u64,
     /// The time of the last call taken, in ms.
     pub time: u64,
     /// Bytes offered, the sum of the six figures below.
@@ -108,6 +188,28 @@ impl Client {
     /// The bytes of a record. None of them is padding.
     pub const SIZE: usize = core::mem::size_of::<Client>();
 
+    /// A fresh record with this plan.
+    ///
+    /// ```
+    /// use wuraketozo::{Client, Plan};
+    /// static RECORDS: [Client; 2] = [Client::new(Plan::SMALLEST), Client::new(Plan::LARGEST)];
+    /// assert_eq!((RECORDS[0].plan, RECORDS[1].plan), (1, 8));
+    /// ```
+    pub const fn new(plan: Plan) -> Client {
+        Client {
+            plan: plan.get(),
+            time: 0,
+            offered: 0,
+            held: 0,
+            delivered: 0,
+            expired: 0,
+            conflicted: 0,
+            repeated: 0,
+            rejected: 0,
+            assemblies: [Assembly::FRESH; ASSEMBLY_LIMIT],
+        }
+    }
+
     /// The record's bytes as they lie in memory, to be kept or shipped to a
     /// host of the same kind.
     pub fn to_bytes(&self) -> [u8; Client::SIZE] {
@@ -117,13 +219,20 @@ impl Client {
     /// The record of these bytes; any bytes are one.
     ///
     /// ```
-    /// use wuraketozo::{Client, Refusal, Table, SHARE};
-    /// let mut records = [Client::from_bytes([0xFF; Client::SIZE])];
-    /// let mut store = vec![0; SHARE];
+    /// use wuraketozo::{store_length, Client, Plan, Refusal, Table};
+    /// let fresh = Client::new(Plan::SMALLEST);
+    /// let mut bytes = fresh.to_bytes();
+    /// bytes[8..].fill(0xFF);
+    /// let mut records = [Client::from_bytes(bytes)];
+    /// let mut store = vec![0; store_length(&records)];
     /// let mut table = Table::new(&mut records, &mut store);
     /// assert_eq!(table.account(0), Err(Refusal::UnsoundRecord));
     /// table.reset()?;
-    /// assert_eq!(table.records()[0].to_bytes(), [0; Client::SIZE]);
+    /// assert_eq!(table.records()[0], fresh);
+    /// // Zeros have no plan.
+    /// let mut records = [Client::from_bytes([0; Client::SIZE])];
+    /// let mut table = Table::new(&mut records, &mut store);
+    /// assert_eq!(table.reset(), Err(Refusal::PlanOutOfRange));
     /// # Ok::<(), Refusal>(())
     /// ```
     pub fn from_bytes(bytes: [u8; Client::SIZE]) -> Client {

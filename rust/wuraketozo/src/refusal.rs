@@ -58,7 +58,7 @@ refusals! {
     7 UnreadableList "the encoded option list can't be read",
     8 TooLarge "the result is too large for the buffer or for a payload",
     9 KindNotWritten "the encoded option list has a kind that is not to be written",
-    20 TableMisfit "not 1 to 12 records, or not 32,768 bytes of store for each",
+    20 TableMisfit "not 1 to 12 records, or the store is not as long as their plans ask for",
     21 NoSuchClient "there is no such client",
     22 UnsoundRecord "the client's record fails the record test",
     23 OutTooShort "the out buffer is under 8,192 bytes",
@@ -67,8 +67,9 @@ refusals! {
     26 OptionStartPastEnd "the last fragment's option start is past its end",
     27 TimeBeforeLast "the time is before the client's last time",
     28 OfferedPastLimit "the client would have offered more than 10^15 bytes",
-    29 NoFreeAssembly "the client has four originals under way already",
+    29 NoFreeAssembly "the client has as many originals under way as its plan allows",
     30 AssemblyFull "the original has 64 fragments already",
+    32 PlanOutOfRange "a client's plan is not 1 to 8",
 }
 
 impl fmt::Display for Refusal {

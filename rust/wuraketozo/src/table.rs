@@ -51,12 +51,15 @@ pub enum Received {
     Fragment(Result<Answer, Refusal>),
 }
 
-/// A table of 1 to 12 clients over records and a store that the host lends.
+/// A table of 1 to 12 clients over records and a store that the host lends. The
+/// store has [`store_length`](crate::store_length) bytes: the clients' shares,
+/// one behind another.
 ///
 /// ```
-/// use wuraketozo::{Answer, Arrival, Client, Flow, Place, Table, ORIGINAL_LIMIT, SHARE};
-/// let mut records = [Client::default(); 2];
-/// let mut store = vec![0; 2 * SHARE];
+/// use wuraketozo::{store_length, Client, Plan, Table, ORIGINAL_LIMIT};
+/// use wuraketozo::{Answer, Arrival, Flow, Place, Refusal};
+/// let mut records = [Client::new(Plan::LARGEST), Client::new(Plan::SMALLEST)];
+/// let mut store = vec![0; store_length(&records)];
 /// let mut out = [0; ORIGINAL_LIMIT];
 /// let mut table = Table::new(&mut records, &mut store);
 /// table.reset()?;
@@ -70,12 +73,16 @@ pub enum Received {
 /// };
 /// let last = Arrival { place: Place(8), last: true, option_start: Place(12), ..first };
 /// assert_eq!(table.offer(1, &last, b"cm\r\n", &mut out)?, Answer::Stored);
+/// // Its plan is for one original at once.
+/// let other = Arrival { identification: 8, ..first };
+/// assert_eq!(table.offer(1, &other, b"?", &mut out), Err(Refusal::NoFreeAssembly));
 /// let delivered = Answer::Delivered { length: 12, option_start: Place(12) };
 /// assert_eq!(table.offer(1, &first, b"level 41", &mut out)?, delivered);
 /// assert_eq!(&out[..12], b"level 41cm\r\n");
 /// assert_eq!(table.account(1)?.delivered, 12);
+/// assert_eq!(table.account(1)?.rejected, 1);
 /// assert_eq!(table.account(0)?.offered, 0);
-/// # Ok::<(), wuraketozo::Refusal>(())
+/// # Ok::<(), Refusal>(())
 /// ```
 #[derive(Debug)]
 pub struct Table<'a> {
@@ -85,7 +92,7 @@ pub struct Table<'a> {
 
 impl<'a> Table<'a> {
     /// A table over these. Lengths that do not fit are refused with 20 by
-    /// each call.
+    /// each call, a plan that is none with 32, whoever's it is.
     ///
     /// # Panics
     ///
@@ -107,7 +114,8 @@ impl<'a> Table<'a> {
         self.store
     }
 
-    /// Makes every record fresh and leaves the store. Refusal 20.
+    /// Sets the table up: makes every record fresh but for its plan, which is
+    /// kept, and leaves the store. Refusals 20, 32.
     pub fn reset(&mut self) -> Result<(), Refusal> {
         match taken(ffi::reset(self.records, self.store))?.outcome {
             1 => Ok(()),
@@ -115,8 +123,8 @@ impl<'a> Table<'a> {
         }
     }
 
-    /// Offers a fragment with its bytes for a client. Refusals 20 to 30. The
-    /// out buffer is written only with `Delivered`.
+    /// Offers a fragment with its bytes for a client. Refusals 20, 32, and 21 to
+    /// 30. The out buffer is written only with `Delivered`.
     pub fn offer(
         &mut self,
         client: usize,
@@ -143,7 +151,7 @@ impl<'a> Table<'a> {
     }
 
     /// Moves a client's time on and lets what is 120,000 ms old expire.
-    /// Refusals 20, 21, 22, 27.
+    /// Refusals 20, 32, 21, 22, 27.
     pub fn advance(&mut self, client: usize, time: u64) -> Result<(), Refusal> {
         match taken(ffi::advance(self.records, self.store, client, time))?.outcome {
             6 => Ok(()),
@@ -151,7 +159,7 @@ impl<'a> Table<'a> {
         }
     }
 
-    /// A client's account. Refusals 20, 21, 22.
+    /// A client's account. Refusals 20, 32, 21, 22.
     pub fn account(&self, client: usize) -> Result<Account, Refusal> {
         let raw = taken(ffi::account(self.records, self.store, client))?;
         match raw.outcome {

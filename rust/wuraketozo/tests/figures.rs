@@ -63,6 +63,11 @@ fn padded(at: usize) -> Verdict {
     Verdict::Padded(PacketOffset(at))
 }
 
+/// The plan for so many originals at once.
+fn plan(originals: u64) -> Plan {
+    Plan::new(originals).unwrap()
+}
+
 /// A table of one client, and calls with fewer words.
 struct One {
     records: Vec<Client>,
@@ -71,10 +76,15 @@ struct One {
 }
 
 impl One {
+    /// With a plan of four.
     fn new() -> One {
+        One::with(plan(4))
+    }
+
+    fn with(plan: Plan) -> One {
         let mut one = One {
-            records: vec![Client::default()],
-            store: vec![0x5A; SHARE],
+            records: vec![Client::new(plan)],
+            store: vec![0x5A; plan.share()],
             out: vec![0xEE; ORIGINAL_LIMIT],
         };
         one.table().reset().unwrap();
@@ -318,6 +328,7 @@ fn figure_11_expiry() {
     );
 }
 
+/// As document 02 has it: of a plan of four.
 #[test]
 fn figure_12_fifth_key() {
     let mut one = One::new();
@@ -338,7 +349,7 @@ fn figure_12_fifth_key() {
 /// As document 02 has it.
 #[test]
 fn figure_13_limits() {
-    assert_eq!((ORIGINAL_LIMIT, FRAGMENT_LIMIT, SHARE), (8_192, 64, 32_768));
+    assert_eq!((ORIGINAL_LIMIT, FRAGMENT_LIMIT), (8_192, 64));
     let mut one = One::new();
     let end = ORIGINAL_LIMIT - 1;
     assert_eq!(one.offer(0, 1, end, b"x", false), Ok(Answer::Stored));
@@ -380,7 +391,7 @@ fn grouped(number: usize) -> String {
 fn texts_have_the_limits() {
     for (refusal, limit) in [
         (Refusal::TableMisfit, CLIENT_LIMIT),
-        (Refusal::TableMisfit, SHARE),
+        (Refusal::PlanOutOfRange, ASSEMBLY_LIMIT),
         (Refusal::OutTooShort, ORIGINAL_LIMIT),
         (Refusal::EndPastLimit, ORIGINAL_LIMIT),
         (Refusal::AssemblyFull, FRAGMENT_LIMIT),
@@ -635,8 +646,209 @@ fn forged_records_are_refused() {
     let mut one = One::new();
     one.records[0].held = 1;
     assert_eq!(one.table().account(0), Err(Refusal::UnsoundRecord));
-    one.records[0] = Client::default();
+    one.records[0] = Client::new(plan(4));
     assert_eq!(one.account(), Account::default());
+}
+
+#[test]
+fn plans() {
+    assert_eq!(ASSEMBLY_LIMIT, 8);
+    for originals in 1..=8 {
+        let plan = plan(originals);
+        assert_eq!(plan.get(), originals);
+        assert_eq!(plan.share(), originals as usize * 8_192);
+        let record = Client::new(plan);
+        assert_eq!(record.plan, originals);
+        // All zeros but the plan, which comes first.
+        let mut bytes = [0; Client::SIZE];
+        bytes[..8].copy_from_slice(&originals.to_ne_bytes());
+        assert_eq!(record.to_bytes(), bytes);
+    }
+    assert_eq!((plan(1), plan(8)), (Plan::SMALLEST, Plan::LARGEST));
+    for number in NO_PLANS {
+        assert_eq!(Plan::new(number), None);
+    }
+    let mut records = [3, 8, 1].map(|originals| Client::new(plan(originals)));
+    assert_eq!(store_length(&records), 12 * 8_192);
+    assert_eq!(store_length(&[]), 0);
+    records[1].plan = u64::MAX;
+    assert_eq!(store_length(&records), 4 * 8_192);
+}
+
+/// Numbers that are no plan.
+const NO_PLANS: [u64; 7] = [0, 9, 10, 256, 257, 1 << 32 | 1, u64::MAX];
+
+/// Document 02, R-8: a client has as many places as its plan says.
+#[test]
+fn as_many_originals_as_the_plan_allows() {
+    for originals in 1..=8 {
+        let mut one = One::with(plan(originals));
+        for identification in 0..originals as u32 {
+            let answer = one.offer(0, identification, 0, b"x", false);
+            assert_eq!(answer, Ok(Answer::Stored));
+        }
+        let more = one.offer(0, 99, 0, b"x", false);
+        assert_eq!(more, Err(Refusal::NoFreeAssembly));
+        let account = one.account();
+        assert_eq!((account.held, account.rejected), (originals, 1));
+        assert_eq!(one.records[0].plan, originals);
+        // The set-up keeps the plan and makes all else fresh.
+        one.table().reset().unwrap();
+        assert_eq!(one.records, [Client::new(plan(originals))]);
+        // A live place past the plan, the only thing that is wrong.
+        let mut one = One::with(plan(originals));
+        assert_eq!(one.offer(0, 1, 0, b"x", false), Ok(Answer::Stored));
+        let held = one.records[0];
+        for place in 0..ASSEMBLY_LIMIT {
+            one.records[0] = held;
+            one.records[0].assemblies.swap(0, place);
+            let sound = (place as u64) < originals;
+            let answer = one.table().account(0).map(|account| account.held);
+            let unsound = Err(Refusal::UnsoundRecord);
+            assert_eq!(answer, if sound { Ok(1) } else { unsound });
+        }
+    }
+}
+
+/// Three records with any numbers as plans.
+fn three(plans: [u64; 3]) -> Vec<Client> {
+    let with = |number| Client {
+        plan: number,
+        ..Client::new(Plan::SMALLEST)
+    };
+    plans.map(with).to_vec()
+}
+
+/// Every call on a table is refused with this, and changes nothing.
+fn refused(records: &[Client], length: usize, refusal: Refusal) {
+    let (mut records, before) = (records.to_vec(), records);
+    let mut store = vec![0x5A; length];
+    let mut out = [0xEE; ORIGINAL_LIMIT];
+    let mut table = Table::new(&mut records, &mut store);
+    assert_eq!(table.reset(), Err(refusal));
+    let arrival = Arrival {
+        time: 5,
+        flow: FLOW,
+        identification: 7,
+        place: Place(0),
+        last: true,
+        option_start: Place(0),
+    };
+    let mut fragment = vec![0x12, 0x34, 0, 53, 0, 8, 0, 0, 0, 0];
+    fragment.extend([3, 12, 0, 22, 0, 0, 0, 7, 0, 8, 0, 10, b'o', b'k']);
+    for client in 0..=before.len() {
+        assert_eq!(table.account(client), Err(refusal));
+        assert_eq!(table.advance(client, 5), Err(refusal));
+        let offered = table.offer(client, &arrival, b"ok", &mut out);
+        assert_eq!(offered, Err(refusal));
+        let (source, destination, plain) = (FLOW.source, FLOW.destination, Strictness::Plain);
+        let mut receive =
+            |payload| table.receive(client, 5, source, destination, plain, payload, &mut out);
+        assert_eq!(receive(&fragment), Received::Fragment(Err(refusal)));
+        // What is no fragment does not meet the table.
+        assert!(matches!(receive(&fragment[..8]), Received::Datagram(_)));
+    }
+    assert!(records == before);
+    assert!(store.iter().all(|&byte| byte == 0x5A));
+    assert_eq!(out, [0xEE; ORIGINAL_LIMIT]);
+}
+
+/// Document 02, R-8: the record count, then the plans, then the store's length.
+#[test]
+fn plans_out_of_range_are_refused() {
+    let sum = 11 * 8_192;
+    for none in NO_PLANS {
+        for plans in [[none, 8, 2], [1, none, 2], [1, 8, none]] {
+            for length in [sum, sum - 1, 0, store_length(&three(plans))] {
+                refused(&three(plans), length, Refusal::PlanOutOfRange);
+            }
+        }
+    }
+    let zeros = [Client::from_bytes([0; Client::SIZE]); 2];
+    refused(&zeros, 0, Refusal::PlanOutOfRange);
+    refused(&zeros, 2 * 8_192, Refusal::PlanOutOfRange);
+    // 13 records.
+    let many = three([9, 9, 9]).repeat(5);
+    refused(&many[..13], 13 * 9 * 8_192, Refusal::TableMisfit);
+    refused(&many[..12], 0, Refusal::PlanOutOfRange);
+    let many = three([1, 8, 2]).repeat(5);
+    refused(&many[..13], store_length(&many[..13]), Refusal::TableMisfit);
+    refused(&[], 0, Refusal::TableMisfit);
+    for length in [0, 8_192, sum - 8_192, sum - 1, sum + 1, 24 * 8_192] {
+        refused(&three([1, 8, 2]), length, Refusal::TableMisfit);
+    }
+}
+
+/// Each client's share stands directly behind those of the clients before it.
+#[test]
+fn shares_one_behind_another() {
+    let plans = [3, 1, 8, 2];
+    let mut records = plans.map(|originals| Client::new(plan(originals))).to_vec();
+    let mut store = vec![0x5A; store_length(&records)];
+    let mut wanted = store.clone();
+    let mut out = [0xEE; ORIGINAL_LIMIT];
+    let mut table = Table::new(&mut records, &mut store);
+    table.reset().unwrap();
+    let mut place = 0;
+    for (client, originals) in plans.into_iter().enumerate() {
+        for identification in 0..originals as u32 {
+            let arrival = Arrival {
+                time: 0,
+                flow: FLOW,
+                identification,
+                place: Place(1),
+                last: false,
+                option_start: Place(0),
+            };
+            let bytes = [client as u8, identification as u8];
+            let answer = table.offer(client, &arrival, &bytes, &mut out);
+            assert_eq!(answer, Ok(Answer::Stored));
+            wanted[place + 1..place + 3].copy_from_slice(&bytes);
+            assert!(table.store() == wanted);
+            place += ORIGINAL_LIMIT;
+        }
+    }
+    assert_eq!(place, store.len());
+}
+
+/// A client that fills its places takes none from another.
+#[test]
+fn a_small_plan_beside_a_large_one() {
+    let mut records = [Plan::LARGEST, Plan::SMALLEST].map(Client::new);
+    let mut store = vec![0; store_length(&records)];
+    let mut out = [0; ORIGINAL_LIMIT];
+    let mut table = Table::new(&mut records, &mut store);
+    table.reset().unwrap();
+    let mut offer = |client, identification, place, bytes: &[u8], last| {
+        let arrival = Arrival {
+            time: 0,
+            flow: FLOW,
+            identification,
+            place: Place(place),
+            last,
+            option_start: Place(0),
+        };
+        table.offer(client, &arrival, bytes, &mut out)
+    };
+    for identification in 0..8 {
+        assert_eq!(
+            offer(0, identification, 0, b"loop", false),
+            Ok(Answer::Stored)
+        );
+    }
+    let none = Err(Refusal::NoFreeAssembly);
+    assert_eq!(offer(0, 8, 0, b"loop", false), none);
+    assert_eq!(offer(1, 0, 6, b"412 cm", true), Ok(Answer::Stored));
+    assert_eq!(offer(1, 1, 0, b"next", false), none);
+    assert_eq!(offer(0, 9, 0, b"loop", false), none);
+    let delivered = Answer::Delivered {
+        length: 12,
+        option_start: Place(0),
+    };
+    assert_eq!(offer(1, 0, 0, b"level ", false), Ok(delivered));
+    assert_eq!(&out[..12], b"level 412 cm");
+    let rejected = [0, 1].map(|client| table.account(client).unwrap().rejected);
+    assert_eq!(rejected, [8, 4]);
 }
 
 #[test]
@@ -645,7 +857,7 @@ fn numbers_of_refusals() {
         .iter()
         .map(|refusal| refusal.number())
         .collect();
-    let expected: Vec<u32> = (1..=9).chain(20..=30).collect();
+    let expected: Vec<u32> = (1..=9).chain(20..=30).chain([32]).collect();
     assert_eq!(numbers, expected);
     assert_eq!(
         Refusal::ChecksumWrong.to_string(),

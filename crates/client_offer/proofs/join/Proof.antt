@@ -81,7 +81,7 @@ part-copy-start c = search needs
 
 part-copy-end : tie.Need-part-copy-end
 unfolding datagramLimit assemblyLimit shareSize start-of
-part-copy-end c = omega (arith, within c, start-of c .pre .ending .within, start-of c .pre .share-size)
+part-copy-end c = omega (arith, within c, start-of c .pre .place, start-of c .pre .own .size)
 
 copy-requires : tie.Need-copy-requires
 unfolding datagramLimit start-of

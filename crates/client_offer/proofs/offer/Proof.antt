@@ -7,12 +7,15 @@ use Prim.Native.Nat.{ℕ}
 use lib.ListN.{length}
 use Rattle.number_tests.specs.Tests.{firstOf}
 use Rattle.client_record.specs.declared.Client.{Client}
+use Rattle.client_record.specs.Record.{withinPlan}
 use Rattle.client_reassembly.specs.declared.Arrival.{Arrival}
 use Rattle.client_reassembly.specs.Advance.{elapse}
 use Rattle.client_reassembly.specs.Offer.{Outcome, offerTests, taken, refuseOr, fragmentOn}
-use Rattle.client_reassembly.specs.Post.{Taking}
+use Rattle.client_reassembly.specs.Post.{Share, Taking}
 use Rattle.client_offer.specs.Checked.{checkedNumber}
 use Rattle.client_reassembly.proofs.Fates.{left-of}
+use Rattle.client_record.proofs.SoundParts.{sound-parts}
+use Rattle.client_reassembly.proofs.Kept.{elapse-planned}
 use Rattle.client_reassembly.proofs.Passes.{Passes, passes}
 use Rattle.client_reassembly.proofs.Steady.{elapse-held, elapse-each, elapse-room}
 use borrow.Author.Needs.{needs}
@@ -22,6 +25,11 @@ use Rattle.client_offer.proofs.offer.Tie as tie
 -- the outcome, told which test applies
 outcome : Client → List ℕ → List ℕ → Arrival → List ℕ → Option ℕ → Outcome
 outcome c share out o bytes r = refuseOr c share out r (taken (elapse (o .time) c) share out o bytes)
+
+-- its share is the same once its time is set
+own-elapsed : (t : ℕ) (c : Client) (share : List ℕ) → Share c share → Share (elapse t c) share
+unfolding elapse
+own-elapsed t c share own = record { plan = own .plan; size = own .size }
 
 start-of : tie.After-enum-told → tie.Start
 start-of c = c .before .before .before .before .before .before
@@ -51,7 +59,7 @@ unfolding start-of
 elapsed-requires c κs = pass-all c .sound
 
 take-requires : tie.Need-take-requires
-unfolding start-of
+unfolding start-of withinPlan
 take-requires c κs =
     let t = c .before .before .before in
     let x = start-of t .args in
@@ -62,7 +70,8 @@ take-requires c κs =
       room = elapse-room (x .o .time) (x .client) (k .sound) (length (x .bytes .now)) (k .offered);
       held = elapse-held (x .o .time) (x .client) (k .sound);
       each = elapse-each (x .o .time) (x .client) (k .sound);
-      share-size = start-of t .pre;
+      planned = elapse-planned (x .o .time) (x .client) (sound-parts (x .client) (k .sound) .planned);
+      own = own-elapsed (x .o .time) (x .client) (x .share .now) (start-of t .pre);
       out-size = k .out;
     })
 

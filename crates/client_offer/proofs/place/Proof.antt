@@ -137,7 +137,8 @@ join-requires c κs =
       ends = k .ends;
       apart = added-compatible (x .a) (x .f) (omega arith) (k .apart) apart;
       last-end = k .last-end;
-      share-size = copied .copy .kept .1 .0 ∙ k .share-size;
+      place = k .place;
+      own = record { plan = k .own .plan; size = copied .copy .kept .1 .0 ∙ k .own .size };
       out-size = k .out-size;
     }
 

@@ -3,17 +3,18 @@
 use mathlib.Core.Path.{_≡_, refl, sym, ap, ap₂, _∙_, subst}
 use Prim.Native.Nat.{ℕ, _<_}
 use native.Mathlib.Omega.{arith}
+use lib.Dec.{leb}
 use lib.ListN.{length}
-use borrow.Author.Tests.{eq-eqb, ne-eqb}
+use borrow.Author.Tests.{le-leb, lt-leb}
 use Rattle.client_record.specs.declared.Fragment.{Fragment}
 use Rattle.client_record.specs.declared.Assembly.{Assembly}
 use Rattle.client_record.specs.Limits.{assemblyLimit}
-use Rattle.client_record.specs.Record.{end}
+use Rattle.client_record.specs.Record.{end, withinPlan}
 use Rattle.client_record.proofs.Shapes.{places}
-use Rattle.client_reassembly.specs.Offer.{fragmentOf, placeFor, assemblyFor, placed}
+use Rattle.client_reassembly.specs.Offer.{fragmentOf, noRoom, assemblyFor, placed}
 use Rattle.client_reassembly.specs.Post.{Room}
 use Rattle.client_reassembly.proofs.Fates.{left-of, taken-rejected, taken-placed}
-use Rattle.client_reassembly.proofs.Places.{room-place, place-le}
+use Rattle.client_reassembly.proofs.Places.{room-place}
 use Rattle.client_reassembly.proofs.Steady.{Fit, assembly-fit}
 use borrow.Author.Needs.{needs}
 use Rattle.client_offer.proofs.take.Statement.{statement}
@@ -24,12 +25,19 @@ places-of : (c : tie.Start) → length (c .args .c .assemblies) ≡ assemblyLimi
 unfolding assemblyLimit
 places-of c = places (c .args .c) _ (c .good .0)
 
--- the place is one of them where it is not past them
+-- the place is one of them where it is not past the plan
 place-within : (c : tie.Else1) → c .before .place-for .result < assemblyLimit
 unfolding assemblyLimit
-place-within c =
-    let s = c .before .before .before .before .before .before in
-    omega (arith, places-of s, c .before .place-for .ensures, place-le (s .args .o) (s .args .c .assemblies), c .if1 .left)
+place-within c = omega (arith, c .before .before .before .before .before .before .pre .own .plan, c .if1 .left)
+
+-- there is no room exactly where it is past the plan
+room-is : (c : tie.After-place-for) → let x = c .before .before .before .before .before .args in
+    noRoom (x .c .plan) (x .o) (x .c .assemblies) ≡ leb (x .c .plan) (c .place-for .result)
+unfolding withinPlan
+room-is c =
+    let s = c .before .before .before .before .before in
+    let x = s .args in
+    room-place (x .o) (x .c .assemblies) (x .c .plan) (s .pre .planned) ∙ ap (leb (x .c .plan)) (sym (c .place-for .ensures))
 
 fragment-of-requires : tie.Need-fragment-of-requires
 fragment-of-requires c κs = search needs
@@ -41,13 +49,10 @@ rejecting-requires : tie.Need-rejecting-requires
 rejecting-requires c κs = search needs
 
 returns : tie.Need-returns
-unfolding assemblyLimit
 returns c =
-    let s = c .before .before .before .before .before .before .before in
-    let x = s .args in
-    let e : placeFor (x .o) (x .c .assemblies) ≡ length (x .c .assemblies) =
-    sym (c .before .before .place-for .ensures) ∙ c .before .if1 .taken ∙ sym (places-of s) in
-    left-of (taken-rejected (x .c) (x .share .now) (x .out .now) (x .o) (x .bytes .now) (room-place (x .o) (x .c .assemblies) ∙ eq-eqb _ _ e))
+    let x = c .before .before .before .before .before .before .before .args in
+    left-of
+    (taken-rejected (x .c) (x .share .now) (x .out .now) (x .o) (x .bytes .now) (room-is (c .before .before) ∙ le-leb _ _ (c .before .if1 .taken)))
     (record { client = c .rejecting .ensures; reply = refl; share-left = refl; out-left = refl })
 
 assembly-for-requires : tie.Need-assembly-for-requires
@@ -75,7 +80,8 @@ place-requires c κs =
       apart = fit .apart;
       last-end = omega (arith, ap end e, k .sized .ends);
       bytes-size = sym size;
-      share-size = k .share-size;
+      place = w .if1 .left;
+      own = k .own;
       out-size = k .out-size;
     }
 
@@ -95,10 +101,9 @@ returns-2 c =
     let pe = w .before .place-for .ensures in
     let f = w .before .before .fragment-of .result in
     let fe = w .before .before .fragment-of .ensures in
-    let n : (placeFor (x .o) xs ≡ length xs → ⊥) = λ q. omega (arith, q, pe, places-of s, place-within w) in
     left-of
     (taken-placed (x .c) (x .share .now) (x .out .now) (x .o) (x .bytes .now)
-    (room-place (x .o) xs ∙ ne-eqb (placeFor (x .o) xs) (length xs) n)
+    (room-is (w .before) ∙ lt-leb (x .c .plan) p (w .if1 .left))
     ∙ sym (ap₂ (λ (q : ℕ) (g : Fragment). placed (x .c) (x .share .now) (x .out .now) q (assemblyFor (x .o) q xs) g (x .bytes .now)) pe fe)
     ∙ ap (λ (a : Assembly). placed (x .c) (x .share .now) (x .out .now) p a f (x .bytes .now)) (sym
     (c .before .before .before .before .before .before .before .assembly-for .ensures)))

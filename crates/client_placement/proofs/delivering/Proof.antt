@@ -15,6 +15,7 @@ use Rattle.client_placement.proofs.delivering.Tie as tie
 
 ended : ℕ → ℕ → Client → ℕ → Assembly → Client
 ended p n c bytes a = record {
+  plan = c .plan;
   time = c .time;
   offered = c .offered + n;
   held = c .held - bytes;

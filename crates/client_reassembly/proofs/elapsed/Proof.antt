@@ -15,6 +15,7 @@ use Rattle.client_reassembly.proofs.elapsed.Tie as tie
 
 kept : ℕ → Client → ℕ → List Assembly → Client
 kept t c n xs = record {
+  plan = c .plan;
   time = t;
   offered = c .offered;
   held = c .held - n;

@@ -1,5 +1,6 @@
 -- `client_record::fresh` meets its contract: the struct computes to the definition's, with `fresh_assembly`'s result in each place.
 -- Assumes nothing.
+use Prim.Native.Nat.{ℕ}
 use mathlib.Core.Path.{ap}
 use borrow.Author.Needs.{needs}
 use lib.ListN.{replicate}
@@ -10,8 +11,9 @@ use Rattle.client_record.specs.Record.{freshClient}
 use Rattle.client_record.proofs.fresh.Statement.{statement}
 use Rattle.client_record.proofs.fresh.Tie as tie
 
-holding : Assembly → Client
-holding a = record {
+holding : ℕ → Assembly → Client
+holding plan a = record {
+  plan = plan;
   time = 0;
   offered = 0;
   held = 0;
@@ -28,7 +30,7 @@ fresh-assembly-requires c κs = search needs
 
 returns : tie.Need-returns
 unfolding freshClient assemblyLimit holding
-returns c = ap holding (c .fresh-assembly .ensures)
+returns c = ap (holding _) (c .fresh-assembly .ensures)
 
 pub fresh-spec : {M : Type 1} → statement M
 fresh-spec = tie.close (tie.spec fresh-assembly-requires returns)

@@ -1,29 +1,45 @@
--- `client_record_test::sound` meets its contract: the four tests are the definition's; what is held counts where each assembly passes.
+-- `client_record_test::sound` meets its contract: the five tests are the definition's; what is held counts where each assembly passes.
 -- Assumes nothing.
 use Prim.Native.Nat.{ℕ}
-use mathlib.Core.Bool.{Bool, true, false, _&&_}
+use mathlib.Core.Bool.{Bool, true, false, _&&_, and-true, and-false}
 use mathlib.Core.Path.{_≡_, refl, sym, ap, ap₂, _∙_}
 use lib.Dec.{eqb}
 use borrow.Author.Needs.{needs}
 use Rattle.client_record.specs.declared.Client.{Client}
 use Rattle.client_record.specs.Lists.{all, sum}
-use Rattle.client_record.specs.Record.{bytesHeld, soundAssembly, keysDiffer, heldRight, balanced, soundRecord}
+use Rattle.client_record.specs.Record.{bytesHeld, soundAssembly, keysDiffer, heldRight, balanced, withinPlan, soundRecord}
 use Rattle.client_record_test.specs.declared.Assemblies.{Assemblies}
 use Rattle.client_record_test.specs.Parts.{AllTest}
 use Rattle.client_record_test.proofs.sound.Statement.{statement}
 use Rattle.client_record_test.proofs.sound.Tie as tie
 
--- the four tests
+-- a test that the definition has last is made with the first
+last-first : (a w k h b : Bool) → (a && w) && (k && (h && b)) ≡ a && (k && (h && (b && w)))
+last-first true true k h b = ap (λ (x : Bool). k && (h && x)) (sym (and-true b))
+last-first true false k h b =
+    sym (ap (λ (x : Bool). k && (h && x)) (and-false b) ∙ ap (λ (x : Bool). k && x) (and-false h) ∙ and-false k)
+last-first false w k h b = refl
+
+-- the five tests
 tests : (c : Client) (r : Assemblies) → AllTest c r → r .sound && (keysDiffer (c .assemblies) && (eqb (c .held) (r .held) && balanced c)) ≡ soundRecord c
 unfolding soundRecord heldRight
 tests c r t = go (r .sound) (t .sound) (t .held)
   where
-    go : (b : Bool) → b ≡ all (soundAssembly (c .time)) (c .assemblies) → (b ≡ true → r .held ≡ sum bytesHeld (c .assemblies))
+    each : Bool
+    each = all (soundAssembly (c .time)) (c .assemblies)
+
+    held : ℕ
+    held = sum bytesHeld (c .assemblies)
+
+    go : (b : Bool) → b ≡ each && withinPlan c → (b ≡ true → r .held ≡ held)
         → b && (keysDiffer (c .assemblies) && (eqb (c .held) (r .held) && balanced c))
-        ≡ all (soundAssembly (c .time)) (c .assemblies) && (keysDiffer (c .assemblies) && (eqb (c .held) (sum bytesHeld (c .assemblies)) && balanced c))
+        ≡ each && (keysDiffer (c .assemblies) && (eqb (c .held) held && (balanced c && withinPlan c)))
     go true e h =
         ap₂ (λ (x : Bool) (n : ℕ). x && (keysDiffer (c .assemblies) && (eqb (c .held) n && balanced c))) e (h refl)
-    go false e h = ap (λ (x : Bool). x && (keysDiffer (c .assemblies) && (eqb (c .held) (sum bytesHeld (c .assemblies)) && balanced c))) e
+        ∙ last-first each (withinPlan c) (keysDiffer (c .assemblies)) (eqb (c .held) held) (balanced c)
+    go false e h =
+        ap (λ (x : Bool). x && (keysDiffer (c .assemblies) && (eqb (c .held) held && balanced c))) e
+        ∙ last-first each (withinPlan c) (keysDiffer (c .assemblies)) (eqb (c .held) held) (balanced c)
 
 assemblies-tested-requires : tie.Need-assemblies-tested-requires
 assemblies-tested-requires c κs = search needs

@@ -1,21 +1,21 @@
--- `table_calls::account` meets its contract: 20 and 21 leave everything, and behind them it is the client's own account, which changes nothing.
--- `tools/lent/transplant.py` makes the modules below.
+-- `table_calls::account` meets its contract: what the admission refuses leaves everything, and behind it it is the client's own account, which changes
+-- nothing. `tools/lent/transplant.py` makes the modules below.
 -- Assumes nothing.
-use Prim.Native.Nat.{_*_}
-use mathlib.Core.Path.{_≡_, refl, sym, ap, _∙_}
-use mathlib.Core.Bool.{true}
+use mathlib.Core.Path.{refl, sym, ap, _∙_}
 use mathlib.Core.List.{[]}
 use lib.ListN.{set}
 use lib.Seq.{set-getD}
+use native.Mathlib.Omega.{arith}
 use borrow.Author.Needs.{needs}
 use borrow.Author.Tests.{not-true, not-false}
-use Rattle.client_record.specs.Limits.{shareSize}
-use Rattle.client_record.specs.Record.{freshClient}
+use Rattle.client_record.specs.Limits.{clientLimit, shareSize}
+use Rattle.client_record.specs.Record.{blankClient}
 use Rattle.client_reassembly.specs.Answer.{replyOf}
 use Rattle.client_ledger.specs.History.{accounting}
-use Rattle.table_rules.specs.Table.{sized, tableOf, lentOf, recordOf}
+use Rattle.table_rules.specs.Table.{Table, plansOf, tableOf, recordOf, shareStart}
 use Rattle.table_rules.proofs.Facts.{account-keeps, share-fits, same-part}
-use Rattle.table_calls.proofs.Contracts.{misfit-leaves, unknown-leaves, granted-leaves}
+use Rattle.table_admission.specs.Admission.{startIn}
+use Rattle.table_calls.proofs.Contracts.{Granted, few-of, granted, refused-call, granted-leaves}
 use Rattle.table_calls.proofs.account.Statement.{statement}
 use Rattle.table_calls.proofs.account.Proof.Tie as tie
 use Rattle.table_calls.proofs.account.Proof.Lts as lts
@@ -23,32 +23,40 @@ use Rattle.table_calls.proofs.Lent.account.Reads as reads
 mod Lts
 mod Tie
 
-sized-requires : tie.Need-sized-requires
-sized-requires c κs = search needs
+lent : tie.After-admit → Table
+lent c = let a = c .before .before .args in tableOf (a .records .now) (a .store .now)
 
-misfit-requires : tie.Need-misfit-requires
-misfit-requires c κs = search needs
+admit-requires : tie.Need-admit-requires
+admit-requires c κs = search needs
+
+is-granted-requires : tie.Need-is-granted-requires
+is-granted-requires c κs = search needs
+
+refusal-of-requires : tie.Need-refusal-of-requires
+refusal-of-requires c κs = search needs
 
 returns : tie.Need-returns
+unfolding lent
 returns c =
-    let a = c .before .before .before .before .args in
-    misfit-leaves (a .k) accounting (tableOf (a .records .now) (a .store .now)) _
-    (sym (c .before .before .sized .ensures) ∙ not-true _ (c .before .if1 .taken)) (c .misfit .ensures)
+    let g = c .before .before in
+    let m = g .before in
+    refused-call (m .before .before .args .k) (lent m) _ (m .admit .ensures) accounting _
+    (sym (g .is-granted .ensures) ∙ not-true _ (c .before .if1 .taken)) (c .refusal-of .ensures)
 
-unknown-requires : tie.Need-unknown-requires
-unknown-requires c κs = search needs
-
-returns-2 : tie.Need-returns-2
-returns-2 c =
-    let a = c .before .before .before .before .before .args in
-    unknown-leaves (a .k) accounting (tableOf (a .records .now) (a .store .now)) _
-    (sym (c .before .before .before .sized .ensures) ∙ not-false _ (c .before .before .if1 .left)) (c .before .if2 .taken) (c .unknown .ensures)
+-- the admission lets it pass
+pass : (c : tie.Else1) → let m = c .before .before in Granted (lent m) (m .before .before .args .k) (startIn (m .admit .result))
+unfolding lent
+pass c =
+    let m = c .before .before in
+    granted (m .before .before .args .k) (lent m) _ (m .admit .ensures) (sym (c .before .is-granted .ensures) ∙ not-false _ (c .if1 .left))
 
 mul-client : tie.Need-mul-client
-mul-client c = search needs
+unfolding clientLimit lent
+mul-client c = omega (arith, pass c .there, few-of (pass c))
 
 shared-slice-copy-out-client : tie.Need-shared-slice-copy-out-client
-shared-slice-copy-out-client c = search needs
+unfolding lent
+shared-slice-copy-out-client c = pass c .there
 
 account-requires : tie.Need-account-requires
 account-requires c κs = search needs
@@ -56,23 +64,25 @@ account-requires c κs = search needs
 answer-of-requires : tie.Need-answer-of-requires
 answer-of-requires c κs = search needs
 
-returns-3 : tie.Need-returns-3
-returns-3 c =
-    let a = c .before .before .before .before .before .before .before .args in
-    let t = tableOf (a .records .now) (a .store .now) in
-    let fit : sized (lentOf t) ≡ true =
-    sym (c .before .before .before .before .before .sized .ensures) ∙ not-false _ (c .before .before .before .before .if1 .left) in
-    let there = c .before .before .before .if2 .left in
-    granted-leaves (a .k) accounting t _ (a .records .now) (a .store .now) [] fit there
+returns-2 : tie.Need-returns-2
+unfolding lent
+returns-2 c =
+    let e = c .before .before .before in
+    let m = e .before .before in
+    let a = m .before .before .args in
+    let t = lent m in
+    let g = pass e in
+    granted-leaves (a .k) accounting t _ (a .records .now) (a .store .now) [] (g .fit) (g .there)
     (record {
       answers = ap replyOf (c .answer-of .ensures) ∙ c .before .account .ensures .reply;
-      records-left = sym (ap (set (a .records .now) (a .k)) (account-keeps (recordOf (a .k) t)) ∙ set-getD (a .records .now) (a .k) freshClient);
-      store-left = sym (same-part (a .store .now) (a .k * shareSize) shareSize (share-fits t (a .k) fit there));
+      records-left = sym (ap (set (a .records .now) (a .k)) (account-keeps (recordOf (a .k) t)) ∙ set-getD (a .records .now) (a .k) blankClient);
+      store-left = sym (same-part (a .store .now) (shareStart (a .k) (plansOf (a .records .now))) (shareSize (recordOf (a .k) t .plan))
+          (share-fits t (a .k) (g .fit) (g .there)));
       out-left = refl;
     })
 
 pub account-spec : {M : Type 1} → statement M
 account-spec =
     tie.close
-    (tie.spec sized-requires misfit-requires returns unknown-requires returns-2 mul-client shared-slice-copy-out-client account-requires
-    answer-of-requires returns-3)
+    (tie.spec admit-requires is-granted-requires refusal-of-requires returns mul-client shared-slice-copy-out-client account-requires
+    answer-of-requires returns-2)

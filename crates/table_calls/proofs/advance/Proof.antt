@@ -1,19 +1,19 @@
--- `table_calls::advance` meets its contract: 20 and 21 leave everything, and behind them it is the client's own clock, which does not touch its share.
--- `tools/lent/transplant.py` makes the modules below.
+-- `table_calls::advance` meets its contract: what the admission refuses leaves everything, and behind it it is the client's own clock, which does not
+-- touch its share. `tools/lent/transplant.py` makes the modules below.
 -- Assumes nothing.
-use Prim.Native.Nat.{_*_}
-use mathlib.Core.Path.{_≡_, refl, sym, ap, _∙_}
-use mathlib.Core.Bool.{true}
+use mathlib.Core.Path.{refl, sym, ap, _∙_}
 use mathlib.Core.List.{[]}
 use lib.ListN.{set}
+use native.Mathlib.Omega.{arith}
 use borrow.Author.Needs.{needs}
 use borrow.Author.Tests.{not-true, not-false}
-use Rattle.client_record.specs.Limits.{shareSize}
+use Rattle.client_record.specs.Limits.{clientLimit, shareSize}
 use Rattle.client_reassembly.specs.Answer.{replyOf}
 use Rattle.client_ledger.specs.History.{advancing}
-use Rattle.table_rules.specs.Table.{sized, tableOf, lentOf}
+use Rattle.table_rules.specs.Table.{Table, plansOf, tableOf, recordOf, shareStart}
 use Rattle.table_rules.proofs.Facts.{share-fits, same-part}
-use Rattle.table_calls.proofs.Contracts.{misfit-leaves, unknown-leaves, granted-leaves}
+use Rattle.table_admission.specs.Admission.{startIn}
+use Rattle.table_calls.proofs.Contracts.{Granted, few-of, granted, refused-call, granted-leaves}
 use Rattle.table_calls.proofs.advance.Statement.{statement}
 use Rattle.table_calls.proofs.advance.Proof.Tie as tie
 use Rattle.table_calls.proofs.advance.Proof.Lts as lts
@@ -21,32 +21,44 @@ use Rattle.table_calls.proofs.Lent.advance.Reads as reads
 mod Lts
 mod Tie
 
-sized-requires : tie.Need-sized-requires
-sized-requires c κs = search needs
+lent : tie.After-admit → Table
+lent c = let a = c .before .before .before .args in tableOf (a .records .now) (a .store .now)
 
-misfit-requires : tie.Need-misfit-requires
-misfit-requires c κs = search needs
+admit-requires : tie.Need-admit-requires
+admit-requires c κs = search needs
+
+is-granted-requires : tie.Need-is-granted-requires
+is-granted-requires c κs = search needs
+
+refusal-of-requires : tie.Need-refusal-of-requires
+refusal-of-requires c κs = search needs
+
+same-length : tie.Need-same-length
+same-length c = search needs
 
 returns : tie.Need-returns
+unfolding lent
 returns c =
-    let a = c .before .before .before .before .args in
-    misfit-leaves (a .k) (advancing (a .time)) (tableOf (a .records .now) (a .store .now)) _
-    (sym (c .before .before .sized .ensures) ∙ not-true _ (c .before .if1 .taken)) (c .misfit .ensures)
+    let g = c .before .before in
+    let m = g .before in
+    let a = m .before .before .before .args in
+    refused-call (a .k) (lent m) _ (m .admit .ensures) (advancing (a .time)) _
+    (sym (g .is-granted .ensures) ∙ not-true _ (c .before .if1 .taken)) (c .refusal-of .ensures)
 
-unknown-requires : tie.Need-unknown-requires
-unknown-requires c κs = search needs
-
-returns-2 : tie.Need-returns-2
-returns-2 c =
-    let a = c .before .before .before .before .before .args in
-    unknown-leaves (a .k) (advancing (a .time)) (tableOf (a .records .now) (a .store .now)) _
-    (sym (c .before .before .before .sized .ensures) ∙ not-false _ (c .before .before .if1 .left)) (c .before .if2 .taken) (c .unknown .ensures)
+-- the admission lets it pass
+pass : (c : tie.Else1) → let m = c .before .before in Granted (lent m) (m .before .before .before .args .k) (startIn (m .admit .result))
+unfolding lent
+pass c =
+    let m = c .before .before in
+    granted (m .before .before .before .args .k) (lent m) _ (m .admit .ensures) (sym (c .before .is-granted .ensures) ∙ not-false _ (c .if1 .left))
 
 mul-client : tie.Need-mul-client
-mul-client c = search needs
+unfolding clientLimit lent
+mul-client c = omega (arith, pass c .there, few-of (pass c))
 
 slice-copy-out-client : tie.Need-slice-copy-out-client
-slice-copy-out-client c = search needs
+unfolding lent
+slice-copy-out-client c = pass c .there
 
 advance-requires : tie.Need-advance-requires
 advance-requires c κs = search needs
@@ -54,35 +66,40 @@ advance-requires c κs = search needs
 client-of-requires : tie.Need-client-of-requires
 client-of-requires c κs = search needs
 
-mul-t8 : tie.Need-mul-t8
-mul-t8 c = search needs
+mul-next : tie.Need-mul-next
+unfolding clientLimit lent
+mul-next c = let g = pass (c .before .before .before) in omega (arith, g .there, few-of g)
 
-slice-set-from-records : tie.Need-slice-set-from-records
-slice-set-from-records c = search needs
+slice-set-from-next : tie.Need-slice-set-from-next
+unfolding lent
+slice-set-from-next c = pass (c .before .before .before) .there
 
 answer-of-requires : tie.Need-answer-of-requires
 answer-of-requires c κs = search needs
 
-same-length : tie.Need-same-length
-same-length c = search needs
+same-length-2 : tie.Need-same-length-2
+same-length-2 c = search needs
 
-returns-3 : tie.Need-returns-3
-returns-3 c =
-    let p = c .before .before .before .before in
-    let a = p .before .before .before .before .args in
-    let t = tableOf (a .records .now) (a .store .now) in
-    let fit : sized (lentOf t) ≡ true = sym (p .before .before .sized .ensures) ∙ not-false _ (p .before .if1 .left) in
+returns-2 : tie.Need-returns-2
+unfolding lent
+returns-2 c =
+    let e = c .before .before .before .before in
+    let m = e .before .before in
+    let a = m .before .before .before .args in
+    let t = lent m in
+    let g = pass e in
     let did = c .before .before .advance .ensures in
-    granted-leaves (a .k) (advancing (a .time)) t _ _ (a .store .now) [] fit (p .if2 .left)
+    granted-leaves (a .k) (advancing (a .time)) t _ _ (a .store .now) [] (g .fit) (g .there)
     (record {
       answers = ap replyOf (c .answer-of .ensures) ∙ did .reply;
       records-left = ap (set (a .records .now) (a .k)) (c .before .client-of .ensures ∙ did .client);
-      store-left = sym (same-part (a .store .now) (a .k * shareSize) shareSize (share-fits t (a .k) fit (p .if2 .left)));
+      store-left = sym (same-part (a .store .now) (shareStart (a .k) (plansOf (a .records .now))) (shareSize (recordOf (a .k) t .plan))
+          (share-fits t (a .k) (g .fit) (g .there)));
       out-left = refl;
     })
 
 pub advance-spec : {M : Type 1} → statement M
 advance-spec =
     tie.close
-    (tie.spec sized-requires misfit-requires returns unknown-requires returns-2 mul-client slice-copy-out-client advance-requires
-    client-of-requires mul-t8 slice-set-from-records answer-of-requires same-length returns-3)
+    (tie.spec admit-requires is-granted-requires refusal-of-requires same-length returns mul-client slice-copy-out-client advance-requires
+    client-of-requires mul-next slice-set-from-next answer-of-requires same-length-2 returns-2)

@@ -1,0 +1,3 @@
+pub mod Surveys
+pub mod ClientKind
+pub mod Lent
