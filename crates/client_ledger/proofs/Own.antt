@@ -10,7 +10,41 @@ use lib.ListN.{length, getD}
 use Rattle.number_tests.proofs.Tests.{first-front, first-behind, cond-yes, cond-no, cond-either}
 use Rattle.number_tests.specs.Tests.{firstOf}
 use Rattle.client_reassembly.specs.Answer.{refused}
-use Rattle.client_ledger.specs.Book.{Content, Entry, Book, empty, endOf, advance, complete, lastOne, Result, rejecting, repeating, conflicting, storing, delivering, leaving, with, finished, taking, noRoom, isRepeat, isConflict, isFull, fate, Call, fragment, clock, bill, entry, offerTests, clockTests, refuseOr, call, Balanced}
+use Rattle.client_ledger.specs.Book.{
+  Content,
+  Entry,
+  Book,
+  empty,
+  endOf,
+  advance,
+  complete,
+  lastOne,
+  Result,
+  rejecting,
+  repeating,
+  conflicting,
+  storing,
+  delivering,
+  leaving,
+  with,
+  finished,
+  taking,
+  noRoom,
+  isRepeat,
+  isConflict,
+  isFull,
+  fate,
+  Call,
+  fragment,
+  clock,
+  bill,
+  entry,
+  offerTests,
+  clockTests,
+  refuseOr,
+  call,
+  Balanced,
+}
 use Rattle.client_ledger.specs.History.{Lent}
 use Rattle.client_ledger.specs.Lent.{tableTests, noClient, lentTests, Own, Past, since, more, outOf, answered, keeping, bookOf}
 use Rattle.client_ledger.proofs.Sum.{call-balanced, empty-balanced}

@@ -1,4 +1,5 @@
--- The shape of a client's record: its lists are as long as the code's arrays, whatever they hold, and 32 lets its plan pass.
+-- The shape of a client's record: its lists are as long as the code's arrays, whatever they hold, and its plan
+-- is at most the largest one.
 use Prim.Native.Nat.{_≤_}
 use mathlib.Core.Path.{_≡_}
 use mathlib.Core.Bool.{Bool, true}

@@ -12,7 +12,18 @@ use Rattle.number_tests.proofs.Tests.{both-true}
 use Rattle.client_record.specs.declared.Client.{Client}
 use Rattle.client_record.specs.Limits.{offeredLimit}
 use Rattle.client_record.specs.Lists.{all, pairs, sum}
-use Rattle.client_record.specs.Record.{live, bytesHeld, soundAssembly, keysDiffer, heldRight, figureSum, sumsTo, balanced, withinPlan, soundRecord}
+use Rattle.client_record.specs.Record.{
+  live,
+  bytesHeld,
+  soundAssembly,
+  keysDiffer,
+  heldRight,
+  figureSum,
+  sumsTo,
+  balanced,
+  withinPlan,
+  soundRecord,
+}
 
 pub record Sound (c : Client) : Type 0 where
   pub each : all (soundAssembly (c .time)) (c .assemblies) ≡ true

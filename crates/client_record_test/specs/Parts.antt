@@ -7,7 +7,18 @@ use Rattle.client_record.specs.declared.Assembly.{Assembly}
 use Rattle.client_record.specs.declared.Client.{Client}
 use Rattle.client_record.specs.Limits.{fragmentLimit}
 use Rattle.client_record.specs.Lists.{all, sum}
-use Rattle.client_record.specs.Record.{freshFlow, sameFlow, soundFragment, compatible, whole, heldFragments, bytesHeld, openedWithin, soundAssembly, withinPlan}
+use Rattle.client_record.specs.Record.{
+  freshFlow,
+  sameFlow,
+  soundFragment,
+  compatible,
+  whole,
+  heldFragments,
+  bytesHeld,
+  openedWithin,
+  soundAssembly,
+  withinPlan,
+}
 use Rattle.client_record_test.specs.declared.Assemblies.{Assemblies}
 
 -- key and time of an unused assembly are as in a fresh record

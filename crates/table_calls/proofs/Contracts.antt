@@ -22,7 +22,27 @@ use Rattle.client_reassembly.specs.declared.Answer.{Answer}
 use Rattle.client_reassembly.specs.Answer.{refused, numberOf, replyOf}
 use Rattle.client_reassembly.specs.declared.Answer.the-variants.{Reset}
 use Rattle.client_ledger.specs.History.{Lent, Ask, callOn}
-use Rattle.table_rules.specs.Table.{Table, plansOf, lentOf, counted, inRange, sharesOf, sizeTests, sized, askTests, recordOf, shareStart, shareOf, After, cleared, resetOn, outLent, afterCall, askOn, Leaves}
+use Rattle.table_rules.specs.Table.{
+  Table,
+  plansOf,
+  lentOf,
+  counted,
+  inRange,
+  sharesOf,
+  sizeTests,
+  sized,
+  askTests,
+  recordOf,
+  shareStart,
+  shareOf,
+  After,
+  cleared,
+  resetOn,
+  outLent,
+  afterCall,
+  askOn,
+  Leaves,
+}
 use Rattle.table_rules.proofs.Facts.{fits, few-clients, granted-is, refused-leaves, reset-refused-leaves, reset-leaves}
 use Rattle.table_admission.specs.declared.Admission.{Admission}
 use Rattle.table_admission.specs.declared.Admission.the-variants as Admission

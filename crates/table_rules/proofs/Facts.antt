@@ -27,7 +27,27 @@ use Rattle.client_reassembly.specs.declared.Answer.the-variants.{Reset}
 use Rattle.client_reassembly.specs.Advance as Advance
 use Rattle.client_reassembly.specs.Advance.{figures, accountOn}
 use Rattle.client_ledger.specs.History.{Lent, Ask, callOn}
-use Rattle.table_rules.specs.Table.{Table, plansOf, lentOf, counted, inRange, sharesOf, sizeTests, sized, askTests, recordOf, shareStart, shareOf, After, cleared, resetOn, outLent, afterCall, askOn, Leaves}
+use Rattle.table_rules.specs.Table.{
+  Table,
+  plansOf,
+  lentOf,
+  counted,
+  inRange,
+  sharesOf,
+  sizeTests,
+  sized,
+  askTests,
+  recordOf,
+  shareStart,
+  shareOf,
+  After,
+  cleared,
+  resetOn,
+  outLent,
+  afterCall,
+  askOn,
+  Leaves,
+}
 
 -- ---- the sizes and plans of a table
 

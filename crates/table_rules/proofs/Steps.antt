@@ -23,7 +23,18 @@ use Rattle.table_rules.specs.Table.{Table, lentOf, sized, shareOf, recor
 use Rattle.table_rules.specs.Events.{Lending, current, another, Event, resetting, asking, tableFor, next, givenBy, Allowed}
 use Rattle.table_rules.specs.Owed.{ownCall, taken, sizesAfter, pastAfter, givenIn}
 use Rattle.table_rules.specs.Apart.{Formed}
-use Rattle.table_rules.proofs.Facts.{sized-none, Misfit, misfit-of, plan-of, plan-few, share-length, misfit-is, unknown-is, granted-is, reset-taken}
+use Rattle.table_rules.proofs.Facts.{
+  sized-none,
+  Misfit,
+  misfit-of,
+  plan-of,
+  plan-few,
+  share-length,
+  misfit-is,
+  unknown-is,
+  granted-is,
+  reset-taken,
+}
 use Rattle.table_rules.proofs.PutBack.{unknown-table, asked-sizes, asked-each, asked-formed}
 use Rattle.table_rules.proofs.Apart.{cleared-sizes, cleared-record, cleared-share}
 use Rattle.table_rules.proofs.Tests.{size-tests-agree, client-agrees}

@@ -13,7 +13,17 @@ use Rattle.client_record.specs.Limits.{assemblyLimit, clientLimit}
 use Rattle.client_ledger.specs.History.{Lent}
 use Rattle.table_rules.specs.Table.{counted, inRange}
 use Rattle.table_rules.proofs.Facts.{few-clients}
-use Rattle.table_admission.proofs.Surveys.{Surveyed, surveyed-none, surveyed-next, surveyed-off, surveyed-all, laid-places, admits-count, admits-plan, admits-store}
+use Rattle.table_admission.proofs.Surveys.{
+  Surveyed,
+  surveyed-none,
+  surveyed-next,
+  surveyed-off,
+  surveyed-all,
+  laid-places,
+  admits-count,
+  admits-plan,
+  admits-store,
+}
 use Rattle.table_admission.proofs.admit.Statement.{statement}
 use Rattle.table_admission.proofs.admit.Proof.Tie as tie
 use Rattle.table_admission.proofs.admit.Proof.Lts as lts
