@@ -1,14 +1,12 @@
-/* A host that receives for four clients: a gauge at a weir, a data logger that has lost its way, a weather mast, and two gauges at a lake,
- * the old one over IPv4 and the new one over IPv6. Each client has its plan: two originals may be under way at once for the weir's gauge
- * and for the lake, eight for the logger and one for the mast.
+/* A host that receives for three clients: a gauge at a weir, a data logger that has lost its way, and a weather mast. Each has its plan:
+ * two originals may be under way at once for the gauge, eight for the logger and one for the mast.
  *
  *     gcc -std=c11 -Wall -Wextra -Werror -Iinclude examples/host.c target/staticlib/libhost_calls.a -o target/host-example
  *
  * The logger sends the first fragment of one message after another and never the rest. It fills its own eight places again and
- * again; the others get their messages as if it were not there. The mast starts on a report while another is under way, which its plan
- * does not allow. What comes over IPv6 is handed to the calls for IPv6, and a flow over one version is never taken for one over the other.
- * Options and faults are shown with their offsets from the UDP header, so that they can be looked up in a packet trace. What this prints
- * stands in examples/host.expected.
+ * again; the gauge and the mast get their messages as if it were not there. The mast starts on a report while another is under way,
+ * which its plan does not allow. Options and faults are shown with their offsets from the UDP header, so that they can be looked up in
+ * a packet trace. What this prints stands in examples/host.expected.
  */
 #include <inttypes.h>
 #include <stdio.h>
@@ -17,24 +15,15 @@
 
 #include "wuraketozo.h"
 
-enum { GAUGE = 0, LOGGER = 1, MAST = 2, LAKE = 3, CLIENTS = 4 };
+enum { GAUGE = 0, LOGGER = 1, MAST = 2, CLIENTS = 3 };
 
-static const char *const client_names[CLIENTS] = {"gauge", "logger", "mast", "lake"};
-static const uint64_t plans[CLIENTS] = {2, 8, 1, 2};
+static const char *const client_names[CLIENTS] = {"gauge", "logger", "mast"};
+static const uint64_t plans[CLIENTS] = {2, 8, 1};
 
 static const wuraketozo_address gauge_address = {{192, 0, 2, 1}};
 static const wuraketozo_address logger_address = {{192, 0, 2, 5}};
 static const wuraketozo_address mast_address = {{192, 0, 2, 9}};
-static const wuraketozo_address lake_address = {{192, 0, 2, 13}};
 static const wuraketozo_address host_address = {{198, 51, 100, 7}};
-
-/* 2001:db8::13 and 2001:db8::7 */
-static const wuraketozo_address_ipv6 lake_address_ipv6 = {{0x20, 0x01, 0x0d, 0xb8, 0, 0, 0, 0, 0, 0, 0, 0, 0, 0, 0, 0x13}};
-static const wuraketozo_address_ipv6 host_address_ipv6 = {{0x20, 0x01, 0x0d, 0xb8, 0, 0, 0, 0, 0, 0, 0, 0, 0, 0, 0, 0x07}};
-
-/* IPv6 addresses with the digits of two IPv4 ones, lake_address and host_address: c000:20d:: and c633:6407:: */
-static const wuraketozo_address_ipv6 lake_digits = {{192, 0, 2, 13}};
-static const wuraketozo_address_ipv6 host_digits = {{198, 51, 100, 7}};
 
 /* ---- what arrives: UDP payloads as captured ---- */
 
@@ -164,38 +153,6 @@ static const uint8_t logger_first[] = {
 };
 enum { IDENTIFICATION_AT = 14 };
 
-/* A report of the lake without checksums, which IPv4 allows and IPv6 does not. */
-static const uint8_t lake_unsummed[] = {
-    0x12, 0x37, 0x14, 0xb4, 0x00, 0x13, 0x00, 0x00, /* ports 4663 and 5300, UDP length 19, no checksum */
-    'l', 'e', 'v', 'e', 'l', ' ', '8', '7', ' ', 'c', 'm',
-};
-
-/* The first fragments of a report of either gauge at the lake, and the last one, whose bytes are the same for both. */
-static const uint8_t old_first[] = {
-    0x12, 0x37, 0x14, 0xb4, 0x00, 0x08, 0xec, 0xaa, /* ports 4663 and 5300, UDP length 8, checksum */
-    0x14, 0xe6,                                     /* option checksum */
-    0x03, 0x0a, 0x00, 0x14,                         /* FRAG, 10 bytes; the fragment starts at 20 */
-    0x00, 0x00, 0x00, 0x0b, 0x00, 0x08,             /* identification 11, offset 8: place 0 */
-    'o', 'l', 'd', ' ', 'g', 'a', 'u', 'g', 'e', ':', ' ', 'l', 'e', 'v', 'e', 'l', ' ', '8', '7', ' ', 'c', 'm',
-    ',', ' ',
-};
-static const uint8_t new_first[] = {
-    0x12, 0x37, 0x14, 0xb4, 0x00, 0x08, 0xec, 0xaa, /* UDP header */
-    0x03, 0xed,                                     /* option checksum */
-    0x03, 0x0a, 0x00, 0x14,                         /* FRAG, 10 bytes; the fragment starts at 20 */
-    0x00, 0x00, 0x00, 0x0b, 0x00, 0x08,             /* identification 11, offset 8: place 0 */
-    'n', 'e', 'w', ' ', 'g', 'a', 'u', 'g', 'e', ':', ' ', 'l', 'e', 'v', 'e', 'l', ' ', '8', '6', ' ', 'c', 'm',
-    ',', ' ',
-};
-static const uint8_t lake_last[] = {
-    0x12, 0x37, 0x14, 0xb4, 0x00, 0x08, 0xec, 0xaa, /* UDP header */
-    0x9a, 0x63,                                     /* option checksum */
-    0x03, 0x0c, 0x00, 0x16,                         /* FRAG, 12 bytes: the last one; the fragment starts at 22 */
-    0x00, 0x00, 0x00, 0x0b, 0x00, 0x20,             /* identification 11, offset 32: place 24 */
-    0x00, 0x28,                                     /* options would start at 40: place 32, its end */
-    'i', 'c', 'e', ' ', '0', ' ', 'c', 'm',
-};
-
 /* ---- the host ---- */
 
 static wuraketozo_client records[CLIENTS];
@@ -296,53 +253,27 @@ static void show_answer(const wuraketozo_answer *answer)
     }
 }
 
-/* Hands a datagram that arrived for a client over IPv4 to the library. */
+/* Hands a datagram that arrived for a client to the library. */
 static wuraketozo_received receive(size_t client, uint64_t time, wuraketozo_address source, const uint8_t *payload, size_t length)
 {
     return wuraketozo_receive(records, CLIENTS, store, store_length, client, time, source, host_address, strictness, payload, length,
                               out, out_length);
 }
 
-static void show_received(size_t client, uint64_t time, const uint8_t *payload, size_t length, const wuraketozo_received *received)
-{
-    printf("%6" PRIu64 " ms  %-6s  ", time, client_names[client]);
-    switch (received->what) {
-    case WURAKETOZO_DATAGRAM:
-        show_reading(payload, length, &received->reading);
-        return;
-    case WURAKETOZO_FRAGMENT:
-        show_answer(&received->answer);
-        return;
-    default:
-        printf("refused %" PRIu32 "\n", received->reading.refusal);
-    }
-}
-
 static void receive_and_show(size_t client, uint64_t time, wuraketozo_address source, const uint8_t *payload, size_t length)
 {
     wuraketozo_received received = receive(client, time, source, payload, length);
-    show_received(client, time, payload, length, &received);
-}
-
-/* The same of a datagram that arrived over IPv6. */
-static void receive_ipv6_and_show(size_t client, uint64_t time, wuraketozo_address_ipv6 source, wuraketozo_address_ipv6 destination,
-                                  const uint8_t *payload, size_t length)
-{
-    wuraketozo_received received = wuraketozo_receive_ipv6(records, CLIENTS, store, store_length, client, time, source, destination,
-                                                           strictness, payload, length, out, out_length);
-    show_received(client, time, payload, length, &received);
-}
-
-/* What the new gauge at the lake sends, written here: a report with an APC and a REQ, token 300. */
-static void lake_reports(uint64_t time)
-{
-    static const uint8_t list[] = {2, 2, 6, 0xac, 0x02};
-    static const char text[] = "level 86 cm";
-    uint8_t payload[64];
-    wuraketozo_written written = wuraketozo_write_ipv6(lake_address_ipv6, host_address_ipv6, 4663, 5300, (const uint8_t *)text,
-                                                       sizeof text - 1, list, sizeof list, 0, payload, sizeof payload);
-    if (written.refusal == 0)
-        receive_ipv6_and_show(LAKE, time, lake_address_ipv6, host_address_ipv6, payload, written.size);
+    printf("%6" PRIu64 " ms  %-6s  ", time, client_names[client]);
+    switch (received.what) {
+    case WURAKETOZO_DATAGRAM:
+        show_reading(payload, length, &received.reading);
+        return;
+    case WURAKETOZO_FRAGMENT:
+        show_answer(&received.answer);
+        return;
+    default:
+        printf("refused %" PRIu32 "\n", received.reading.refusal);
+    }
 }
 
 /* The logger sends `count` first fragments; says how many were stored and how many turned away. */
@@ -381,8 +312,6 @@ static void show_accounts(void)
 }
 
 #define RECEIVE(client, time, source, payload) receive_and_show(client, time, source, payload, sizeof(payload))
-#define RECEIVE_IPV6(client, time, source, destination, payload) \
-    receive_ipv6_and_show(client, time, source, destination, payload, sizeof(payload))
 
 /* Makes the table: a record with its plan for each client, a store for all of them, and the buffer that originals are handed out in. */
 static int set_up(void)
@@ -432,17 +361,6 @@ int main(void)
     printf("-- two fragments that contradict each other\n");
     RECEIVE(GAUGE, 2000, gauge_address, next_first);
     RECEIVE(GAUGE, 2010, gauge_address, next_overlap);
-
-    printf("-- the lake over IPv6, then without a checksum over IPv6 and over IPv4\n");
-    lake_reports(2500);
-    RECEIVE_IPV6(LAKE, 2510, lake_address_ipv6, host_address_ipv6, lake_unsummed);
-    RECEIVE(LAKE, 2520, lake_address, lake_unsummed);
-
-    printf("-- two long reports of the lake with the same digits, over IPv4 and over IPv6: two flows\n");
-    RECEIVE(LAKE, 2600, lake_address, old_first);
-    RECEIVE_IPV6(LAKE, 2610, lake_digits, host_digits, new_first);
-    RECEIVE(LAKE, 2620, lake_address, lake_last);
-    RECEIVE_IPV6(LAKE, 2630, lake_digits, host_digits, lake_last);
 
     printf("-- the logger loops, and the mast reports: a second report has to wait for the first\n");
     logger_loops(3000, 10);

@@ -1,12 +1,6 @@
 /* Wuraketozo for C: the proved reader, writer and reassembly table as one static library (target/staticlib/libhost_calls.a, made by
  * `rt staticlib host_calls`).
  *
- * Datagrams may go over IPv4 and over IPv6, for one client too. Each is read, received or written with the call of the IP version that it
- * goes over: wuraketozo_read, wuraketozo_receive and wuraketozo_write are for IPv4, wuraketozo_read_ipv6, wuraketozo_receive_ipv6 and
- * wuraketozo_write_ipv6 for IPv6. Every other call is for both. A dual-stack socket names an IPv4 peer as ::ffff:a.b.c.d: such a datagram
- * came over IPv4 and belongs to the IPv4 call, with a.b.c.d. The IPv6 call would refuse it with 10 where it has no checksum, and a
- * fragment of it would have another flow.
- *
  * Numbers are those of the papers: a `refusal` is 0, or the number of the first test that applies. What a call answers and what it
  * leaves in every buffer and record is proved for every value of its arguments; docs/CLAIMS.md says where.
  *
@@ -54,11 +48,6 @@ extern "C" {
 typedef struct {
     uint8_t octets[4];
 } wuraketozo_address;
-
-/* An IPv6 address, first byte first. */
-typedef struct {
-    uint8_t octets[16];
-} wuraketozo_address_ipv6;
 
 /* Bytes of a payload: `from` up to `to`, counted from its UDP header. */
 typedef struct {
@@ -129,18 +118,9 @@ typedef struct {
     uint32_t last;             /* 1 if it is the last one, else 0 */
 } wuraketozo_reading;
 
-/* The longest payload that is read or written, over each IP version. */
-#define WURAKETOZO_PAYLOAD_LIMIT_IPV4 65515
-#define WURAKETOZO_PAYLOAD_LIMIT_IPV6 65535
-
-/* Reads one UDP payload that came over IPv4. Refusals: 1 under 8 bytes, 2 over 65,515, 3 UDP length out of range, 4 UDP checksum wrong. */
+/* Reads one IPv4 UDP payload. Refusals: 1 under 8 bytes, 2 over 65,515, 3 UDP length out of range, 4 UDP checksum wrong. */
 wuraketozo_reading wuraketozo_read(const uint8_t *payload, size_t length, wuraketozo_address source, wuraketozo_address destination,
                                    uint32_t strictness);
-
-/* Reads one UDP payload that came over IPv6. Refusals: 1 under 8 bytes, 2 over 65,535, 3 UDP length out of range, 10 UDP checksum zero,
- * which IPv6 does not allow (RFC 8200, section 8.1), 4 UDP checksum wrong. All else is as over IPv4. */
-wuraketozo_reading wuraketozo_read_ipv6(const uint8_t *payload, size_t length, wuraketozo_address_ipv6 source,
-                                        wuraketozo_address_ipv6 destination, uint32_t strictness);
 
 /* What an original says. */
 typedef struct {
@@ -154,9 +134,8 @@ typedef struct {
     uint32_t apc;                       /* WURAKETOZO_APC_NONE .. WURAKETOZO_APC_WRONG */
 } wuraketozo_rereading;
 
-/* Reads an original again that was put together from fragments, which came over either IP version. Refusals: 2 over 65,507 bytes, 6
- * option_start past the end, 5 an unsafe option: nothing of it is to be delivered. With STRICT, one behind eight NOPs in a row is not met:
- * that is PADDED. */
+/* Reads an original again that was put together from fragments. Refusals: 2 over 65,507 bytes, 6 option_start past the end, 5 an
+ * unsafe option: nothing of it is to be delivered. With STRICT, one behind eight NOPs in a row is not met: that is PADDED. */
 wuraketozo_rereading wuraketozo_reread(const uint8_t *original, size_t length, size_t option_start, uint32_t strictness);
 
 /* ---- option lists ---- */
@@ -212,18 +191,11 @@ typedef struct {
     size_t size;      /* bytes of the payload */
 } wuraketozo_written;
 
-/* Writes a whole payload that is to go over IPv4 to the front of `buffer`: header, user data, and the options of an encoded option list
- * with `fill` zero bytes behind them. Refusals: 7 the list can't be read, 9 a kind that is not to be written, 8 over 65,515 bytes or over
- * `room`. */
+/* Writes a whole payload to the front of `buffer`: header, user data, and the options of an encoded option list with `fill` zero
+ * bytes behind them. Refusals: 7 the list can't be read, 9 a kind that is not to be written, 8 too large. */
 wuraketozo_written wuraketozo_write(wuraketozo_address source, wuraketozo_address destination, uint16_t source_port,
                                     uint16_t destination_port, const uint8_t *user, size_t user_length, const uint8_t *list,
                                     size_t list_length, uint8_t fill, uint8_t *buffer, size_t room);
-
-/* The same of a payload that is to go over IPv6: 8 over 65,535 bytes or over `room`. A checksum that comes to zero is sent as FFFF over
- * either version, so that no payload that was written is refused with 10. */
-wuraketozo_written wuraketozo_write_ipv6(wuraketozo_address_ipv6 source, wuraketozo_address_ipv6 destination, uint16_t source_port,
-                                         uint16_t destination_port, const uint8_t *user, size_t user_length, const uint8_t *list,
-                                         size_t list_length, uint8_t fill, uint8_t *buffer, size_t room);
 
 /* ---- the table ---- */
 
@@ -238,16 +210,11 @@ wuraketozo_written wuraketozo_write_ipv6(wuraketozo_address_ipv6 source, wuraket
  * where the last one does. */
 #define WURAKETOZO_SHARE(plan) ((size_t)(plan) * WURAKETOZO_ORIGINAL_LIMIT)
 
-/* Where a datagram comes from and goes to; with an identification it is the key of an original. Both addresses have 16 bytes: an IPv4 one
- * is its four bytes and then twelve zeros. The receive calls make the flow themselves; wuraketozo_flow_ipv4 and wuraketozo_flow_ipv6 make
- * one for wuraketozo_offer. Keys are compared as they are handed in: equal digits under different versions are different flows, and any
- * other version, or other bytes behind an IPv4 address, make one more. */
 typedef struct {
-    wuraketozo_address_ipv6 source;
-    wuraketozo_address_ipv6 destination;
+    wuraketozo_address source;
+    wuraketozo_address destination;
     uint16_t source_port;
     uint16_t destination_port;
-    uint32_t version; /* of IP: 4 or 6 */
 } wuraketozo_flow;
 
 /* A held fragment. `last` is 0, or any other number for the last one. */
@@ -261,8 +228,8 @@ typedef struct {
 typedef struct {
     wuraketozo_flow flow;
     uint32_t identification;
-    uint32_t count;
     uint64_t opened;
+    uint64_t count;
     wuraketozo_held fragments[WURAKETOZO_FRAGMENT_LIMIT];
 } wuraketozo_assembly;
 
@@ -287,7 +254,7 @@ typedef struct {
  * the call below with its own layout's number in its name and no other one. The reference to it that stands here goes into every
  * object that includes this header, so that a host does not link against a library of another layout. It answers the bytes of a
  * record, as wuraketozo_record_size does. */
-size_t wuraketozo_layout_8(void);
+size_t wuraketozo_layout_7(void);
 #if defined(__has_attribute)
 #if __has_attribute(retain)
 #define WURAKETOZO_KEPT __attribute__((used, retain))
@@ -297,13 +264,11 @@ size_t wuraketozo_layout_8(void);
 #define WURAKETOZO_KEPT __attribute__((used))
 #endif
 #ifdef WURAKETOZO_KEPT
-static size_t (*const wuraketozo_layout)(void) WURAKETOZO_KEPT = wuraketozo_layout_8;
+static size_t (*const wuraketozo_layout)(void) WURAKETOZO_KEPT = wuraketozo_layout_7;
 #endif
 #if defined(__STDC_VERSION__) && __STDC_VERSION__ >= 201112L
-_Static_assert(sizeof(wuraketozo_client) == 72 + WURAKETOZO_ASSEMBLY_LIMIT * (56 + WURAKETOZO_FRAGMENT_LIMIT * 8),
+_Static_assert(sizeof(wuraketozo_client) == 72 + WURAKETOZO_ASSEMBLY_LIMIT * (32 + WURAKETOZO_FRAGMENT_LIMIT * 8),
                "a record has no padding");
-_Static_assert(sizeof(wuraketozo_flow) == 40 && sizeof(wuraketozo_assembly) == 56 + WURAKETOZO_FRAGMENT_LIMIT * 8,
-               "nor do its assemblies and their flows have any");
 _Static_assert(sizeof(wuraketozo_reading) == 112 && sizeof(wuraketozo_rereading) == 72, "readings are 112 and 72 bytes");
 _Static_assert(sizeof(wuraketozo_option) == 32 && sizeof(wuraketozo_original_option) == 32, "an option is 32 bytes");
 #endif
@@ -336,35 +301,6 @@ static inline size_t wuraketozo_plan(wuraketozo_client *records, const uint64_t 
         records[k].plan = plans[k];
     }
     return store_length;
-}
-
-/* The flow of datagrams over IPv4, for a host that offers fragments by itself. This too is C of this header: run, not proved. */
-static inline wuraketozo_flow wuraketozo_flow_ipv4(wuraketozo_address source, wuraketozo_address destination, uint16_t source_port,
-                                                   uint16_t destination_port)
-{
-    wuraketozo_flow flow;
-    size_t at;
-    for (at = 0; at < sizeof flow.source.octets; at++) {
-        flow.source.octets[at] = at < sizeof source.octets ? source.octets[at] : 0;
-        flow.destination.octets[at] = at < sizeof destination.octets ? destination.octets[at] : 0;
-    }
-    flow.source_port = source_port;
-    flow.destination_port = destination_port;
-    flow.version = 4;
-    return flow;
-}
-
-/* The same of datagrams over IPv6. */
-static inline wuraketozo_flow wuraketozo_flow_ipv6(wuraketozo_address_ipv6 source, wuraketozo_address_ipv6 destination,
-                                                   uint16_t source_port, uint16_t destination_port)
-{
-    wuraketozo_flow flow;
-    flow.source = source;
-    flow.destination = destination;
-    flow.source_port = source_port;
-    flow.destination_port = destination_port;
-    flow.version = 6;
-    return flow;
 }
 
 /* A client's account. offered is the sum of the other six. */
@@ -413,13 +349,13 @@ typedef struct {
     uint64_t time;
     wuraketozo_flow flow;
     uint32_t identification;
-    uint32_t last;       /* 0: not the last one; anything else: the last one */
     size_t place;        /* where it stands in the original */
     size_t option_start; /* a place too, looked at only if it is the last one */
+    uint32_t last;       /* 0: not the last one; anything else: the last one */
 } wuraketozo_fragment;
 
-/* Offers a fragment for client k; its flow says which IP version it came over. Refusals 20, 32, and 21 to 30; 29 and 30 count its bytes as
- * turned away. 29: a new original, and as many are under way for this client as its plan allows. `out` is written only with DELIVERED. */
+/* Offers a fragment for client k. Refusals 20, 32, and 21 to 30; 29 and 30 count its bytes as turned away. 29: a new original, and as
+ * many are under way for this client as its plan allows. `out` is written only with DELIVERED. */
 wuraketozo_answer wuraketozo_offer(wuraketozo_client *records, size_t count, uint8_t *store, size_t store_length, size_t k,
                                    wuraketozo_fragment fragment, const uint8_t *bytes, size_t length, uint8_t *out, size_t room);
 
@@ -441,17 +377,11 @@ typedef struct {
     wuraketozo_answer answer;   /* all 0 without FRAGMENT */
 } wuraketozo_received;
 
-/* Reads a payload that arrived for client k over IPv4 and, if it is a fragment, offers it with its own flow. What is no fragment touches
- * no record, no store and no out. The strictness may be another one with each datagram. Refusals: those of wuraketozo_read in
- * reading.refusal, those of wuraketozo_offer in answer.refusal. */
+/* Reads a payload that arrived for client k and, if it is a fragment, offers it with its own flow. What is no fragment touches no
+ * record, no store and no out. The strictness may be another one with each datagram. */
 wuraketozo_received wuraketozo_receive(wuraketozo_client *records, size_t count, uint8_t *store, size_t store_length, size_t k,
                                        uint64_t time, wuraketozo_address source, wuraketozo_address destination,
                                        uint32_t strictness, const uint8_t *payload, size_t length, uint8_t *out, size_t room);
-
-/* The same of a payload that arrived over IPv6: it is read as by wuraketozo_read_ipv6. A client's datagrams may come over both. */
-wuraketozo_received wuraketozo_receive_ipv6(wuraketozo_client *records, size_t count, uint8_t *store, size_t store_length, size_t k,
-                                            uint64_t time, wuraketozo_address_ipv6 source, wuraketozo_address_ipv6 destination,
-                                            uint32_t strictness, const uint8_t *payload, size_t length, uint8_t *out, size_t room);
 
 #ifdef __cplusplus
 }

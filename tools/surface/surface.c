@@ -1,7 +1,7 @@
 /* Holds include/wuraketozo.h to the library: every constant of the header is what the library answers, every limit what it takes, a fault
  * has the offset that the header says, the options of a reading are found one by one where they stand, each plan has its places and its
- * share, the calls for IPv6 answer what those for IPv4 do but for refusals 2, 8 and 10 and the flow, and a pointer with length 0 may be
- * NULL in every call that takes one. Prints how many checks were made; a failed one is named by its line. */
+ * share, and a pointer with length 0 may be NULL in every call that takes one. Prints how many checks were made; a failed one is named by
+ * its line. */
 #include <stdio.h>
 #include <stdlib.h>
 #include <string.h>
@@ -21,10 +21,6 @@ static void check_at(int line, int holds, const char *text)
 #define CHECK(test) check_at(__LINE__, (test), #test)
 
 static const wuraketozo_address here = {{192, 0, 2, 1}}, there = {{198, 51, 100, 7}};
-static const wuraketozo_address_ipv6 here6 = {{0x20, 0x01, 0x0d, 0xb8, 0, 7, [15] = 1}};
-static const wuraketozo_address_ipv6 there6 = {{0x20, 0x01, 0x0d, 0xb8, 0xff, 0xff, [15] = 9}};
-/* the digits of the two over IPv4: their four bytes and then twelve zeros */
-static const wuraketozo_address_ipv6 here_digits = {{192, 0, 2, 1}}, there_digits = {{198, 51, 100, 7}};
 
 /* ---- equal answers, field by field ---- */
 
@@ -283,7 +279,7 @@ static void start(void)
 
 static wuraketozo_fragment fragment(size_t place, uint32_t last)
 {
-    wuraketozo_fragment f = {0, {{{0}}, {{0}}, 0, 0, 0}, 7, last, place, 2};
+    wuraketozo_fragment f = {0, {{{0}}, {{0}}, 0, 0}, 7, place, 2, last};
     return f;
 }
 
@@ -343,8 +339,8 @@ static wuraketozo_answer offered(uint32_t identification, size_t place, size_t l
 static void limits(void)
 {
     const uint64_t plans[WURAKETOZO_CLIENT_LIMIT] = {1, 2, 3, 4, 5, 6, 7, 8, 1, 8, 1, 8};
-    CHECK(wuraketozo_record_size() == sizeof records[0] && wuraketozo_layout_8() == sizeof records[0]);
-    CHECK(sizeof records[0] == 72 + WURAKETOZO_ASSEMBLY_LIMIT * (56 + WURAKETOZO_FRAGMENT_LIMIT * 8));
+    CHECK(wuraketozo_record_size() == sizeof records[0] && wuraketozo_layout_7() == sizeof records[0]);
+    CHECK(sizeof records[0] == 72 + WURAKETOZO_ASSEMBLY_LIMIT * (32 + WURAKETOZO_FRAGMENT_LIMIT * 8));
     CHECK(wuraketozo_out_size() == WURAKETOZO_ORIGINAL_LIMIT);
     CHECK(wuraketozo_client_limit() == WURAKETOZO_CLIENT_LIMIT);
     for (size_t count = 1; count <= WURAKETOZO_CLIENT_LIMIT; count++) {
@@ -367,258 +363,6 @@ static void limits(void)
     for (size_t held = 1; held < WURAKETOZO_FRAGMENT_LIMIT; held++)
         CHECK(offered(1, 2 * held, 1, 0, sizeof out).outcome == WURAKETOZO_STORED);
     CHECK(offered(1, 2 * WURAKETOZO_FRAGMENT_LIMIT, 1, 0, sizeof out).refusal == 30);
-}
-
-/* ---- over IPv6 ---- */
-
-/* The 16-bit ones' complement sum of some bytes, added to `sum`. */
-static uint32_t added(uint32_t sum, const uint8_t *bytes, size_t length)
-{
-    for (size_t i = 0; i < length; i++)
-        sum += (uint32_t)bytes[i] << (i % 2 ? 0 : 8);
-    while (sum > 0xffff)
-        sum = (sum & 0xffff) + (sum >> 16);
-    return sum;
-}
-
-/* What is sent for a sum: 0 as FFFF. */
-static void put_sum(uint8_t *field, uint32_t sum)
-{
-    sum = sum == 0xffff ? 0xffff : 0xffff - sum;
-    field[0] = (uint8_t)(sum >> 8);
-    field[1] = (uint8_t)sum;
-}
-
-/* Puts in the UDP checksum of a payload, over the pseudo-header of RFC 8200 as a list. */
-static void put_udp_sum(uint8_t *payload, wuraketozo_address_ipv6 source, wuraketozo_address_ipv6 destination)
-{
-    const size_t length = (size_t)payload[4] << 8 | payload[5];
-    const uint8_t rest[] = {0, 0, payload[4], payload[5], 0, 0, 0, 17};
-    uint32_t sum = added(added(added(0, source.octets, 16), destination.octets, 16), rest, sizeof rest);
-    payload[6] = payload[7] = 0;
-    put_sum(payload + 6, added(sum, payload, length));
-}
-
-/* Puts in the option checksum of a payload without user data, and the UDP checksum between `here6` and `there6`. */
-static void put_sums(uint8_t *payload, size_t length)
-{
-    const uint8_t size[] = {(uint8_t)((length - 8) >> 8), (uint8_t)(length - 8)};
-    payload[8] = payload[9] = 0;
-    put_sum(payload + 8, added(added(0, size, 2), payload + 8, length - 8));
-    put_udp_sum(payload, here6, there6);
-}
-
-#define READ6(payload, length) wuraketozo_read_ipv6(payload, length, here6, there6, WURAKETOZO_PLAIN)
-
-static uint8_t piece6[sizeof piece], long_payload[WURAKETOZO_PAYLOAD_LIMIT_IPV6 + 1];
-
-static void fill_piece6(void)
-{
-    memcpy(piece6, piece, sizeof piece);
-    put_sums(piece6, sizeof piece6);
-}
-
-/* A payload says the same over both versions, with the checksums of each. */
-static void says_the_same(const uint8_t *user, size_t user_length, const uint8_t *list, size_t list_length, uint8_t fill)
-{
-    uint8_t four[400], six[400];
-    memset(four, 0xee, sizeof four);
-    memset(six, 0xee, sizeof six);
-    const wuraketozo_written by4 = wuraketozo_write(here, there, 4660, 53, user, user_length, list, list_length, fill, four, sizeof four);
-    const wuraketozo_written by6 =
-        wuraketozo_write_ipv6(here6, there6, 4660, 53, user, user_length, list, list_length, fill, six, sizeof six);
-    CHECK(same_written(by4, by6));
-    if (by4.refusal != 0) {
-        CHECK(memcmp(four, six, sizeof six) == 0);
-        return;
-    }
-    uint8_t checked[sizeof six];
-    memcpy(checked, six, sizeof six);
-    put_udp_sum(checked, here6, there6);
-    CHECK(memcmp(checked, six, sizeof six) == 0 && (six[6] != 0 || six[7] != 0));
-    CHECK(memcmp(four, six, 6) == 0 && memcmp(four + 8, six + 8, sizeof six - 8) == 0);
-    for (uint32_t strictness = WURAKETOZO_PLAIN; strictness <= WURAKETOZO_STRICT; strictness++) {
-        const wuraketozo_reading reading = wuraketozo_read_ipv6(six, by6.size, here6, there6, strictness);
-        CHECK(reading.refusal == 0 && same_reading(reading, wuraketozo_read(four, by4.size, here, there, strictness)));
-    }
-    /* every byte of both addresses is summed */
-    for (size_t i = 0; i < 16; i++) {
-        wuraketozo_address_ipv6 other = here6;
-        other.octets[i] ^= 1;
-        CHECK(wuraketozo_read_ipv6(six, by6.size, other, there6, WURAKETOZO_PLAIN).refusal == 4);
-        other = there6;
-        other.octets[i] ^= 0x80;
-        CHECK(wuraketozo_read_ipv6(six, by6.size, here6, other, WURAKETOZO_PLAIN).refusal == 4);
-    }
-}
-
-/* Reading over IPv6 refuses with 1, 2, 3, 10 and 4, in this order. */
-static void refusals_over_ipv6(void)
-{
-    uint8_t payload[] = {HEAD(8)};
-    CHECK(READ6(payload, 7).refusal == 1 && READ6(payload, 0).refusal == 1);
-    CHECK(READ6(payload, 8).refusal == 10 && wuraketozo_read(payload, 8, here, there, WURAKETOZO_PLAIN).refusal == 0);
-    for (unsigned length = 0; length < 256; length++) {
-        payload[5] = (uint8_t)length;
-        CHECK(READ6(payload, 8).refusal == (length == 8 ? 10 : 3));
-    }
-    payload[5] = 8;
-    put_udp_sum(payload, here6, there6);
-    CHECK(READ6(payload, 8).refusal == 0 && READ6(payload, 8).verdict == WURAKETOZO_NONE);
-    for (unsigned bit = 0; bit < 16; bit++) {
-        payload[6 + bit / 8] ^= (uint8_t)(1 << bit % 8);
-        CHECK(READ6(payload, 8).refusal == 4 && same_reading(READ6(payload, 8), (wuraketozo_reading){.refusal = 4}));
-        payload[6 + bit / 8] ^= (uint8_t)(1 << bit % 8);
-    }
-    memset(long_payload, 0, sizeof long_payload);
-    CHECK(READ6(long_payload, sizeof long_payload).refusal == 2 && READ6(long_payload, sizeof long_payload - 1).refusal == 3);
-    long_payload[5] = 8;
-    CHECK(READ6(long_payload, sizeof long_payload).refusal == 2 && READ6(long_payload, sizeof long_payload - 1).refusal == 10);
-    CHECK(same_reading(READ6(long_payload, 100), (wuraketozo_reading){.refusal = 10}));
-    /* a reread knows no version */
-    CHECK(wuraketozo_reread(long_payload, 65507, 65507, WURAKETOZO_PLAIN).refusal == 0);
-    CHECK(wuraketozo_reread(long_payload, 65508, 65508, WURAKETOZO_PLAIN).refusal == 2);
-}
-
-/* The long payload as it arrives over IPv4, and over IPv6. */
-static wuraketozo_received received(size_t length)
-{
-    return wuraketozo_receive(records, 1, store, sizeof store, 0, 0, here, there, WURAKETOZO_PLAIN, long_payload, length, out, sizeof out);
-}
-
-static wuraketozo_received received_ipv6(size_t length)
-{
-    return wuraketozo_receive_ipv6(records, 1, store, sizeof store, 0, 0, here6, there6, WURAKETOZO_PLAIN, long_payload, length, out,
-                                   sizeof out);
-}
-
-/* The longest payload over each version is read, received and written; one byte more is not. */
-static void payload_limits(void)
-{
-    static uint8_t buffer[sizeof long_payload + 1];
-    const uint8_t no_options[] = {0};
-    const size_t four = WURAKETOZO_PAYLOAD_LIMIT_IPV4, six = WURAKETOZO_PAYLOAD_LIMIT_IPV6;
-    CHECK(four == 65515 && six == 65535);
-    memset(long_payload, 0, sizeof long_payload);
-    long_payload[5] = 8;
-    CHECK(wuraketozo_read(long_payload, four, here, there, WURAKETOZO_PLAIN).options.to == four);
-    CHECK(wuraketozo_read(long_payload, four + 1, here, there, WURAKETOZO_PLAIN).refusal == 2);
-    for (size_t length = four; length <= six; length++) {
-        put_sums(long_payload, length);
-        CHECK(READ6(long_payload, length).options.to == length && READ6(long_payload, length).refusal == 0);
-    }
-    CHECK(READ6(long_payload, six + 1).refusal == 2);
-    CHECK(received_ipv6(six).what == WURAKETOZO_DATAGRAM && received_ipv6(six + 1).reading.refusal == 2);
-    memset(long_payload + 6, 0, 4);
-    CHECK(received(four).what == WURAKETOZO_DATAGRAM && received(four + 1).reading.refusal == 2);
-    memset(long_payload, 7, sizeof long_payload);
-    memset(buffer, 0xee, sizeof buffer);
-    CHECK(wuraketozo_write(here, there, 1, 2, long_payload, four - 11, no_options, 1, 2, buffer, sizeof buffer).refusal == 8);
-    CHECK(wuraketozo_write_ipv6(here6, there6, 1, 2, long_payload, six - 11, no_options, 1, 2, buffer, sizeof buffer).refusal == 8);
-    CHECK(wuraketozo_write_ipv6(here6, there6, 1, 2, long_payload, six - 11, no_options, 1, 1, buffer, six - 1).refusal == 8);
-    CHECK(wuraketozo_write_ipv6(here6, there6, 1, 2, long_payload, sizeof long_payload, no_options, 1, 0, buffer, sizeof buffer).refusal ==
-          8);
-    int untouched = 1;
-    for (size_t i = 0; i < sizeof buffer; i++)
-        untouched &= buffer[i] == 0xee;
-    CHECK(untouched);
-    CHECK(wuraketozo_write(here, there, 1, 2, long_payload, four - 11, no_options, 1, 1, buffer, sizeof buffer).size == four);
-    CHECK(wuraketozo_read(buffer, four, here, there, WURAKETOZO_PLAIN).verdict == WURAKETOZO_READ && buffer[four] == 0xee);
-    CHECK(wuraketozo_write_ipv6(here6, there6, 1, 2, long_payload, four - 11, no_options, 1, 2, buffer, sizeof buffer).size == four + 1);
-    CHECK(READ6(buffer, four + 1).verdict == WURAKETOZO_READ && buffer[four + 1] == 0xee);
-    CHECK(wuraketozo_write_ipv6(here6, there6, 1, 2, long_payload, six - 11, no_options, 1, 1, buffer, six).size == six);
-    CHECK(READ6(buffer, six).verdict == WURAKETOZO_READ && buffer[six] == 0xee);
-}
-
-/* Refusals 7 and 9 come over both versions alike; a sum of zero is sent as FFFF. */
-static void written_over_both(void)
-{
-    const uint8_t lists[][5] = {{0}, {1, 6, 0xac, 2}, {2, 2, 6, 0xac, 2}, {1, 6, 0x80, 0}, {1, 192}, {1, 3}, {33}};
-    const size_t lengths[] = {1, 4, 5, 4, 2, 2, 1};
-    for (size_t i = 0; i < sizeof lengths / sizeof lengths[0]; i++)
-        for (size_t user_length = 0; user_length < 20; user_length++)
-            says_the_same(crowded, user_length, lists[i], lengths[i], (uint8_t)user_length);
-    uint8_t user[2] = {0, 0}, payload[16];
-    CHECK(wuraketozo_write_ipv6(here6, there6, 4660, 53, user, 2, lists[0], 1, 0, payload, sizeof payload).size == 12);
-    memcpy(user, payload + 6, 2);
-    CHECK(wuraketozo_write_ipv6(here6, there6, 4660, 53, user, 2, lists[0], 1, 0, payload, sizeof payload).size == 12);
-    CHECK(payload[6] == 0xff && payload[7] == 0xff && READ6(payload, 12).verdict == WURAKETOZO_READ);
-}
-
-static int same_flow(wuraketozo_flow a, wuraketozo_flow b)
-{
-    return memcmp(&a, &b, sizeof a) == 0;
-}
-
-#define RECEIVE6(source, destination, payload) \
-    wuraketozo_receive_ipv6(records, 1, store, sizeof store, 0, 0, source, destination, WURAKETOZO_PLAIN, payload, sizeof(payload), out, \
-                            sizeof out)
-
-/* The flows that the helpers and the receive calls make. Equal digits under versions 4 and 6 are two flows. */
-static void flows_of_both(void)
-{
-    const wuraketozo_flow four = wuraketozo_flow_ipv4(here, there, 0x1234, 53), six = wuraketozo_flow_ipv6(here6, there6, 0x1234, 53);
-    const wuraketozo_flow digits = wuraketozo_flow_ipv6(here_digits, there_digits, 0x1234, 53);
-    wuraketozo_flow wide = four;
-    CHECK(four.version == 4 && six.version == 6 && digits.version == 6);
-    CHECK(four.source_port == 0x1234 && four.destination_port == 53 && six.source_port == 0x1234 && six.destination_port == 53);
-    CHECK(memcmp(&six.source, &here6, 16) == 0 && memcmp(&six.destination, &there6, 16) == 0);
-    wide.version = 6;
-    CHECK(same_flow(wide, digits) && !same_flow(four, digits));
-
-    uint8_t summed[sizeof piece];
-    memcpy(summed, piece6, sizeof summed);
-    put_udp_sum(summed, here_digits, there_digits);
-    start();
-    CHECK(RECEIVE(piece).answer.outcome == WURAKETOZO_STORED);
-    CHECK(RECEIVE6(here_digits, there_digits, summed).answer.outcome == WURAKETOZO_STORED);
-    CHECK(RECEIVE6(here6, there6, piece6).answer.outcome == WURAKETOZO_STORED);
-    CHECK(RECEIVE(piece).answer.outcome == WURAKETOZO_REPEATED);
-    CHECK(RECEIVE6(here_digits, there_digits, summed).answer.outcome == WURAKETOZO_REPEATED);
-    CHECK(RECEIVE6(here6, there6, piece6).answer.outcome == WURAKETOZO_REPEATED);
-    CHECK(same_flow(records[0].assemblies[0].flow, four) && same_flow(records[0].assemblies[1].flow, digits));
-    CHECK(same_flow(records[0].assemblies[2].flow, six) && records[0].assemblies[3].count == 0);
-    CHECK(wuraketozo_account(records, 1, store, sizeof store, 0).figures.held == 6);
-    /* what can't be read touches nothing */
-    memcpy(kept, records, sizeof records);
-    const wuraketozo_received refused = RECEIVE6(here6, there6, piece);
-    CHECK(same_received(refused, (wuraketozo_received){.what = WURAKETOZO_UNREAD, .reading = {.refusal = 10}}));
-    CHECK(RECEIVE6(there6, here6, none).reading.refusal == 10 && RECEIVE6(here6, here6, piece6).reading.refusal == 4);
-    CHECK(memcmp(kept, records, sizeof records) == 0);
-}
-
-/* The answer to two bytes with this flow, at the front of an original or as its end. */
-static wuraketozo_answer offered_with(wuraketozo_flow flow, uint32_t last)
-{
-    wuraketozo_fragment f = fragment(last ? 2 : 0, last);
-    f.flow = flow;
-    return wuraketozo_offer(records, 1, store, sizeof store, 0, f, (const uint8_t *)"ab", 2, out, sizeof out);
-}
-
-/* A flow is a key as it is handed in: with a version that is none, and with bytes behind an IPv4 address. Each byte of it counts. */
-static void keys_as_handed_in(void)
-{
-    const wuraketozo_flow four = wuraketozo_flow_ipv4(here, there, 4660, 53);
-    const uint32_t versions[] = {0, 5, 6, 7, 0x104, 0x10004, 0x4000000, UINT32_MAX};
-    for (size_t i = 0; i < sizeof versions / sizeof versions[0]; i++) {
-        wuraketozo_flow other = four;
-        other.version = versions[i];
-        start();
-        CHECK(offered_with(four, 0).outcome == WURAKETOZO_STORED && offered_with(other, 0).outcome == WURAKETOZO_STORED);
-        CHECK(offered_with(other, 0).outcome == WURAKETOZO_REPEATED && offered_with(four, 0).outcome == WURAKETOZO_REPEATED);
-        CHECK(records[0].assemblies[1].flow.version == versions[i]);
-        CHECK(offered_with(other, 1).outcome == WURAKETOZO_DELIVERED && offered_with(four, 1).outcome == WURAKETOZO_DELIVERED);
-    }
-    for (size_t i = 0; i < sizeof four; i++) {
-        wuraketozo_flow other = four;
-        ((uint8_t *)&other)[i] ^= 1;
-        start();
-        CHECK(offered_with(four, 0).outcome == WURAKETOZO_STORED && offered_with(other, 1).outcome == WURAKETOZO_STORED);
-        CHECK(offered_with(four, 1).outcome == WURAKETOZO_DELIVERED && offered_with(other, 0).outcome == WURAKETOZO_DELIVERED);
-        /* in a place that is not in use it has to be as in a fresh record */
-        ((uint8_t *)&records[0].assemblies[2].flow)[i] = 1;
-        CHECK(wuraketozo_account(records, 1, store, sizeof store, 0).refusal == 22);
-    }
 }
 
 /* ---- plans ---- */
@@ -661,12 +405,6 @@ static int all_refused(uint32_t refusal, size_t length)
         got = wuraketozo_receive(three, THREE, three_store, length, k, 9, here, there, WURAKETOZO_PLAIN, apc_right, sizeof apc_right,
                                  out, sizeof out);
         so &= got.what == WURAKETOZO_DATAGRAM && got.reading.refusal == 0;
-        got = wuraketozo_receive_ipv6(three, THREE, three_store, length, k, 9, here6, there6, WURAKETOZO_PLAIN, piece6, sizeof piece6, out,
-                                      sizeof out);
-        so &= got.what == WURAKETOZO_FRAGMENT && got.answer.refusal == refusal && got.answer.outcome == WURAKETOZO_REFUSED;
-        got = wuraketozo_receive_ipv6(three, THREE, three_store, length, k, 9, here6, there6, WURAKETOZO_PLAIN, piece, sizeof piece, out,
-                                      sizeof out);
-        so &= got.what == WURAKETOZO_UNREAD && got.reading.refusal == 10;
     }
     so &= memcmp(three_before, three, sizeof three) == 0 && memcmp(store_before, three_store, sizeof three_store) == 0;
     for (size_t i = 0; i < sizeof out; i++)
@@ -803,9 +541,6 @@ static void nothing_at_all(void)
     for (uint32_t strictness = WURAKETOZO_PLAIN; strictness <= WURAKETOZO_STRICT; strictness++) {
         CHECK(same_reading(wuraketozo_read(NULL, 0, here, there, strictness), wuraketozo_read(some, 0, here, there, strictness)));
         CHECK(wuraketozo_read(NULL, 0, here, there, strictness).refusal == 1);
-        CHECK(same_reading(wuraketozo_read_ipv6(NULL, 0, here6, there6, strictness),
-                           wuraketozo_read_ipv6(some, 0, here6, there6, strictness)));
-        CHECK(wuraketozo_read_ipv6(NULL, 0, here6, there6, strictness).refusal == 1);
         CHECK(same_rereading(wuraketozo_reread(NULL, 0, 0, strictness), wuraketozo_reread(some, 0, 0, strictness)));
         CHECK(wuraketozo_reread(NULL, 0, 0, strictness).refusal == 0);
         CHECK(wuraketozo_reread(NULL, 0, 0, strictness).verdict == WURAKETOZO_NONE);
@@ -845,15 +580,6 @@ static void nothing_at_all(void)
     CHECK(wuraketozo_write(here, there, 1, 2, NULL, 0, NULL, 0, 255, NULL, 0).refusal == 7);
     CHECK(memcmp(buffer, left, sizeof left) == 0);
 
-    CHECK(same_written(wuraketozo_write_ipv6(here6, there6, 1, 2, NULL, 0, list, 1, 0, buffer, sizeof buffer),
-                       wuraketozo_write_ipv6(here6, there6, 1, 2, some, 0, list, 1, 0, left, sizeof left)));
-    CHECK(memcmp(buffer, left, sizeof left) == 0);
-    CHECK(wuraketozo_write_ipv6(here6, there6, 1, 2, NULL, 0, list, 1, 0, buffer, sizeof buffer).size == 10);
-    CHECK(wuraketozo_write_ipv6(here6, there6, 1, 2, NULL, 0, NULL, 0, 0, buffer, sizeof buffer).refusal == 7);
-    CHECK(wuraketozo_write_ipv6(here6, there6, 1, 2, NULL, 0, list, 1, 0, NULL, 0).refusal == 8);
-    CHECK(wuraketozo_write_ipv6(here6, there6, 1, 2, NULL, 0, NULL, 0, 255, NULL, 0).refusal == 7);
-    CHECK(memcmp(buffer, left, sizeof left) == 0);
-
     /* the table: bit 0 of `way` leaves out the records, bit 1 the store, bit 2 what is read, bit 3 out */
     for (unsigned way = 0; way < 16; way++) {
         wuraketozo_client with_null[1], without[1];
@@ -871,10 +597,6 @@ static void nothing_at_all(void)
                           wuraketozo_offer(without, count, s2, size, 0, fragment(0, 0), b2, length, o2, room)));
         CHECK(same_received(wuraketozo_receive(r, count, s, size, 0, 0, here, there, WURAKETOZO_STRICT, b, length, o, room),
                             wuraketozo_receive(without, count, s2, size, 0, 0, here, there, WURAKETOZO_STRICT, b2, length, o2, room)));
-        const uint8_t *b6 = length ? piece6 : NULL, *b7 = length ? piece6 : &dummy;
-        CHECK(same_received(
-            wuraketozo_receive_ipv6(r, count, s, size, 0, 0, here6, there6, WURAKETOZO_STRICT, b6, length, o, room),
-            wuraketozo_receive_ipv6(without, count, s2, size, 0, 0, here6, there6, WURAKETOZO_STRICT, b7, length, o2, room)));
         CHECK(same_answer(wuraketozo_account(r, count, s, size, 0), wuraketozo_account(without, count, s2, size, 0)));
         CHECK(same_answer(wuraketozo_advance(r, count, s, size, 0, 9), wuraketozo_advance(without, count, s2, size, 0, 9)));
         CHECK(memcmp(with_null, without, sizeof without) == 0 && dummy == 0);
@@ -888,17 +610,11 @@ static void nothing_at_all(void)
 int main(void)
 {
     fill_crowded();
-    fill_piece6();
     verdicts_and_apc();
     fault_offsets();
     one_by_one();
     outcomes();
     limits();
-    refusals_over_ipv6();
-    payload_limits();
-    written_over_both();
-    flows_of_both();
-    keys_as_handed_in();
     records_with_plans();
     plans_refused();
     places_of_plans();

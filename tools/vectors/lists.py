@@ -1,10 +1,8 @@
 """lists.py: the lists of calls that rust/scripts runs, as its lists/calls.txt has them. tools/vectors/table.py predicts the answers."""
 import random
 import sys
-from ipaddress import ip_address
 from itertools import permutations
 
-from parts import EOL, FRAG, IPV4, IPV6, K, REQ, Packet, Part, n
 from reader import crc32c
 
 from table import CLIENTS, OFFERED as LIMIT, PIECES, PLACE as ORIGINAL, PLACES, share
@@ -15,8 +13,8 @@ SHARE = share(4)  # where nothing is said of plans they are of 4
 
 # The fields that `forge` can set.
 (TIME, OFFERED, HELD, DELIVERED, EXPIRED, CLASHED, REPEATED, TURNED, IDENTIFICATION, PORT, OPENED, COUNT, PLACE, LENGTH, R, LAST, SOURCE,
- DESTINATION, DESTINATION_PORT, PLAN, VERSION, SOURCE_BYTE, DESTINATION_BYTE) = range(23)
-FIELDS = 23
+ DESTINATION, DESTINATION_PORT, PLAN) = range(20)
+FIELDS = 20
 
 
 def say(text):
@@ -41,23 +39,15 @@ def end():
     say("end")
 
 
-def piece(k, time, key, place, length, r=None, other=0, flow=0, last=False, version=4, behind=0):
+def piece(k, time, key, place, length, r=None, other=0, flow=0, last=False):
     text = f"{'last' if last else 'piece'} {k} at {time} key {flow}/{key} place {place} length {length}"
-    wide = version != 4 or behind
-    if last or r is not None or other or wide:
+    if last or r is not None or other:
         text += f" r {place + length if r is None else r}"
-    if other or wide:
-        text += f" other {other}"
-    say(text + (f" version {version}" if wide else "") + (f" behind {behind}" if behind else ""))
+    say(text + (f" other {other}" if other else ""))
 
 
-def last(k, time, key, place, length, r=None, other=0, flow=0, **wide):
-    piece(k, time, key, place, length, r, other, flow, True, **wide)
-
-
-def receive(k, time, ends, payload, strictly=False):
-    source, destination = map(ip_address, ends)
-    say(f"receive {k} at {time}{' strictly' if strictly else ''} from {source} to {destination} bytes {payload.hex()}".rstrip())
+def last(k, time, key, place, length, r=None, other=0, flow=0):
+    piece(k, time, key, place, length, r, other, flow, True)
 
 
 def clock(k, time):
@@ -239,42 +229,24 @@ FORGED_FLOWS = [
     ("an unused place has a destination port", (DESTINATION_PORT, 65535, 2)),
     ("two equal keys, no part as it came", *((f, v, place) for place in (0, 1) for f, v in (
         (SOURCE, 7), (DESTINATION, 8), (PORT, 9), (DESTINATION_PORT, 10), (IDENTIFICATION, 11)))),
-    ("two keys of zeros", *((f, 0, place) for place in (0, 1) for f in (SOURCE, DESTINATION, IDENTIFICATION, VERSION))),
+    ("two keys of zeros", *((f, 0, place) for place in (0, 1) for f in (SOURCE, DESTINATION, IDENTIFICATION))),
 ]
 SOUND_FLOWS = [
     *((f"another source address, byte {i}", (IDENTIFICATION, 1, 1), (SOURCE, FROM ^ 1 << 24 - 8 * i, 1)) for i in range(4)),
     *((f"another destination address, byte {i}", (IDENTIFICATION, 1, 1), (DESTINATION, TO ^ 128 << 24 - 8 * i, 1)) for i in range(4)),
     ("another destination port", (IDENTIFICATION, 1, 1), (DESTINATION_PORT, 256, 1)),
     ("addresses exchanged", (IDENTIFICATION, 1, 1), (SOURCE, TO, 1), (DESTINATION, FROM, 1)),
-    ("a live place with a key of zeros", (IDENTIFICATION, 0, 1), (SOURCE, 0, 1), (DESTINATION, 0, 1), (VERSION, 0, 1)),
-]
-
-# The same of what a flow has more since IPv6: the version, and twelve bytes more in each address.
-FORGED_WIDE = [
-    *((f"an unused place has a version of {version}", (VERSION, version, 2)) for version in (1, 4, 6, 2**31)),
-    *((f"an unused place has byte {at} of a {words} address", (field, 1, 3, at))
-      for words, field in (("source", SOURCE_BYTE), ("destination", DESTINATION_BYTE)) for at in (4, 11, 15)),
-    ("place 7, past the plan and unused, has a version", (VERSION, 6, 7)),
-    ("place 7, past the plan and unused, has byte 15 of a source address", (SOURCE_BYTE, 128, 7, 15)),
-    ("two equal keys over IPv6", (IDENTIFICATION, 1, 1), *((f, v, place, 15) for place in (0, 1) for f, v in (
-        (VERSION, 6), (SOURCE_BYTE, 9), (DESTINATION_BYTE, 10)))),
-    ("two equal keys of version 7", (IDENTIFICATION, 1, 1), (VERSION, 7, 0), (VERSION, 7, 1)),
-]
-SOUND_WIDE = [
-    *((f"another version: {version}", (IDENTIFICATION, 1, 1), (VERSION, version, 1)) for version in (6, 0, 5, 7, 260, 2**16 + 4, 2**31 + 4)),
-    *((f"another {words} address, byte {at}", (IDENTIFICATION, 1, 1), (field, 1, 1, at))
-      for words, field in (("source", SOURCE_BYTE), ("destination", DESTINATION_BYTE)) for at in range(4, 16)),
-    ("bytes that change their address", (IDENTIFICATION, 1, 1), (SOURCE_BYTE, 1, 0, 15), (DESTINATION_BYTE, 1, 1, 15)),
+    ("a live place with a key of zeros", (IDENTIFICATION, 0, 1), (SOURCE, 0, 1), (DESTINATION, 0, 1)),
 ]
 
 # Counts whose lowest byte would pass.
 FORGED_COUNTS = [
     ("257 pieces", (COUNT, 257, 1)),
     (f"{256 + PIECES} pieces", (COUNT, 256 + PIECES, 1)),
-    ("2^16 + 1 pieces", (COUNT, 2**16 + 1, 1)),
-    ("2^32 - 1 pieces", (COUNT, 2**32 - 1, 0)),
+    ("2^32 + 1 pieces", (COUNT, 2**32 + 1, 1)),
+    ("2^64 - 1 pieces", (COUNT, MOST, 0)),
     ("an unused place counts 256", (COUNT, 256, 2)),
-    ("an unused place counts 2^24", (COUNT, 2**24, 3)),
+    ("an unused place counts 2^56", (COUNT, 2**56, 3)),
 ]
 
 
@@ -440,9 +412,9 @@ def forged_orders():
 
 
 MARKS = (2, 255, 65535)
-BROKEN = FORGED + FORGED_FLOWS + FORGED_WIDE + FORGED_COUNTS + FORGED_PLACES + [case for mark in MARKS for case in forged_marks(mark)] + FORGED_SUMS
+BROKEN = FORGED + FORGED_FLOWS + FORGED_COUNTS + FORGED_PLACES + [case for mark in MARKS for case in forged_marks(mark)] + FORGED_SUMS
 BROKEN += [case for case in ORDERED if not case[1]]
-PASSING = SOUND + SOUND_FLOWS + SOUND_WIDE + SOUND_PLACES + [case for mark in MARKS for case in sound_marks(mark)] + SOUND_SUMS
+PASSING = SOUND + SOUND_FLOWS + SOUND_PLACES + [case for mark in MARKS for case in sound_marks(mark)] + SOUND_SUMS
 PASSING += [case for case in ORDERED if case[1]]
 
 
@@ -1186,193 +1158,13 @@ def places_past_the_plan():
     end()
 
 
-# ---- document 02, R-5: flows and payloads of both versions
-
-# What a key has beside its flow's number: equal digits under two versions, a version that is none, and bytes behind an IPv4 address.
-WIDE = [{"version": 6}, {"version": 7}, {"behind": 1}, {"behind": 256}, {"behind": 1 << 16}, {"behind": 1 << 24}, {"version": 6, "behind": 1},
-        {"version": 0}, {"version": 260}, {"version": 2**31 + 4}]
-
-
-def flows():
-    """Two flows that differ in one part: each alone is delivered, a piece of one and the last of the other are not."""
-    begin("equal digits under versions 4 and 6")
-    piece(0, 0, 1, 0, 8, other=4)
-    last(0, 0, 1, 8, 4, other=6, version=6)
-    bill(0)
-    piece(0, 0, 1, 0, 8, other=6, version=6)
-    bill(0)
-    last(0, 0, 1, 8, 4, other=4)
-    bill(0)
-    end()
-    begin("equal digits under versions 4 and 6: repeats and clashes stay with their flow")
-    for version in (4, 6):
-        piece(0, 0, 1, 0, 8, version=version)
-    for version in (4, 6):
-        piece(0, 0, 1, 0, 8, version=version)
-    piece(0, 0, 1, 4, 8, version=6)
-    bill(0)
-    last(0, 0, 1, 8, 4)
-    piece(0, 0, 1, 0, 8, version=6)
-    clock(0, 120000)
-    bill(0)
-    end()
-    begin("a plan of 1: another version is another key", [1])
-    piece(0, 0, 1, 0, 8)
-    piece(0, 0, 1, 8, 8, version=6)
-    piece(0, 0, 1, 0, 8)
-    last(0, 0, 1, 8, 4)
-    piece(0, 0, 1, 8, 8, version=6)
-    last(0, 0, 1, 8, 4)
-    last(0, 0, 1, 16, 4, version=6)
-    piece(0, 0, 1, 0, 8, version=6)
-    bill(0)
-    end()
-    for first, second in [({}, wide) for wide in WIDE] + list(zip(WIDE, WIDE[1:])) + [({"behind": 1, "version": 6}, {"behind": 2, "version": 6})]:
-        begin(f"{named(first)} and {named(second)}")
-        piece(0, 0, 1, 0, 8, other=1, **first)
-        last(0, 0, 1, 8, 4, other=2, **second)
-        bill(0)
-        piece(0, 0, 1, 0, 8, other=2, **second)
-        last(0, 0, 1, 8, 4, other=1, **first)
-        bill(0)
-        end()
-    begin("all of these keys at once", [8, 8])
-    for k, wides in enumerate((WIDE[:8], WIDE[2:])):
-        for i, wide in enumerate(wides):
-            piece(k, 0, 1, 0, 8, other=i, **wide)
-        piece(k, 0, 1, 0, 8)
-        for i, wide in reversed([*enumerate(wides)]):
-            last(k, 1, 1, 8, 4, other=i, **wide)
-        bill(k)
-    end()
-    begin("22: forged versions and addresses of 16 bytes", 3)
-    tried(FORGED_WIDE + SOUND_WIDE)
-    end()
-    begin("a forged version or byte is the key")
-    for field, value, slot, wide in ((VERSION, 6, 0, {"version": 6}), (VERSION, 7, 0, {"version": 7}), (SOURCE_BYTE, 1, 15, {"behind": 1}),
-                                     (DESTINATION_BYTE, 1, 15, {"behind": 256}), (SOURCE_BYTE, 1, 4, {"behind": 1 << 16})):
-        say("set up")
-        piece(0, 0, 1, 0, 8)
-        forge(0, (field, value, 0, slot))
-        piece(0, 0, 1, 0, 8)
-        last(0, 0, 1, 8, 4, **wide)
-        last(0, 0, 1, 8, 4)
-        bill(0)
-    end()
-
-
-def named(wide):
-    return ", ".join(f"{name} {value}" for name, value in wide.items()) or "version 4"
-
-
-def part(ends, place, data, r=None, key=1, **more):
-    """The payload of a fragment; an r says that it is the last."""
-    start = 20 if r is None else 22
-    return Packet("", "", [FRAG(start, key, 8 + place, None if r is None else 8 + r), Part("", data)], ends=ends, **more).payload()
-
-
-def whole(ends, data, options=None, **more):
-    return Packet("", "", options, data, ends=ends, **more).payload()
-
-
-WIDENED = tuple(address + bytes(12) for address in IPV4)  # over IPv6, the digits that an IPv4 flow has
-
-
-def payloads():
-    begin("payloads of both versions, equal digits")
-    receive(0, 0, IPV4, part(IPV4, 0, b"over v4 "))
-    receive(0, 0, WIDENED, part(WIDENED, 8, b"end6", 12))
-    bill(0)
-    receive(0, 0, WIDENED, part(WIDENED, 0, b"over v6 "))
-    receive(0, 0, IPV4, part(IPV4, 8, b"end4", 12))
-    bill(0)
-    end()
-    begin("a datagram's flow is the key of a piece that is offered")
-    flow = 0x162E04D20701  # 192.0.2.1 to 198.51.100.7, ports 1234 and 5678
-    receive(0, 0, IPV4, part(IPV4, 0, b"over v4 "))
-    last(0, 0, 1, 8, 4, flow=flow)
-    receive(0, 0, WIDENED, part(WIDENED, 0, b"over v6 "))
-    last(0, 0, 1, 8, 4, flow=flow)
-    last(0, 0, 1, 8, 4, flow=flow, version=6)
-    bill(0)
-    end()
-    begin("payloads that are refused, and user data under every verdict")
-    for ends in (IPV4, IPV6):
-        receive(0, 5, ends, b"")
-        receive(0, 5, ends, whole(ends, b"AB")[:7])
-        receive(0, 5, ends, whole(ends, b"AB", size=7))
-        receive(0, 5, ends, whole(ends, b"AB", udp=0))
-        receive(0, 5, ends, whole(ends, b"AB", udp=0x1234))
-        receive(0, 5, ends, part(ends, 0, b"12345678", udp=0, ocs=0))
-        for data in (b"AB", b"ABC"):
-            receive(0, 5, ends, whole(ends, data))
-            receive(0, 5, ends, whole(ends, data, surplus=b"\0"))
-            receive(0, 5, ends, whole(ends, data, [REQ(300), EOL]))
-            receive(0, 5, ends, whole(ends, data, [REQ(300)], ocs=0))
-            receive(0, 5, ends, whole(ends, data, [REQ(300)], ocs=0x1234))
-            receive(0, 5, ends, whole(ends, data, [K(192)]))
-            receive(0, 5, ends, whole(ends, data, [EOL, K(9)]))
-        bill(0)
-    end()
-    begin("a flow that differs in the 16th byte of an address, or in a port")
-    others = [(IPV6, {}), ((IPV6[0][:15] + b"\0", IPV6[1]), {}), ((IPV6[0], IPV6[1][:15] + b"\3"), {}), (IPV6, {"ports": n(1234, 2) + n(5679, 2)})]
-    for i, (ends, more) in enumerate(others):
-        receive(0, i, ends, part(ends, 0, b"flow %d: " % i, **more))
-    receive(0, 9, IPV4, part(IPV4, 0, b"one more"))
-    for i, (ends, more) in reversed([*enumerate(others)]):
-        receive(0, 10, ends, part(ends, 8, b"last", 8, **more))
-    bill(0)
-    end()
-    begin("read strictly, as the call says")
-    for ends in (IPV4, IPV6):
-        padded = Packet("", "", [Part("", [1] * 8), FRAG(28, 1, 8), Part("", b"12345678")], ends=ends).payload()
-        receive(0, 0, ends, padded, True)
-        receive(0, 0, ends, padded)
-        receive(0, 0, ends, part(ends, 8, b"last", 12), True)
-    bill(0)
-    end()
-    mixed("several clients, pieces of both versions mixed", 3, random.Random(6), 24)
-    mixed("12 clients, pieces of both versions mixed", 12, random.Random(46), 40)
-
-
-def cut_up(rng, data):
-    """The pieces of an original: place and end."""
-    cuts = sorted({0, len(data), *(rng.randrange(1, len(data)) for _ in range(rng.randrange(4)))})
-    return list(zip(cuts, cuts[1:]))
-
-
-def mixed(title, clients, rng, originals):
-    """Originals over both versions, some with equal digits and identifications, their pieces in any order."""
-    begin(title, [8] * clients if clients < 4 else [rng.randrange(1, 9) for _ in range(clients)])
-    pieces = []
-    for i in range(originals):
-        ends, k, key = rng.choice((IPV4, WIDENED, IPV6)), rng.randrange(clients), rng.randrange(1, 4)
-        data = bytes(rng.randrange(256) for _ in range(rng.randrange(2, 40)))
-        pieces += [(k, ends, part(ends, start, data[start:past], len(data) // 2 if past == len(data) else None, key))
-                   for start, past in cut_up(rng, data)]
-        pieces.append((k, ends, whole(ends, data[:9], [REQ(i)])))
-    rng.shuffle(pieces)
-    for time, (k, ends, payload) in enumerate(pieces):
-        receive(k, 100 * time, ends, payload, rng.random() < 0.3)
-        if rng.random() < 0.1:
-            # The same bytes over the other version: the sum is the same where the digits are.
-            receive(k, 100 * time, {IPV4: WIDENED, WIDENED: IPV4, IPV6: IPV4}[ends], payload)
-        if rng.random() < 0.1:
-            receive(rng.randrange(clients), 100 * time, ends, payload[:-1] + bytes([payload[-1] ^ 1]))
-    for k in range(clients):
-        bill(k)
-    end()
-
-
 # ---- random lists
 
 class Calls:
-    """Random calls on a table of `records`; `crumbs`: many pieces of one byte and few keys; the first `fields` may be forged, of so many places;
-    `wides`: what keys may have beside the flow's number."""
+    """Random calls on a table of `records`; `crumbs`: many pieces of one byte and few keys; the first `fields` may be forged, of so many places."""
 
-    def __init__(self, rng, records, crumbs=False, fields=16, keys=5, places=4, wides=()):
+    def __init__(self, rng, records, crumbs=False, fields=16, keys=5, places=4):
         self.rng, self.records, self.crumbs, self.fields, self.keys, self.places = rng, records, crumbs, fields, keys, places
-        self.wides = wides
         self.time = dict.fromkeys(range(records + 1), 0)
 
     def fill(self):
@@ -1398,18 +1190,8 @@ class Calls:
         elif self.crumbs:
             place = self.rng.randrange(PIECES + 8)
             piece(k, when, self.rng.randrange(1, 3), place, 1, last=place > PIECES + 4 and self.rng.random() < 0.1)
-        elif self.wides and kind < 0.35:
-            self.payload(k, when)
         else:
             self.piece(k, when)
-
-    def payload(self, k, when):
-        """Now and then without a checksum, or with a wrong one."""
-        rng = self.rng
-        ends, key, place = rng.choice((IPV4, WIDENED, IPV6)), rng.randrange(1, self.keys + 1), 4 * rng.randrange(4)
-        data = bytes([key, place, 7, rng.random() < 0.04])
-        udp = rng.choice([0, 0x1234]) if rng.random() < 0.1 else "right"
-        receive(k, when, ends, part(ends, place, data, place + 4 if rng.random() < 0.35 else None, key, udp=udp), rng.random() < 0.5)
 
     def piece(self, k, when):
         rng = self.rng
@@ -1419,8 +1201,7 @@ class Calls:
             place += rng.choice([1, ORIGINAL - 6, ORIGINAL, MOST - 8])
         final = rng.random() < 0.35
         r = max(0, place + length - rng.choice([0, 0, 0, 1, 4, -1 if rng.random() < 0.3 else 0])) if final else None
-        key, other, flow = rng.randrange(1, self.keys + 1), int(rng.random() < 0.04), rng.choice([0, 0, 0, 0, 0, 1])
-        piece(k, when, key, place, length, r, other, flow, final, **(rng.choice(self.wides) if self.wides else {}))
+        piece(k, when, rng.randrange(1, self.keys + 1), place, length, r, int(rng.random() < 0.04), rng.choice([0, 0, 0, 0, 0, 1]), final)
 
     def forging(self):
         k = self.rng.randrange(self.records)
@@ -1443,15 +1224,13 @@ def random_table(rng, plans):
 
 
 def random_list(seed):
-    """A script of its own; from 200 on every field may be forged, the plan too. Odd ones have flows and payloads of several versions."""
+    """A script of its own; from 200 on every field may be forged, the plan too."""
     rng = random.Random(9868 + seed)
     del LINES[:]
     records = rng.choice([1, 2, 12])
     plans = random_plans(rng, records)
     begin(f"random {seed}", plans)
     calls = Calls(rng, records, rng.random() < 0.2, 16 if seed < 200 else FIELDS, rng.choice([3, 5, 10]), PLACES)
-    if seed % 2:
-        calls.wides = [{}, {}, {"version": 6}, {"version": 6, "behind": 1}, *rng.sample(WIDE, 2)]
     if rng.random() < 0.2:
         calls.time = {k: MOST - rng.randrange(400000) for k in calls.time}
     if rng.random() < 0.1:
@@ -1498,8 +1277,6 @@ def stored():
     completions()
     long_reports()
     plans()
-    flows()
-    payloads()
     return "\n".join(LINES) + "\n"
 
 

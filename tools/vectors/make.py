@@ -5,14 +5,13 @@ make.py script     packets, originals and walks as a script, rust/scripts/lists/
 make.py readings   what has to come of it, rust/scripts/lists/readings.expected
 """
 import sys
-from ipaddress import ip_address
 
 import reader
 from numbers_expected import TABLES, number_lines
-from parts import IPV4, Changes, Packet, Walk, stand
+from parts import Packet, Walk, stand
 from vectors import GROUPS
 
-ORDER = ["refusals", "verdicts", "lengths", "lists", "fragments", "large", "rereads", "walks", "ipv6", "outside"]
+ORDER = ["refusals", "verdicts", "lengths", "lists", "fragments", "large", "rereads", "walks"]
 TITLES = {
     "refusals": "Packets that are refused, and document 01's figures.",
     "verdicts": "Packets whose verdict the start of the area decides: pad and option checksum.",
@@ -22,18 +21,13 @@ TITLES = {
     "large": "Packets too long to spell out: the bytes given, then one byte over and over.",
     "rereads": "Reassembled originals.",
     "walks": "Options one by one, in ranges that no reader gave.",
-    "ipv6": "Packets over IPv6.",
-    "outside": "Datagrams from outside.",
 }
 FIGURES = {
     "figure-1": "f8c506060000012c", "figure-2": "00f8c406060000012c", "figure-3": "fffd", "figure-4": "ffff06060000f9f1",
     "figure-6": "01fffd",
 }
 # Fields that have to come out as the vector's name says.
-FIELDS = {
-    "checksum-ffff": (6, 0xFFFF), "ocs-ffff-odd": (10, 0xFFFF), "figure-4": (8, 0xFFFF), "ipv6-checksum-ffff-even": (6, 0xFFFF),
-    "ipv6-checksum-ffff-odd": (6, 0xFFFF), "kernel-ffff": (6, 0xFFFF),
-}
+FIELDS = {"checksum-ffff": (6, 0xFFFF), "ocs-ffff-odd": (10, 0xFFFF), "figure-4": (8, 0xFFFF)}
 # Where the options of a list stand: kinds and offsets.
 OPTIONS = {
     "figure-1": "6 at 10", "figure-2": "6 at 12", "figure-3": "nothing", "figure-7": "nothing",
@@ -86,6 +80,10 @@ def remark(v):
     return ". ".join(t for t in (text, v.note.rstrip(".")) if t)
 
 
+def dotted(address):
+    return ".".join(map(str, address))
+
+
 def script_line(v):
     parts = "".join(" " + p.data.hex() for p in v.parts if p.data)
     fill = " then %02x up to %d" % v.fill if v.fill else ""
@@ -93,8 +91,8 @@ def script_line(v):
         return f"walk {v.name} verdict {v.verdict} rest {v.rest[0]} {v.rest[1]} bytes{parts}{fill}"
     if not isinstance(v, Packet):
         return f"original {v.name} r {v.r} bytes{parts}{fill}"
-    between = " from %s to %s" % tuple(map(ip_address, v.addresses)) if v.addresses != IPV4 else ""
-    return f"{'changes' if isinstance(v, Changes) else 'packet'} {v.name}{between} bytes{parts}{fill}"
+    between = f" from {dotted(v.addresses[0])} to {dotted(v.addresses[1])}" if v.addresses else ""
+    return f"packet {v.name}{between} bytes{parts}{fill}"
 
 
 def script():

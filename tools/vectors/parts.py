@@ -1,13 +1,8 @@
 """Options and packets as labelled parts, with checksums worked out by reader.py."""
-from collections import Counter
-from ipaddress import ip_address
-
 import reader
 
 SOURCE = bytes([192, 0, 2, 1])
 DESTINATION = bytes([198, 51, 100, 7])
-IPV4 = (SOURCE, DESTINATION)
-IPV6 = tuple(ip_address(text).packed for text in ("2001:db8:0:17::c0a8", "2001:db8:ff00:9::2"))
 PORTS = bytes.fromhex("04d2162e")
 
 
@@ -75,13 +70,12 @@ def wanted(plain, strict):
 
 
 class Packet:
-    """`udp` and `ocs` are "right" or the field's value; `size` is L where it is not that of the data. `ends` are the addresses that the
-    checksum is for, `addresses` those that it is read with, where they are others. `want` is what plain reading gives, `strict` what strict
-    reading gives where that is something else."""
+    """`udp` and `ocs` are "right" or the field's value; `size` is L where it is not that of the data. `want` is what plain reading gives,
+    `strict` what strict reading gives where that is something else."""
 
     def __init__(self, name, want, options=None, data=b"", udp="right", ocs="right", pad=0, size=None, surplus=None,
-                 note="", fill=None, addresses=None, whole=None, strict=None, ends=IPV4, ports=PORTS):
-        self.name, self.want, self.note, self.addresses = name, wanted(want, strict), note, addresses or ends
+                 note="", fill=None, addresses=None, whole=None, strict=None):
+        self.name, self.want, self.note, self.addresses = name, wanted(want, strict), note, addresses
         self.fill = fill
         if whole is not None:
             self.parts = [Part("", whole)]
@@ -102,8 +96,8 @@ class Packet:
         if fill and size is not None and size > 8 + len(data):
             byte, total = fill
             body = body + bytes([byte]) * (size - 8 - len(body))
-        head = ports + n(length, 2)
-        right = reader.sent(reader.words(reader.pseudo(*ends, length) + head + b"\0\0" + body))
+        head = PORTS + n(length, 2)
+        right = reader.sent(reader.words(reader.pseudo(SOURCE, DESTINATION, length) + head + b"\0\0" + body))
         field = right if udp == "right" else udp
         label = f"L {length}, checksum {field:04x}"
         if field not in (right, 0):
@@ -121,7 +115,8 @@ class Packet:
         return b
 
     def answer(self, setting):
-        return reader.read(self.payload(), *self.addresses, setting == "strict")
+        source, destination = self.addresses or (SOURCE, DESTINATION)
+        return reader.read(self.payload(), source, destination, setting == "strict")
 
     ways = SETTINGS
 
@@ -130,27 +125,6 @@ class Packet:
 
     def line(self, setting):
         return reader.line(f"{self.name} {setting}", self.answer(setting))
-
-
-class Changes(Packet):
-    """All that differs from a packet in one byte, an address or the payload: how often each answer comes."""
-
-    def answers(self, setting):
-        whole = b"".join(self.addresses) + self.payload()
-        size, counts = len(self.addresses[0]), Counter()
-        for at in range(len(whole)):
-            for value in range(256):
-                if value != whole[at]:
-                    b = whole[:at] + bytes([value]) + whole[at + 1:]
-                    answer = reader.read(b[2 * size:], b[:size], b[size:2 * size], setting == "strict")
-                    counts[f"refused {answer}" if isinstance(answer, int) else answer[1]] += 1
-        return counts
-
-    def brief(self, setting):
-        return "all refused" if all(word.startswith("refused") for word in self.answers(setting)) else "some read"
-
-    def line(self, setting):
-        return f"{self.name} {setting}" + "".join(f" {word}: {count}" for word, count in sorted(self.answers(setting).items()))
 
 
 class Original:

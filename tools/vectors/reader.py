@@ -1,7 +1,5 @@
-"""A reader of UDP payloads with RFC 9868 options, written from document 01, R-2 and R-5 to R-7 of document 02 and the RFCs alone. Addresses
-are 4 bytes or 16, which says the IP version."""
+"""A reader of UDP payloads with RFC 9868 options, written from document 01, R-2, R-6 and R-7 of document 02 and the RFC alone."""
 
-LARGEST = {4: 65515, 16: 65535}  # of a payload, by the bytes of an address
 FIXED = {2: (6,), 3: (10, 12), 4: (4,), 5: (5,), 6: (6,), 7: (6,), 8: (10,)}
 
 
@@ -26,10 +24,7 @@ def sent(total):
 
 
 def pseudo(source, destination, length):
-    """The pseudo-header of RFC 768, or that of RFC 8200, section 8.1: there the length has four bytes, and 17 comes last, behind three zeros."""
-    if len(source) == 4:
-        return source + destination + bytes([0, 17]) + length.to_bytes(2, "big")
-    return source + destination + length.to_bytes(4, "big") + bytes([0, 0, 0, 17])
+    return source + destination + bytes([0, 17]) + length.to_bytes(2, "big")
 
 
 def crc32c(data):
@@ -190,14 +185,12 @@ def read(b, source, destination, strict=False):
     """A refusal's number, or ((from, to), verdict, the rest)."""
     if len(b) < 8:
         return 1
-    if len(b) > LARGEST[len(source)]:
+    if len(b) > 65515:
         return 2
     size = b[4] << 8 | b[5]
     if size < 8 or size > len(b):
         return 3
     udp = b[6] << 8 | b[7]
-    if udp == 0 and len(source) == 16:
-        return 10
     if udp and fold(words(pseudo(source, destination, size) + b[:size])) != 0xFFFF:
         return 4
     verdict, rest = area(b, size, 0, udp == 0, True, b[8:size], strict)

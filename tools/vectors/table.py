@@ -1,4 +1,4 @@
-"""A table in plain Python, from document 01 with R-4, R-5 and R-8 of document 02 alone, beside the plain book of each client.
+"""A table in plain Python, from document 01 with R-4 and R-8 of document 02 alone, beside the plain book of each client.
 
     table.py calls             what has to come of rust/scripts/lists/calls.txt, its calls.expected
     table.py count             how often each answer stands in that
@@ -10,9 +10,8 @@ import subprocess
 import sys
 from collections import Counter
 from functools import lru_cache
-from ipaddress import ip_address
 
-from reader import crc32c, line as told, read
+from reader import crc32c
 
 HERE = os.path.dirname(os.path.abspath(__file__))
 ROOT = os.path.join(HERE, "..", "..")
@@ -20,7 +19,7 @@ PLACE, PLACES, PIECES = 8192, 8, 64  # as many places as the largest plan has
 CLIENTS, LIFETIME, OFFERED = 12, 120000, 10**15
 RECORDS, STORE = CLIENTS + 1, (CLIENTS + 1) * PLACES * PLACE + 1
 UNTOUCHED, BLANK = 0x5A, 0xA5
-NOWHERE = (bytes(16), bytes(16), 0, 0, 0)  # addresses, ports and the IP version
+NOWHERE = ((0, 0, 0, 0), (0, 0, 0, 0), 0, 0)  # addresses and ports
 FIGURES = ("held", "delivered", "expired", "clashed", "repeated", "turned")
 
 
@@ -330,28 +329,6 @@ def pattern(place, length, seed):
     return bytes((at * 7 + at // 256 * 13 + seed) % 256 for at in ((place + i) % 65536 for i in range(length)))
 
 
-def with_bytes(flow, end, at, data):
-    """A flow with some bytes of one of its addresses changed."""
-    return *flow[:end], flow[end][:at] + data + flow[end][at + len(data):], *flow[end + 1:]
-
-
-def numbered(number, version, behind):
-    """The flow of a line: addresses of four bytes and then zeros, but for the 16th and the fifth byte of each."""
-    flow = NOWHERE[:2] + (number // 2**16 % 2**16, number // 2**32 % 2**16, version % 2**32)
-    for end, first, low in ((0, (192, 0, 2), number), (1, (198, 51, 100), number // 256)):
-        flow = with_bytes(flow, end, 0, bytes([*first, low % 256]))
-        flow = with_bytes(flow, end, 15, bytes([behind >> 8 * end & 255]))
-        flow = with_bytes(flow, end, 4, bytes([behind >> 16 + 8 * end & 255]))
-    return flow
-
-
-def flow_of(source, destination, payload):
-    """The flow of a datagram: an IPv4 address is its four bytes and then twelve zeros."""
-    ends = tuple(address + bytes(16 - len(address)) for address in (source, destination))
-    ports = tuple(int.from_bytes(payload[at:at + 2], "big") for at in (0, 2))
-    return *ends, *ports, 4 if len(source) == 4 else 6
-
-
 def forge(record, field, place, slot, value):
     a = record.assemblies[place % PLACES]
     p = a.slots[slot % PIECES]
@@ -363,15 +340,14 @@ def forge(record, field, place, slot, value):
         record.offered = value
     elif field < 8:
         record.figures[FIGURES[field - 2]] = value
-    elif field in (9, 18, 20):
-        at, width = {9: (2, 16), 18: (3, 16), 20: (4, 32)}[field]
-        a.flow = a.flow[:at] + (value % 2**width,) + a.flow[at + 1:]
+    elif field in (9, 18):
+        at = {9: 2, 18: 3}[field]
+        a.flow = a.flow[:at] + (value % 2**16,) + a.flow[at + 1:]
     elif field in (16, 17):
-        a.flow = with_bytes(a.flow, field - 16, 0, (value % 2**32).to_bytes(4, "big"))
-    elif field in (21, 22):
-        a.flow = with_bytes(a.flow, field - 21, slot % 16, bytes([value % 256]))
+        at = field - 16
+        a.flow = a.flow[:at] + (tuple((value % 2**32).to_bytes(4, "big")),) + a.flow[at + 1:]
     elif field in (8, 10, 11):
-        setattr(a, {8: "identification", 10: "opened", 11: "count"}[field], value % {8: 2**32, 10: 2**64, 11: 2**32}[field])
+        setattr(a, {8: "identification", 10: "opened", 11: "count"}[field], value % {8: 2**32, 10: 2**64, 11: 2**64}[field])
     else:
         setattr(p, ("place", "length", "r", "last")[field - 12], value % 2**16)
 
@@ -432,37 +408,18 @@ class Run:
         elif word == "b":
             return self.both(self.booked(lent, k), lambda: table.bill(lent, k), lambda b: b.bill())
         elif word in ("p", "l"):
-            flow = numbered(n[2], numbers[8] if len(numbers) > 8 else 4, numbers[9] if len(numbers) > 9 else 0)
+            p = Piece()
+            p.place, p.length, p.r, p.last = n[4], n[5], n[6] if word == "l" else 0, int(word == "l")
+            flow = ((192, 0, 2, n[2] % 256), (198, 51, 100, n[2] // 256 % 256), n[2] // 2**16 % 2**16, n[2] // 2**32 % 2**16)
+            key = flow, n[3] % 2**32
             data = pattern(n[4], n[5], (n[3] % 65536 * 31 + n[7] % 65536 * 101) % 256)
-            return self.piece(k, n[1], (flow, n[3] % 2**32), n[4], data, n[6] if word == "l" else None)
-        elif word == "r":
-            return self.receive(line.split())
+            said = self.both(self.booked(lent, k), lambda: table.piece(lent, k, n[1], key, p, data, self.room),
+                             lambda b: b.piece(n[1], key, p, data, self.room))
+            if isinstance(said, str):
+                return said
+            answer, out = said
+            return ": " + answer + (" out %08x" % crc(out + bytes([BLANK]) * (self.room - len(out))) if out else "")
         return ""
-
-    def piece(self, k, time, key, place, data, r):
-        """An `r` of None says that it is not the last."""
-        lent, p = self.lent(), Piece()
-        p.place, p.length, p.r, p.last = place, len(data), r or 0, int(r is not None)
-        said = self.both(self.booked(lent, k), lambda: self.table.piece(lent, k, time, key, p, data, self.room),
-                         lambda b: b.piece(time, key, p, data, self.room))
-        if isinstance(said, str):
-            return said
-        answer, out = said
-        return ": " + answer + (" out %08x" % crc(out + bytes([BLANK]) * (self.room - len(out))) if out else "")
-
-    def receive(self, words):
-        """A payload: it is read, and offered with its own flow if it is a piece."""
-        strict = "strictly" in words
-        k, time, start = int(words[1]), int(words[3]), words.index("from")
-        ends = tuple(ip_address(words[at]).packed for at in (start + 1, start + 3))
-        payload = bytes.fromhex("".join(words[words.index("bytes") + 1:]))
-        answer = read(payload, *ends, strict)
-        if isinstance(answer, int):
-            return f": unread {answer}"
-        p = answer[2]["piece"]
-        if not p:
-            return told(": datagram", answer)
-        return self.piece(k, time, (flow_of(*ends, payload), p["id"]), p["place"], payload[p["start"]:p["end"]], p["options"] if p["last"] else None)
 
     def both(self, book, ask, say):
         try:
@@ -508,7 +465,7 @@ def held_to_titles(text):
 def count(text):
     answers = Counter()
     for line in text.split("\n"):
-        said = line.rsplit(": ", 1)[1] if ": " in line and not line.startswith("--") else ""
+        said = line.split(": ")[1] if ": " in line and not line.startswith("--") else ""
         word = "refused " + said.split()[1] if said.startswith("refused") else said.split(" ")[0]
         answers["figures" if word.isdigit() else word] += bool(said)
     return answers

@@ -1,4 +1,4 @@
-"""A writer in plain Python, from document 01 and R-5 of document 02 alone.
+"""A writer in plain Python, from document 01 alone.
 
     writer.py example   what the program `program_roundtrip` has to print
     writer.py script    cases as a script, rust/scripts/lists/writings.txt
@@ -6,19 +6,16 @@
 """
 import os
 import sys
-from functools import lru_cache
-from ipaddress import ip_address
 
-from outside import datagrams
-from parts import IPV4, IPV6
-from reader import LARGEST, crc32c, decode, encode, header, line, pseudo, read, sent, words
+from reader import crc32c, decode, encode, header, pseudo, read, sent, words
 
 sys.path.insert(0, os.path.join(os.path.dirname(os.path.abspath(__file__)), "..", "samples"))
 from make_samples import expected  # the second reader, for the text of a report
 
+SOURCE, DESTINATION = bytes([192, 0, 2, 1]), bytes([198, 51, 100, 7])
 PORTS = (4660, 53)
 WIDTHS = {2: (), 4: (2,), 5: (2, 1), 6: (4,), 7: (4,), 8: (4, 4)}
-LARGEST_BODY = 65531
+LARGEST, LARGEST_BODY = 65515, 65531
 
 
 class Refused(Exception):
@@ -64,15 +61,16 @@ def options(docket, data):
     return out
 
 
-def write(data, docket, fill, room, ends=IPV4, ports=PORTS):
+def write(data, docket, fill, room):
     """The payload, or Refused."""
     tail = options(docket, data) + bytes(fill)
     size = 8 + len(data)
     odd = size % 2
-    if size + odd + 2 + len(tail) > min(room, LARGEST[len(ends[0])]):
+    if size + odd + 2 + len(tail) > min(room, LARGEST):
         raise Refused(8)
-    head = b"".join(port.to_bytes(2, "big") for port in ports) + size.to_bytes(2, "big")
-    checksum = sent(words(pseudo(*ends, size) + head + data))
+    ports = b"".join(port.to_bytes(2, "big") for port in PORTS)
+    head = ports + size.to_bytes(2, "big")
+    checksum = sent(words(pseudo(SOURCE, DESTINATION, size) + head + data))
     blank = bytes(odd + 2) + tail
     ocs = sent(len(blank) + words(blank, bool(odd)))
     return head + checksum.to_bytes(2, "big") + data + bytes(odd) + ocs.to_bytes(2, "big") + tail
@@ -100,9 +98,9 @@ def docket(payload, at, end):
 
 def example():
     payload = write(b"level 412 cm", bytes([3, 2, 6, 0xAC, 2, 9, 2, 0xCA, 0xFE]), 1, 128)
-    _, _, rest = read(payload, *IPV4)
+    _, _, rest = read(payload, SOURCE, DESTINATION)
     again = f"listed {docket(payload, *rest['list']).hex()}\nfill {rest['fill']}\n"
-    return "written " + payload.hex() + "\n" + expected(b"".join(IPV4) + payload) + again
+    return "written " + payload.hex() + "\n" + expected(SOURCE + DESTINATION + payload) + again
 
 
 # ---- cases: name, data, docket, fill, room. Long ones are data of one byte a5, and a docket's front and then c0.
@@ -193,76 +191,18 @@ LARGE = [
 ]
 
 
-# ---- document 02, R-5: over both versions, and what is written is read back. Name, data, docket, fill, room, addresses, ports.
-
-def to_ffff(rest):
-    """A word in front of these bytes that brings the sum over IPv6 to ffff."""
-    size = 10 + len(rest)
-    total = words(pseudo(*IPV6, size) + b"".join(port.to_bytes(2, "big") for port in PORTS) + size.to_bytes(2, "big") + rest)
-    return (sent(total) % 0xFFFF).to_bytes(2, "big") + rest
-
-
-VERSIONS = (("ipv4", IPV4), ("ipv6", IPV6))
-BACK = [
-    *((f"{way}-{name}", data, docket, fill, room, ends, PORTS) for way, ends in VERSIONS for name, data, docket, fill, room in (
-        ("no-data", b"", REQ, 0, ROOM),
-        ("one-byte", b"A", REQ, 0, ROOM),
-        ("no-option", b"AB", listed(0), 0, ROOM),
-        ("no-option-odd", b"ABC", listed(0), 0, ROOM),
-        ("every-kind", b"AB", ALL, 0, ROOM),
-        ("every-kind-odd", b"ABC", ALL, 3, ROOM),
-        ("fill-255", b"A", REQ, 255, ROOM),
-        ("room-16", b"", REQ, 0, 16),
-        ("room-15", b"", REQ, 0, 15),
-        ("left-over", b"", REQ + b"\0", 0, ROOM),
-        ("kind-3", b"", listed(1, 3), 0, ROOM),
-        ("7-before-8", b"", REQ + b"\0", 0, 0),
-        ("9-before-8", b"", listed(1, 3), 0, 0))),
-    ("ipv6-checksum-0-even", to_ffff(b""), listed(0), 0, ROOM, IPV6, PORTS),
-    ("ipv6-checksum-0-odd", to_ffff(b"A"), REQ, 2, ROOM, IPV6, PORTS),
-    ("ipv6-option-checksum-0", b"", listed(1, 6, 63985), 0, ROOM, IPV6, PORTS),
-    *((f"loopback-{len(data)}", data, listed(1, 2), 0, ROOM, (bytes(15) + b"\1",) * 2, (65535, 0)) for data in (b"", b"A", b"123456789")),
-    ("all-ones", b"\xff" * 9, listed(1, 2), 0, ROOM, (b"\xff" * 16,) * 2, (65535, 65535)),
-]
-# Name, size of the data, the docket's front, the docket's size, fill, room: over both versions, at both limits.
-BACK_LARGE = [
-    *((f"{way}-{name}", *more, ends) for limit in LARGEST.values() for way, ends in VERSIONS for name, *more in (
-        (f"data-even-{limit}", limit - 11, listed(0), 1, 1, ROOM),
-        (f"data-even-{limit}-exact", limit - 11, listed(0), 1, 1, limit),
-        (f"data-even-{limit}-short", limit - 11, listed(0), 1, 1, limit - 1),
-        (f"data-even-{limit}-one-more", limit - 11, listed(0), 1, 2, ROOM),
-        (f"data-odd-{limit}", limit - 12, listed(0), 1, 1, ROOM),
-        (f"data-odd-{limit}-one-more", limit - 12, listed(0), 1, 2, ROOM),
-        (f"data-odd-{limit}-too-long", limit - 10, listed(0), 1, 0, ROOM),
-        (f"body-{limit}", 0, listed(1, 9, limit - 14), 5 + limit - 14, 0, ROOM),
-        (f"body-{limit}-one-more", 0, listed(1, 9, limit - 13), 5 + limit - 13, 0, ROOM))),
-    *((f"{way}-data-{size}", size, listed(0), 1, 0, 70000, ends) for way, ends in VERSIONS for size in (65525, 65527, 65528, 65536)),
-]
-# From outside: the header, the checksum and the data are the kernel's, and the area of an empty docket follows.
-KERNEL = []
-for outside, ends, datagram in datagrams():
-    ports = tuple(int.from_bytes(datagram[at:at + 2], "big") for at in (0, 2))
-    KERNEL.append((outside, datagram[8:], listed(0), 0, ROOM, ends, ports))
-    assert write(*KERNEL[-1][1:]) == datagram + (b"\0\xff\xfc" if len(datagram) % 2 else b"\xff\xfd"), outside
-
-
-crc = lru_cache(None)(crc32c)  # many buffers are untouched
-
-
-def case(name, data, docket, fill, room, ends=IPV4, ports=PORTS, back=False):
-    """The answer, and the CRC32c of the whole buffer lent; a short payload in hexadecimal; what is read back."""
-    again = ""
+def case(name, data, docket, fill, room):
+    """The answer, and the CRC32c of the whole buffer lent; a short payload in hexadecimal."""
     try:
-        payload = write(data, docket, fill, room, ends, ports)
-        assert read(payload, *ends) == read(payload, *ends, strict=True)
-        again = line(f"{name} back", read(payload, *ends)) + "\n" if back else ""
+        payload = write(data, docket, fill, room)
+        assert read(payload, SOURCE, DESTINATION) == read(payload, SOURCE, DESTINATION, strict=True)
         answer = f"length {len(payload)}"
     except Refused as refused:
         payload = b""
         answer = f"refused {refused}"
     buffer = payload + bytes([UNTOUCHED]) * (room - len(payload))
     shown = " payload " + payload.hex() if 0 < len(payload) <= 96 else ""
-    return f"{name} {answer} buffer {crc(buffer):08x}{shown}\n{again}"
+    return f"{name} {answer} buffer {crc32c(buffer):08x}{shown}\n"
 
 
 def long(size, front, total):
@@ -273,10 +213,6 @@ def cases():
     lines = [case(*c) for c in SMALL]
     for name, size, front, total, fill, room in LARGE:
         lines.append(case(name, *long(size, front, total), fill, room))
-    lines += [case(*c, back=True) for c in BACK]
-    for name, size, front, total, fill, room, ends in BACK_LARGE:
-        lines.append(case(name, *long(size, front, total), fill, room, ends, back=True))
-    lines += [case(*c, back=True) for c in KERNEL]
     return "".join(lines)
 
 
@@ -285,30 +221,12 @@ def spelled(data, then=None, total=0):
     return (" " + data.hex() if data else "") + (f" then {then} up to {total}" if total > len(data) else "")
 
 
-def between(ends, ports=PORTS):
-    """Addresses and ports, where they are others than those of every case before."""
-    addresses = " from %s to %s" % tuple(map(ip_address, ends)) if ends != IPV4 else ""
-    return addresses + (" ports %d %d" % ports if ports != PORTS else "")
-
-
-def read_back(case):
-    name, data, docket, fill, room, ends, ports = case
-    return f"write {name}{between(ends, ports)} data{spelled(data)} list{spelled(docket)} fill {fill} room {room} back"
-
-
 def script():
     lines = ["-- Made by tools/vectors/writer.py"]
     for name, data, docket, fill, room in SMALL:
         lines.append(f"write {name} data{spelled(data)} list{spelled(docket)} fill {fill} room {room}")
     for name, size, front, total, fill, room in LARGE:
         lines.append(f"write {name} data{spelled(b'', 'a5', size)} list{spelled(front, 'c0', total)} fill {fill} room {room}")
-    lines.append("-- Over both versions, and read back")
-    lines += map(read_back, BACK)
-    for name, size, front, total, fill, room, ends in BACK_LARGE:
-        data, docket = spelled(b"", "a5", size), spelled(front, "c0", total)
-        lines.append(f"write {name}{between(ends)} data{data} list{docket} fill {fill} room {room} back")
-    lines.append("-- From outside, as in readings.txt")
-    lines += map(read_back, KERNEL)
     return "\n".join(lines) + "\n"
 
 

@@ -17,7 +17,7 @@ use Rattle.wire_options.specs.Walk.{option_limit, walk_from}
 use Rattle.wire_area.specs.Area.{area_of}
 use Rattle.wire_surplus.specs.Surplus.{start_of}
 use Rattle.wire_datagram.specs.Reading.{accepted, reading}
-use Rattle.wire_addresses.specs.Addresses.{payload_limit, padded}
+use Rattle.wire_reading.specs.Reading.{payload_limit}
 use Rattle.list_entry.specs.Shape.{shape_of}
 use Rattle.list_entry.specs.Option.{read_number, read_fields, read_body, read_kind, read_option}
 use Rattle.list_encoding.specs.Encoding.{read_options, decoded_list}
@@ -121,7 +121,7 @@ on-book es keeps =
     (demand-3.answers table es (terms es keeps) 0 ∙ ap (λ (l : Lent). owes 0 l (since 0 l) (opening es)) sizes)
 
 book : Unit {0}
-unfolding padded lent owed count_off plan_off plans_off store_off table_tests no_client lent_tests answered keeping book_of owes offer_of first_of empty size end_of total held_bytes held same_key of mine
+unfolding lent owed count_off plan_off plans_off store_off table_tests no_client lent_tests answered keeping book_of owes offer_of first_of empty size end_of total held_bytes held same_key of mine
     keep others opened_at keys due outdated advance repeats overlap contradicts within complete last_one byte_at bytes_to rejecting conflicting
     storing taking no_room is_repeat is_conflict is_full fate entry offer_tests clock_tests figures same_flow same_bytes any sum datagram_limit
     fragment_limit assembly_limit lifetime offered_limit share_size client_limit stated

@@ -2,7 +2,6 @@
 -- and what the paper says.
 use Rattle.std.specs.Prelude.{ℕ, Bool, true, false, List, [], ◌∷◌, map, take, drop, replicate}
 use Rattle.number_varint.specs.SevenBit.{encoded}
-use Rattle.wire_addresses.specs.Addresses.{padded, ipv4}
 use Rattle.wire_nops.specs.declared.Strictness.TheVariants.{Plain}
 use Rattle.wire_surplus.specs.Surplus.{ocs_of}
 use Rattle.wire_datagram.specs.Reading as Reading
@@ -57,7 +56,7 @@ shown show buffer (Encoding.refused number) = refusal number
 -- a datagram with this user data and encoded option list, fill 0, is written into a buffer of 32 bytes
 abbrev pub wrote : (List ℕ → Line) → (user list : List ℕ) → Line
 wrote show user list =
-    let outcome = written (datagram_for (ipv4 source destination) 4660 53 user 0) list (replicate 32 255) in
+    let outcome = written (datagram_for source destination 4660 53 user 0) list (replicate 32 255) in
     shown show outcome.buffer outcome.answer
 
 -- ---- the reader
@@ -68,7 +67,7 @@ judged (Reading.reads r) = verdict r.verdict
 
 -- a payload with this UDP length and no UDP checksum is read: ports, length, checksum, and what stands behind the header
 abbrev pub read : ℕ → List ℕ → Line
-read size behind = judged (reading Plain (0x12 ∷ 0x34 ∷ 0x00 ∷ 0x35 ∷ 0x00 ∷ size ∷ 0x00 ∷ 0x00 ∷ behind) (ipv4 source destination))
+read size behind = judged (reading Plain (0x12 ∷ 0x34 ∷ 0x00 ∷ 0x35 ∷ 0x00 ∷ size ∷ 0x00 ∷ 0x00 ∷ behind) source destination)
 
 -- ---- the table
 
@@ -84,7 +83,7 @@ abbrev pub fragment : (identification time place : ℕ) (bytes : List ℕ) (last
 fragment identification time place bytes last =
     let arrival : Arrival = record {
       time = time;
-      flow = record { source = padded source; destination = padded destination; source_port = 4660; destination_port = 53; version = 4 };
+      flow = record { source = source; destination = destination; source_port = 4660; destination_port = 53 };
       identification = identification;
       offset = record { 0 = place };
       option_start = record { 0 = 10 };

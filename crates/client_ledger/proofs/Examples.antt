@@ -1,46 +1,16 @@
--- The book's tests for 20, 32, 21 and 29 at their limits, and two fragments under different IP versions, computed. Document 01's own figures
--- are in `claim_figures`.
+-- The book's tests for 20, 32, 21 and 29 at their limits, computed. Document 01's own figures are in `claim_figures`.
 -- Assumes nothing.
 use Prim.Native.Nat.{ℕ, zero, suc, ◌+◌, ◌-◌, ◌*◌}
 use mathlib.Core.Path.{◌≡◌, refl}
-use mathlib.Core.Bool.{Bool, true, false}
+use mathlib.Core.Bool.{true, false}
 use mathlib.Core.List.{List, [], ◌∷◌}
 use mathlib.Core.Option.{Option, none, some}
 use lib.ListN.{length, replicate}
 use Rattle.number_tests.specs.Tests.{first_of}
-use Rattle.client_record.specs.declared.Flow.{Flow}
-use Rattle.client_record.specs.Limits.{address_size, datagram_limit, fragment_limit, assembly_limit, client_limit}
+use Rattle.client_record.specs.Limits.{address_size, datagram_limit, assembly_limit, client_limit}
 use Rattle.client_record.specs.Lists.{same_bytes, any, sum}
 use Rattle.client_record.specs.Record.{fresh_flow, same_flow}
-use Rattle.client_reassembly.specs.Answer.{Reply, stored, delivered}
-use Rattle.client_ledger.specs.Book.{
-  Entry,
-  Book,
-  empty,
-  size,
-  end_of,
-  total,
-  same_key,
-  of,
-  mine,
-  keep,
-  others,
-  keys,
-  repeats,
-  overlap,
-  contradicts,
-  within,
-  complete,
-  last_one,
-  storing,
-  delivering,
-  taking,
-  no_room,
-  is_repeat,
-  is_conflict,
-  is_full,
-  fate,
-}
+use Rattle.client_ledger.specs.Book.{Entry, Book, empty, same_key, of, mine, keys, storing, no_room}
 use Rattle.client_ledger.specs.Lent.{count_off, plan_off, plans_off, store_off, table_tests, no_client, lent_tests, since, keeping, book_of}
 
 -- 20, 32 and 21: which of them a call meets first, by the records' plans, store length and client
@@ -113,37 +83,3 @@ rooms : no_room (piece 9) (with_open 1 0)
     ≡ false ∷ false ∷ false ∷ false ∷ false ∷ true ∷ true ∷ true ∷ []
 unfolding piece with_open no_room mine keys of same_key same_flow same_bytes fresh_flow address_size any storing empty keeping book_of
 rooms = refl
-
--- ---- equal digits under different versions
-
--- 10.0.0.1 to 10.0.0.2 with their zeros, ports 7 and 9, under this version
-under : ℕ → Flow
-under v = record {
-  source = 10 ∷ 0 ∷ 0 ∷ 1 ∷ replicate 12 0;
-  destination = 10 ∷ 0 ∷ 0 ∷ 2 ∷ replicate 12 0;
-  source_port = 7;
-  destination_port = 9;
-  version = v;
-}
-
--- n bytes at this place, with identification 1
-range : ℕ → ℕ → ℕ → Bool → Entry
-range v place n last = record {
-  key = record { flow = under v; identification = 1 };
-  time = 0;
-  content = record { place = place; bytes = replicate n 7; last = last; start = 0 };
-}
-
--- 0 to 8 under version v, and then the last one, 8 to 12, under version w: what each is answered, and how many keys are open then
-answers : ℕ → ℕ → Reply × Reply × ℕ
-answers v w =
-    let one = fate (range v 0 8 false) [] (with_open 4 0) in
-    let two = fate (range w 8 4 true) [] one.book in
-    (one.reply, two.reply, keys two.book.open_ones)
-
--- under one version the second completes the original; under two both are kept, each for its own key
-versions : answers 4 6 ∷ answers 6 4 ∷ answers 4 4 ∷ answers 6 6 ∷ []
-    ≡ (stored, stored, 2) ∷ (stored, stored, 2) ∷ (stored, delivered 12 0, 0) ∷ (stored, delivered 12 0, 0) ∷ []
-unfolding under range answers fate no_room is_repeat is_conflict is_full taking storing delivering total size end_of repeats overlap contradicts within
-    complete last_one mine keep others keys of same_key same_flow same_bytes any sum fragment_limit with_open empty keeping book_of
-versions = refl

@@ -12,7 +12,6 @@ use Rattle.number_tests.proofs.Tests.{true-false, both_true}
 use Rattle.client_record.specs.declared.Flow.{Flow}
 use Rattle.client_record.specs.Lists.{same_bytes, any}
 use Rattle.client_record.specs.Record.{same_flow}
-use Rattle.client_record.proofs.Keys.{versions-apart}
 use Rattle.client_ledger.specs.Book.{Key, Content, Entry, same_key, of, mine, keep, others, opened_at, keys}
 
 -- ---- keys
@@ -32,19 +31,15 @@ bytes_same (x ∷ a) = ap₂ ◌&&◌ (eq-eqb x x refl) (bytes_same a)
 same_flow : (x y : Flow) → same_flow x y ≡ true → x ≡ y
 unfolding same_flow
 same_flow x y e =
-    let versions : Bool = eqb x.version y.version in
-    let rest : Bool = eqb x.destination_port y.destination_port && versions in
-    let ports : Bool = eqb x.source_port y.source_port && rest in
+    let ports : Bool = eqb x.source_port y.source_port && eqb x.destination_port y.destination_port in
     let one = both_true (same_bytes x.source y.source) (same_bytes x.destination y.destination && ports) e in
     let two = both_true (same_bytes x.destination y.destination) ports one.1 in
-    let three = both_true (eqb x.source_port y.source_port) rest two.1 in
-    let four = both_true (eqb x.destination_port y.destination_port) versions three.1 in
+    let three = both_true (eqb x.source_port y.source_port) (eqb x.destination_port y.destination_port) two.1 in
     let s : x.source ≡ y.source = same_bytes _ _ one.0 in
     let d : x.destination ≡ y.destination = same_bytes _ _ two.0 in
     let p : x.source_port ≡ y.source_port = eqb-true _ _ three.0 in
-    let q : x.destination_port ≡ y.destination_port = eqb-true _ _ four.0 in
-    let v : x.version ≡ y.version = eqb-true _ _ four.1 in
-    λ i. record { source = s i; destination = d i; source_port = p i; destination_port = q i; version = v i }
+    let q : x.destination_port ≡ y.destination_port = eqb-true _ _ three.1 in
+    λ i. record { source = s i; destination = d i; source_port = p i; destination_port = q i }
 
 pub same_key : (k j : Key) → same_key k j ≡ true → k ≡ j
 unfolding same_key
@@ -59,8 +54,7 @@ unfolding same_flow
 flow-same x =
     ap₂ ◌&&◌ (bytes_same x.source)
     (ap₂ ◌&&◌ (bytes_same x.destination)
-    (ap₂ ◌&&◌ (eq-eqb x.source_port x.source_port refl)
-    (ap₂ ◌&&◌ (eq-eqb x.destination_port x.destination_port refl) (eq-eqb x.version x.version refl))))
+    (ap₂ ◌&&◌ (eq-eqb x.source_port x.source_port refl) (eq-eqb x.destination_port x.destination_port refl)))
 
 pub key-same : (k : Key) → same_key k k ≡ true
 unfolding same_key
@@ -72,11 +66,6 @@ same-flow-exactly x y = (same_flow x y, λ e. ap (same_flow x) (sym e) ∙ flow-
 
 pub same-key-exactly : (k j : Key) → (same_key k j ≡ true) ↔ (k ≡ j)
 same-key-exactly k j = (same_key k j, λ e. ap (same_key k) (sym e) ∙ key-same k)
-
--- equal digits under different versions are different keys
-pub versions-apart-key : (k j : Key) → (k.flow.version ≡ j.flow.version → ⊥) → same_key k j ≡ false
-unfolding same_key
-versions-apart-key k j n = ap (λ (b : Bool). b && eqb k.identification j.identification) (versions-apart k.flow j.flow n)
 
 pub own_key : (x : Entry) → of x.key x ≡ true
 unfolding of

@@ -74,8 +74,8 @@ fn opening(o: Arrival) -> Assembly
     Assembly {
         flow: flow,
         identification: o.identification,
-        count: 0,
         opened: o.time,
+        count: 0,
         fragments: fragments,
     }
 }

@@ -149,8 +149,7 @@ unfolding same_flow
 flow-sym x y =
     ap₂ ◌&&◌ (bytes-sym x.source y.source)
     (ap₂ ◌&&◌ (bytes-sym x.destination y.destination)
-    (ap₂ ◌&&◌ (eqb-sym x.source_port y.source_port)
-    (ap₂ ◌&&◌ (eqb-sym x.destination_port y.destination_port) (eqb-sym x.version y.version))))
+    (ap₂ ◌&&◌ (eqb-sym x.source_port y.source_port) (eqb-sym x.destination_port y.destination_port)))
 
 -- the key is told in either order
 pub key-sym : (a b : Assembly) → has_key a.flow a.identification b ≡ has_key b.flow b.identification a

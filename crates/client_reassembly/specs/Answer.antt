@@ -1,4 +1,4 @@
--- What a call answers, in the papers' numbers and values, and the cases of the code's enums that stand for them.
+-- What a call answers, in document 01's numbers and values, and the cases of the code's enums that stand for them.
 use Rattle.std.specs.Prelude.{ℕ, List, [], ◌∷◌}
 use Rattle.client_reassembly.specs.declared.Refusal.{Refusal}
 use Rattle.client_reassembly.specs.declared.Refusal.TheVariants.{

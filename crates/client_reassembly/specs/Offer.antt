@@ -69,8 +69,8 @@ unfoldable pub opening : Arrival → Assembly
 opening o = record {
   flow = o.flow;
   identification = o.identification;
-  count = 0;
   opened = o.time;
+  count = 0;
   fragments = fresh_assembly.fragments;
 }
 
@@ -103,8 +103,8 @@ unfoldable pub added : Assembly → Fragment → Assembly
 added a f = record {
   flow = a.flow;
   identification = a.identification;
-  count = a.count + 1;
   opened = a.opened;
+  count = a.count + 1;
   fragments = set a.fragments a.count f;
 }
 

@@ -13,9 +13,9 @@ fragment_limit = 64
 unfoldable pub assembly_limit : ℕ
 assembly_limit = 8
 
--- the bytes of an address in a flow: an IPv6 one, or an IPv4 one's four bytes and then twelve zeros
+-- the bytes of an IPv4 address
 unfoldable pub address_size : ℕ
-address_size = 16
+address_size = 4
 
 -- how long an assembly lives, in milliseconds
 unfoldable pub lifetime : ℕ

@@ -13,16 +13,10 @@ unfoldable pub fresh_fragment : Fragment
 fresh_fragment = record { offset = 0; length = 0; option_start = 0; last = 0 }
 
 unfoldable pub fresh_flow : Flow
-fresh_flow = record {
-  source = replicate address_size 0;
-  destination = replicate address_size 0;
-  source_port = 0;
-  destination_port = 0;
-  version = 0;
-}
+fresh_flow = record { source = replicate address_size 0; destination = replicate address_size 0; source_port = 0; destination_port = 0 }
 
 unfoldable pub fresh_assembly : Assembly
-fresh_assembly = record { flow = fresh_flow; identification = 0; count = 0; opened = 0; fragments = replicate fragment_limit fresh_fragment }
+fresh_assembly = record { flow = fresh_flow; identification = 0; opened = 0; count = 0; fragments = replicate fragment_limit fresh_fragment }
 
 unfoldable pub fresh_client : ℕ → Client
 fresh_client plan = record {
@@ -128,13 +122,11 @@ spare_slots a = drop a.count a.fragments
 unfoldable pub bytes_held : Assembly → ℕ
 bytes_held a = sum (λ f. f.length) (held_fragments a)
 
--- "two 16-byte addresses, two ports and the IP version", as handed in (document 02, R-5)
 unfoldable pub same_flow : Flow → Flow → Bool
 same_flow x y =
     same_bytes x.source y.source
     && (same_bytes x.destination y.destination
-    && (eqb x.source_port y.source_port
-    && (eqb x.destination_port y.destination_port && eqb x.version y.version)))
+    && (eqb x.source_port y.source_port && eqb x.destination_port y.destination_port))
 
 -- the key is flow and identification
 unfoldable pub has_key : Flow → ℕ → Assembly → Bool

@@ -14,15 +14,15 @@ pub const FRAGMENT_LIMIT: usize = 64;
 // The assemblies of a client at most: the largest plan.
 pub const ASSEMBLY_LIMIT: usize = 8;
 
-// The bytes of an address in a flow: an IPv6 one, or an IPv4 one's four bytes and then twelve zeros.
-pub const ADDRESS: usize = 16;
+// The bytes of an IPv4 address.
+pub const ADDRESS: usize = 4;
 
 // The bytes of a flow, a held fragment, an assembly and a record: their fields', with no gap between them.
-pub const FLOW_SIZE: usize = 2 * ADDRESS + 8;
+pub const FLOW_SIZE: usize = 2 * ADDRESS + 4;
 
 pub const FRAGMENT_SIZE: usize = 8;
 
-pub const ASSEMBLY_SIZE: usize = FLOW_SIZE + 16 + FRAGMENT_LIMIT * FRAGMENT_SIZE;
+pub const ASSEMBLY_SIZE: usize = FLOW_SIZE + 20 + FRAGMENT_LIMIT * FRAGMENT_SIZE;
 
 pub const RECORD_SIZE: usize = 72 + ASSEMBLY_LIMIT * ASSEMBLY_SIZE;
 
@@ -35,8 +35,7 @@ pub const LIFETIME: u64 = 120000;
 // The bytes that a client may offer in all.
 pub const OFFERED_LIMIT: u64 = 1000000000000000;
 
-// Whose datagrams: RFC 9868 section 11.4 keys fragments by addresses, ports and identification. `version` is the IP version, 4 or 6, so
-// that equal digits under different versions are different flows. Keys are compared as handed in.
+// Whose datagrams: RFC 9868 section 11.4 keys fragments by addresses, ports and identification.
 #[repr(C)]
 #[derive(Drop)]
 pub struct Flow {
@@ -44,7 +43,6 @@ pub struct Flow {
     pub destination: [u8; ADDRESS],
     pub source_port: u16,
     pub destination_port: u16,
-    pub version: u32,
 }
 
 // A held fragment (document 01's piece): where it stands in the original, whether it is the last one, and then the option start.
@@ -64,8 +62,8 @@ pub struct Fragment {
 pub struct Assembly {
     pub flow: Flow,
     pub identification: u32,
-    pub count: u32,
     pub opened: u64,
+    pub count: u64,
     pub fragments: [Fragment; FRAGMENT_LIMIT],
 }
 
@@ -108,7 +106,6 @@ pub fn fresh_flow() -> Flow
         destination: zero,
         source_port: 0,
         destination_port: 0,
-        version: 0,
     }
 }
 
@@ -122,8 +119,8 @@ pub fn fresh_assembly() -> Assembly
     Assembly {
         flow: flow,
         identification: 0,
-        count: 0,
         opened: 0,
+        count: 0,
         fragments: fragments,
     }
 }
@@ -191,14 +188,11 @@ pub fn same_flow(x: Flow, y: Flow) -> bool
     let other_destination = y.destination;
     let sources = same_address(source, other_source);
     let destinations = same_address(destination, other_destination);
-    let rest = both(
+    let ports = both(
         x.source_port == y.source_port,
-        both(
-            x.destination_port == y.destination_port,
-            x.version == y.version,
-        ),
+        x.destination_port == y.destination_port,
     );
-    both(sources, both(destinations, rest))
+    both(sources, both(destinations, ports))
 }
 
 // The assembly has this key.

@@ -1,4 +1,4 @@
--- What a call leaves, from what the call below it leaves: by one more equation, and all else as it stands.
+-- What a call on a table leaves, from what the call below it leaves: the answer's value by one more equation, and all else as it stands.
 -- Assumes nothing.
 use Prim.Native.Nat.{ℕ}
 use mathlib.Core.Path.{◌≡◌, ap, subst, ◌∙◌}
@@ -8,7 +8,6 @@ use Rattle.client_reassembly.specs.Answer.{reply_of}
 use Rattle.client_reassembly.specs.declared.Answer as Reassembly
 use Rattle.client_reassembly.specs.declared.Arrival.{Arrival}
 use Rattle.client_ledger.specs.History.{offering}
-use Rattle.list_writer.specs.Answer as Compose
 use Rattle.table_rules.specs.Table as Table
 use Rattle.table_receiver.specs.Receive as Receive
 use Rattle.table_receiver.specs.Receive.{fate_in}
@@ -17,9 +16,6 @@ use Rattle.host_values.specs.Answer.{host_answer, arrival_from, host_fate}
 use Rattle.host_values.specs.declared.Answer.{Answer}
 use Rattle.host_values.specs.declared.Fragment.{Fragment}
 use Rattle.host_values.specs.declared.Received.{Received}
-use Rattle.host_values.specs.Lists.{host_written}
-use Rattle.host_values.specs.declared.Written.{Written}
-use Rattle.host_wire.specs.Left.{Writes}
 use Rattle.host_calls.specs.Left.{Leaves, Receives}
 
 pub leaves : {a : Table.After} {inner : Reassembly.Answer} {answer : Answer} {records : List Client} {store out : List ℕ}
@@ -45,11 +41,4 @@ receives same h says = record {
   records_left = h.records_left ∙ ap (λ (x : Receive.Receipt). x.table.records) same;
   store_left = h.store_left ∙ ap (λ (x : Receive.Receipt). x.table.store) same;
   out_left = h.out_left ∙ ap (λ (x : Receive.Receipt). x.out) same;
-}
-
--- what was written between addresses that are these
-pub writes_as : {o o' : Compose.Outcome} {answer : Written} {buffer : List ℕ} → o ≡ o' → Writes o answer buffer → Writes o' answer buffer
-writes_as same w = record {
-  answers = w.answers ∙ ap (λ (x : Compose.Outcome). host_written x.answer) same;
-  buffer_left = w.buffer_left ∙ ap (λ (x : Compose.Outcome). x.buffer) same;
 }

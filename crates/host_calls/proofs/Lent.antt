@@ -7,5 +7,4 @@ pub mod wuraketozo_account
 pub mod wuraketozo_advance
 pub mod wuraketozo_offer
 pub mod wuraketozo_receive
-pub mod wuraketozo_receive_ipv6
 pub mod wuraketozo_reset

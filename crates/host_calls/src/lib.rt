@@ -2,7 +2,6 @@
 // call asks anything of the values of its arguments. `host_wire`, `host_options` and `host_limits` do the work of those that
 // have no table.
 ghost use Rattle.std.specs.Prelude.{◌≡◌, []};
-ghost use Rattle.wire_addresses.specs.Addresses.{ipv4, ipv6};
 ghost use Rattle.wire_datagram.specs.Reading.{reading};
 ghost use Rattle.wire_original.specs.Rereading.{rereading};
 ghost use Rattle.list_readings.specs.Catalogue.{walk_of_value};
@@ -26,9 +25,8 @@ use client_record::Client;
 use host_options::{OriginalOption, PacketOption};
 use host_readings::Reading;
 use host_rereadings::Rereading;
-use host_values::{Address, AddressIpv6, Answer, Fragment, Listing, Received, Written};
+use host_values::{Address, Answer, Fragment, Listing, Received, Written};
 use number_offsets::OriginalOffset;
-use wire_addresses::Version;
 use wire_original::OriginalExtent;
 use wire_reading::Extent;
 
@@ -42,24 +40,9 @@ pub extern "C" fn wuraketozo_read(
     destination: Address,
     strictness: u32,
 ) -> Reading
-    ensures { result ≡ host_reading (reading (strictness_for strictness) payload.now (ipv4 source.octets destination.octets)) }
+    ensures { result ≡ host_reading (reading (strictness_for strictness) payload.now source.octets destination.octets) }
 {
-    let words = host_values::words_between(source, destination);
-    host_wire::read(payload, Version::V4, words, strictness)
-}
-
-// The same over IPv6.
-#[unsafe(no_mangle)]
-pub extern "C" fn wuraketozo_read_ipv6(
-    payload: &[u8],
-    source: AddressIpv6,
-    destination: AddressIpv6,
-    strictness: u32,
-) -> Reading
-    ensures { result ≡ host_reading (reading (strictness_for strictness) payload.now (ipv6 source.octets destination.octets)) }
-{
-    let words = host_values::words_between_ipv6(source, destination);
-    host_wire::read(payload, Version::V6, words, strictness)
+    host_wire::read(payload, source, destination, strictness)
 }
 
 // Reads an original again that was put together from fragments, plainly or strictly.
@@ -122,7 +105,7 @@ pub extern "C" fn wuraketozo_renext(
     host_options::renext(original, verdict, rest)
 }
 
-// Writes a whole payload for IPv4.
+// Writes a whole payload.
 #[unsafe(no_mangle)]
 pub extern "C" fn wuraketozo_write(
     source: Address,
@@ -135,38 +118,12 @@ pub extern "C" fn wuraketozo_write(
     buffer: &mut [u8],
 ) -> Written
     ensures { Writes
-        (written (datagram_for (ipv4 source.octets destination.octets) source_port destination_port user.now fill) list.now buffer.old)
+        (written (datagram_for source.octets destination.octets source_port destination_port user.now fill) list.now buffer.old)
         result buffer.new }
 {
     host_wire::write(
-        host_values::between(source, destination),
-        source_port,
-        destination_port,
-        user,
-        list,
-        fill,
-        buffer,
-    )
-}
-
-// The same for IPv6.
-#[unsafe(no_mangle)]
-pub extern "C" fn wuraketozo_write_ipv6(
-    source: AddressIpv6,
-    destination: AddressIpv6,
-    source_port: u16,
-    destination_port: u16,
-    user: &[u8],
-    list: &[u8],
-    fill: u8,
-    buffer: &mut [u8],
-) -> Written
-    ensures { Writes
-        (written (datagram_for (ipv6 source.octets destination.octets) source_port destination_port user.now fill) list.now buffer.old)
-        result buffer.new }
-{
-    host_wire::write(
-        host_values::between_ipv6(source, destination),
+        source,
+        destination,
         source_port,
         destination_port,
         user,
@@ -189,7 +146,7 @@ pub extern "C" fn wuraketozo_record_size() -> usize
 // The same under a name that has the number of the header's layout. The header and the wrapper for Rust refer to it, so that a host that was
 // compiled for another layout does not link. The number goes up with every change of a struct or of a call's arguments.
 #[unsafe(no_mangle)]
-pub extern "C" fn wuraketozo_layout_8() -> usize
+pub extern "C" fn wuraketozo_layout_7() -> usize
     ensures { result ≡ record_size }
 {
     wuraketozo_record_size()
@@ -273,7 +230,7 @@ pub extern "C" fn wuraketozo_account(records: &[Client], store: &[u8], k: usize)
 
 // ---- one call for each datagram
 
-// Reads a payload that arrived for client `k` over IPv4, plainly or strictly, and, if it is a fragment, offers it.
+// Reads a payload that arrived for client `k`, plainly or strictly, and, if it is a fragment, offers it.
 #[unsafe(no_mangle)]
 pub extern "C" fn wuraketozo_receive(
     records: &mut [Client],
@@ -286,31 +243,11 @@ pub extern "C" fn wuraketozo_receive(
     payload: &[u8],
     out: &mut [u8],
 ) -> Received
-    ensures { Receives (receive_on k (record { time = time; addresses = ipv4 source.octets destination.octets; strictness = strictness_for strictness; payload = payload.now }) out.old (table_of records.old store.old)) result records.new store.new out.new }
+    ensures { Receives (receive_on k (record { time = time; source = source.octets; destination = destination.octets; strictness = strictness_for strictness; payload = payload.now }) out.old (table_of records.old store.old)) result records.new store.new out.new }
 {
-    let addresses = host_values::between(source, destination);
+    let from = source.octets;
+    let to = destination.octets;
     let how = host_readings::strictness_for(strictness);
-    let received = table_receiver::receive(records, store, k, time, addresses, how, payload, out);
-    host_values::received_of(received)
-}
-
-// The same of a payload that arrived over IPv6.
-#[unsafe(no_mangle)]
-pub extern "C" fn wuraketozo_receive_ipv6(
-    records: &mut [Client],
-    store: &mut [u8],
-    k: usize,
-    time: u64,
-    source: AddressIpv6,
-    destination: AddressIpv6,
-    strictness: u32,
-    payload: &[u8],
-    out: &mut [u8],
-) -> Received
-    ensures { Receives (receive_on k (record { time = time; addresses = ipv6 source.octets destination.octets; strictness = strictness_for strictness; payload = payload.now }) out.old (table_of records.old store.old)) result records.new store.new out.new }
-{
-    let addresses = host_values::between_ipv6(source, destination);
-    let how = host_readings::strictness_for(strictness);
-    let received = table_receiver::receive(records, store, k, time, addresses, how, payload, out);
+    let received = table_receiver::receive(records, store, k, time, from, to, how, payload, out);
     host_values::received_of(received)
 }

@@ -12,7 +12,6 @@ use Rattle.client_record.proofs.Fragment.TheLaws as Held
 use Rattle.client_record.proofs.Assembly.TheLaws as Assembly
 use Rattle.client_record.proofs.Client.TheLaws as Client
 use Rattle.host_values.proofs.Address.TheLaws as Address
-use Rattle.host_values.proofs.AddressIpv6.TheLaws as AddressIpv6
 use Rattle.host_readings.proofs.Reading.TheLaws as Reading
 use Rattle.host_rereadings.proofs.Rereading.TheLaws as Rereading
 use Rattle.host_values.proofs.Listing.TheLaws as Listing
@@ -26,13 +25,12 @@ use Rattle.host_values.proofs.Received.TheLaws as Received
 use Rattle.host_limits.specs.Layout.{record_size, field_bytes}
 
 -- nine numbers, and for each assembly its flow, three more numbers and its fragments
-pub record-size-is : record_size ≡ 72 + assembly_limit * (40 + 16 + fragment_limit * 8)
+pub record-size-is : record_size ≡ 72 + assembly_limit * (12 + 20 + fragment_limit * 8)
 unfolding record_size assembly_limit fragment_limit
 record-size-is = refl
 
--- an address of either version, bytes of a payload, bytes of an original; a reading, a rereading, a listing, an option of either, what was written
+-- an address, bytes of a payload, bytes of an original; a reading, a rereading, a listing, an option of either, what was written
 pub read-and-written : size Address.mir
-    ∷ size AddressIpv6.mir
     ∷ size Extent.mir
     ∷ size OriginalExtent.mir
     ∷ size Reading.mir
@@ -42,7 +40,7 @@ pub read-and-written : size Address.mir
     ∷ size OriginalOption.mir
     ∷ size Written.mir
     ∷ []
-    ≡ 4 ∷ 16 ∷ 16 ∷ 16 ∷ 112 ∷ 72 ∷ 24 ∷ 32 ∷ 32 ∷ 16 ∷ []
+    ≡ 4 ∷ 16 ∷ 16 ∷ 112 ∷ 72 ∷ 24 ∷ 32 ∷ 32 ∷ 16 ∷ []
 read-and-written = refl
 
 -- a flow, a held fragment, an assembly; an account, an answer, a fragment that is offered, what was received
@@ -54,14 +52,13 @@ pub of-the-table : size Flow.mir
     ∷ size Fragment.mir
     ∷ size Received.mir
     ∷ []
-    ≡ 40 ∷ 8 ∷ (40 + 16 + fragment_limit * 8) ∷ 56 ∷ 80 ∷ 72 ∷ 200 ∷ []
+    ≡ 12 ∷ 8 ∷ (12 + 20 + fragment_limit * 8) ∷ 56 ∷ 80 ∷ 48 ∷ 200 ∷ []
 unfolding fragment_limit
 of-the-table = refl
 
 -- ---- no gap
 
--- a flow, a held fragment, an assembly, a record: the bytes of the fields are all the bytes there are, so each byte of a record counts; and so
--- of a fragment that is offered
-pub no_gap : field_bytes Flow.mir ∷ field_bytes Held.mir ∷ field_bytes Assembly.mir ∷ field_bytes Client.mir ∷ field_bytes Fragment.mir ∷ []
-    ≡ size Flow.mir ∷ size Held.mir ∷ size Assembly.mir ∷ size Client.mir ∷ size Fragment.mir ∷ []
+-- a flow, a held fragment, an assembly, a record: the bytes of the fields are all the bytes there are, so each byte of a record counts
+pub no_gap : field_bytes Flow.mir ∷ field_bytes Held.mir ∷ field_bytes Assembly.mir ∷ field_bytes Client.mir ∷ []
+    ≡ size Flow.mir ∷ size Held.mir ∷ size Assembly.mir ∷ size Client.mir ∷ []
 no_gap = refl

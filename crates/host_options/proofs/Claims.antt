@@ -13,7 +13,6 @@ use lib.Seq.{drop-drop}
 use Rattle.number_octets.specs.Octets.{part}
 use Rattle.number_octets.proofs.Laws.{part-rest}
 use Rattle.number_offsets.specs.Offsets.{offset_of}
-use Rattle.wire_addresses.specs.declared.Addresses.{Addresses}
 use Rattle.wire_nops.specs.declared.Strictness.{Strictness}
 use Rattle.wire_options.specs.Walk.{Item, Located, option_limit}
 use Rattle.wire_offsets.specs.Next.{next_of}
@@ -199,10 +198,10 @@ module _ (payload : List ℕ) where
   next-number verdict rest = answered-number packet_option no_packet_option payload verdict rest.from.0 rest.to.0
 
 -- with "read" the calls from the start of the option list give its options, as many as are counted
-pub reading-calls : (how : Strictness) (payload : List ℕ) (addresses : Addresses) (r : Reading) → reading how payload addresses ≡ reads r → r.verdict ≡ Read
+pub reading-calls : (how : Strictness) (payload s d : List ℕ) (r : Reading) → reading how payload s d ≡ reads r → r.verdict ≡ Read
     → (lists : ListsIn payload r) × Calls payload r.options.from.0 r.options.to.0 r.options.from.0 lists.found
-reading-calls how payload addresses r e v =
-    let o = option-offsets how payload addresses r e v in
+reading-calls how payload s d r e v =
+    let o = option-offsets how payload s d r e v in
     let start : ℕ = r.options.from.0 in
     let to : ℕ = r.options.to.0 in (
       o.0,

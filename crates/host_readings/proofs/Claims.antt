@@ -27,7 +27,7 @@ use Rattle.wire_reading.specs.declared.Verdict.TheVariants.{
   Read as Listed,
   Piece,
 }
-use Rattle.wire_datagram.specs.declared.reading.Refusal.TheVariants.{PayloadTooShort, PayloadTooLong, LengthOutOfRange, ChecksumZero, ChecksumWrong}
+use Rattle.wire_datagram.specs.declared.reading.Refusal.TheVariants.{PayloadTooShort, PayloadTooLong, LengthOutOfRange, ChecksumWrong}
 use Rattle.wire_reading.specs.declared.Reading.{Reading as Whole}
 use Rattle.wire_datagram.specs.declared.reading.Outcome.{Outcome}
 use Rattle.wire_datagram.specs.declared.reading.Outcome.TheVariants.{Refused as Unread, Accepted}
@@ -123,7 +123,6 @@ pub reading-recovered : (o : Outcome) → answer_from (host_reading (answer_of o
 reading-recovered (Unread PayloadTooShort) = refl
 reading-recovered (Unread PayloadTooLong) = refl
 reading-recovered (Unread LengthOutOfRange) = refl
-reading-recovered (Unread ChecksumZero) = refl
 reading-recovered (Unread ChecksumWrong) = refl
 reading-recovered (Accepted r) =
     ap (λ (v : Verdict). read_with r v (apc_from (apc_says r.apc).number)) (piece-recovered r.verdict) ∙ ap (read_with r r.verdict) (apc-recovered r.apc)

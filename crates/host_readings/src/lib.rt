@@ -1,4 +1,4 @@
-// Readings as values of include/wuraketozo.h, and as much of one as its listing looks at. A refusal is 0, or the papers' number. What a value
+// Readings as values of include/wuraketozo.h, and as much of one as its listing looks at. A refusal is 0, or document 01's number. What a value
 // does not say is 0. Positions keep their types: an `Extent` is bytes of a payload, a `PacketOffset` counts from a UDP header, an `OriginalOffset` is
 // a place in an original.
 ghost use Rattle.std.specs.Prelude.{◌≡◌};
@@ -91,7 +91,6 @@ pub fn refusal_number(refusal: Refusal) -> u32
         Refusal::PayloadTooShort => 1,
         Refusal::PayloadTooLong => 2,
         Refusal::LengthOutOfRange => 3,
-        Refusal::ChecksumZero => 10,
         Refusal::ChecksumWrong => 4,
     }
 }

@@ -1,8 +1,7 @@
 // The values of include/wuraketozo.h, field for field, and what each answer of the crates below is among them; those of readings are in
 // `host_readings` and `host_rereadings`, those of single options in `host_options`, and `host_calls` exports the calls. A refusal is 0, or
-// the papers' number. What a value does not say is 0. Positions keep their types: an `OriginalOffset` is a place in an original.
+// document 01's number. What a value does not say is 0. Positions keep their types: an `OriginalOffset` is a place in an original.
 ghost use Rattle.std.specs.Prelude.{◌≡◌};
-ghost use Rattle.wire_addresses.specs.Addresses.{ipv4, ipv6, StandsFor};
 ghost use Rattle.list_options.specs.Listing.{listed_answer};
 ghost use Rattle.list_writer.specs.Answer.{written_answer};
 ghost use Rattle.client_reassembly.specs.Answer.{number_of, figures_of, reply_of};
@@ -16,20 +15,12 @@ use client_record::Flow;
 use host_readings::Reading;
 use list_options::Listed;
 use number_offsets::OriginalOffset;
-use wire_addresses::Addresses;
 
 // An IPv4 address.
 #[repr(C)]
 #[derive(Drop)]
 pub struct Address {
     pub octets: [u8; 4],
-}
-
-// An IPv6 address.
-#[repr(C)]
-#[derive(Drop)]
-pub struct AddressIpv6 {
-    pub octets: [u8; 16],
 }
 
 // What `wuraketozo_list` and `wuraketozo_relist` answer.
@@ -80,9 +71,9 @@ pub struct Fragment {
     pub time: u64,
     pub flow: Flow,
     pub identification: u32,
-    pub last: u32,
     pub place: OriginalOffset,
     pub option_start: OriginalOffset,
+    pub last: u32,
 }
 
 // What `wuraketozo_receive` answers.
@@ -92,44 +83,6 @@ pub struct Received {
     pub what: u32,
     pub reading: Reading,
     pub answer: Answer,
-}
-
-// ---- addresses
-
-// Both addresses of a datagram over IPv4.
-pub fn between(source: Address, destination: Address) -> Addresses
-    ensures { result ≡ ipv4 source.octets destination.octets }
-{
-    let from = source.octets;
-    let to = destination.octets;
-    wire_addresses::ipv4(from, to)
-}
-
-// The same over IPv6.
-pub fn between_ipv6(source: AddressIpv6, destination: AddressIpv6) -> Addresses
-    ensures { result ≡ ipv6 source.octets destination.octets }
-{
-    let from = source.octets;
-    let to = destination.octets;
-    wire_addresses::ipv6(from, to)
-}
-
-// The number that stands for both addresses in a sum, over IPv4.
-pub fn words_between(source: Address, destination: Address) -> u64
-    ensures { StandsFor result (ipv4 source.octets destination.octets) }
-{
-    let from = source.octets;
-    let to = destination.octets;
-    wire_addresses::ipv4_sum(from, to)
-}
-
-// The same over IPv6.
-pub fn words_between_ipv6(source: AddressIpv6, destination: AddressIpv6) -> u64
-    ensures { StandsFor result (ipv6 source.octets destination.octets) }
-{
-    let from = source.octets;
-    let to = destination.octets;
-    wire_addresses::ipv6_sum(from, to)
 }
 
 // ---- lists and payloads

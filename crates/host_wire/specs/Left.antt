@@ -1,25 +1,14 @@
--- What a call that reads, lists or writes answers and leaves: the value of include/wuraketozo.h for the answer of the papers, and the buffer.
+-- What a call that lists or writes answers and leaves: the value of include/wuraketozo.h for the answer of the papers, and the buffer.
 use Rattle.std.specs.Prelude.{ℕ, ◌≡◌, cond, List, ◌++◌, length, drop}
-use Rattle.wire_addresses.specs.declared.Addresses.{Addresses}
-use Rattle.wire_addresses.specs.declared.Version.{Version}
-use Rattle.wire_addresses.specs.Addresses.{StandsFor}
-use Rattle.wire_nops.specs.declared.Strictness.{Strictness}
 use Rattle.wire_options.specs.Walk.{Walked}
-use Rattle.wire_datagram.specs.Reading.{reading}
 use Rattle.list_encoding.specs.Encoding as Encoding
 use Rattle.list_encoding.specs.Encoding.{given, refused}
 use Rattle.list_options.specs.Listing as Transcribe
 use Rattle.list_options.specs.Listing.{listing, fill_of, room_for, too_small}
 use Rattle.list_writer.specs.Answer as Compose
-use Rattle.host_readings.specs.Reading.{host_reading}
-use Rattle.host_readings.specs.declared.Reading.{Reading}
 use Rattle.host_values.specs.Lists.{host_listing, host_written}
 use Rattle.host_values.specs.declared.Listing.{Listing}
 use Rattle.host_values.specs.declared.Written.{Written}
-
--- a payload that was read: the same between all addresses of this version for which `words` stands
-pub record Reads (how : Strictness) (payload : List ℕ) (version : Version) (words : ℕ) (r : Reading) : Type 0 where
-  pub reads : (addresses : Addresses) → addresses.version ≡ version → StandsFor words addresses → r ≡ host_reading (reading how payload addresses)
 
 -- "8 if too small", else the size of the list and its fill: what `ListedInto` says of the answer
 abbrev pub listed_for : Walked → List ℕ → Encoding.Answer Transcribe.Listing

@@ -1,33 +1,34 @@
 // The calls of include/wuraketozo.h that have no table: reading, listing, writing; those for one option are in `host_options`. `host_calls` exports
-// each under its name there, `read` and `write` for each version, and the others with the same contract. `read` asks that `words` is one that
-// `wire_addresses` makes; no other asks anything of the values of its arguments.
-ghost use Rattle.std.specs.Prelude.{◌≡◌, ◌≤◌};
+// each under its name there, with the same contract. No call asks anything of the values of its arguments.
+ghost use Rattle.std.specs.Prelude.{◌≡◌};
+ghost use Rattle.wire_datagram.specs.Reading.{reading};
 ghost use Rattle.wire_original.specs.Rereading.{rereading};
 ghost use Rattle.list_readings.specs.Catalogue.{walk_of_value};
 ghost use Rattle.list_writer.specs.Answer.{written, datagram_for};
+ghost use Rattle.host_readings.specs.Reading.{host_reading};
 ghost use Rattle.host_readings.specs.Listable.{verdict_for};
 ghost use Rattle.host_readings.specs.Setting.{strictness_for};
 ghost use Rattle.host_rereadings.specs.Rereading.{host_rereading};
-ghost use Rattle.host_wire.specs.Left.{Reads, Lists, Writes};
+ghost use Rattle.host_wire.specs.Left.{Lists, Writes};
 
 use host_readings::Reading;
 use host_rereadings::Rereading;
-use host_values::{Listing, Written};
+use host_values::{Address, Listing, Written};
 use number_offsets::OriginalOffset;
-use wire_addresses::{Addresses, Version};
 use wire_datagram::{parts, reading};
 use wire_original::OriginalExtent;
 use wire_reading::Extent;
 
 // ---- reading
 
-// Reads one payload between addresses for which `words` stands, plainly if `strictness` is 0, else strictly.
-pub fn read(payload: &[u8], version: Version, words: u64, strictness: u32) -> Reading
-    requires { words ≤ 34359738360 }
-    ensures { Reads (strictness_for strictness) payload.now version words result }
+// Reads one IPv4 payload, plainly if `strictness` is 0, else strictly.
+pub fn read(payload: &[u8], source: Address, destination: Address, strictness: u32) -> Reading
+    ensures { result ≡ host_reading (reading (strictness_for strictness) payload.now source.octets destination.octets) }
 {
+    let from = source.octets;
+    let to = destination.octets;
     let how = host_readings::strictness_for(strictness);
-    host_readings::reading_of(parts::outcome_of(reading::examine(payload, version, words, how)))
+    host_readings::reading_of(parts::outcome_of(reading::examine(payload, from, to, how)))
 }
 
 // Reads an original again that was put together from fragments, plainly or strictly.
@@ -61,7 +62,8 @@ pub fn relist(original: &[u8], verdict: u32, options: OriginalExtent, buffer: &m
 
 // Writes a whole payload.
 pub fn write(
-    addresses: Addresses,
+    source: Address,
+    destination: Address,
     source_port: u16,
     destination_port: u16,
     user: &[u8],
@@ -70,11 +72,14 @@ pub fn write(
     buffer: &mut [u8],
 ) -> Written
     ensures { Writes
-        (written (datagram_for addresses source_port destination_port user.now fill) list.now buffer.old)
+        (written (datagram_for source.octets destination.octets source_port destination_port user.now fill) list.now buffer.old)
         result buffer.new }
 {
+    let from = source.octets;
+    let to = destination.octets;
     host_values::written_of(list_writer::write(
-        addresses,
+        from,
+        to,
         source_port,
         destination_port,
         user,

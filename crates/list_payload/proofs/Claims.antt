@@ -21,8 +21,7 @@ use Rattle.wire_step.specs.declared.Class.TheVariants.{Fixed}
 use Rattle.wire_step.proofs.Classes.{class-varying}
 use Rattle.wire_options.specs.Walk.{Item, listed, items_in, walk_from, option_limit}
 use Rattle.wire_datagram.specs.Reading.{reads, reading}
-use Rattle.wire_addresses.specs.Addresses.{payload_limit, Full}
-use Rattle.wire_reading.specs.Reading.{extent, apc_values, all_are, apc_of}
+use Rattle.wire_reading.specs.Reading.{payload_limit, extent, apc_values, all_are, apc_of}
 use Rattle.wire_reading.specs.declared.Apc.TheVariants.{Absent, Right, Wrong}
 use Rattle.wire_reading.specs.declared.Verdict.TheVariants.{Read}
 use Rattle.wire_reading.specs.declared.Reading.{Reading}
@@ -179,7 +178,7 @@ standing-count (item ∷ items) fill = ap suc (standing-count items fill)
 
 -- what was written is read and listed back, the same in plain and in strict reading
 pub record ReadBack (d : Datagram) (list : List ℕ) (r : Reading) : Type 0 where
-  pub is_read : (how : Strictness) → reading how (payload_of d) d.addresses ≡ reads r
+  pub is_read : (how : Strictness) → reading how (payload_of d) d.source d.destination ≡ reads r
   pub verdict : r.verdict ≡ Read
   pub user : r.user ≡ extent udp_header (size_of d)
   pub bytes : part udp_header (length d.user) (payload_of d) ≡ d.user
@@ -190,14 +189,14 @@ pub record ReadBack (d : Datagram) (list : List ℕ) (r : Reading) : Type 0 wher
   pub same_list : listing (walk_from option_limit 0 (list_in (payload_of d) r)) ≡ list
 
 pub read_back : (d : Datagram) (list : List ℕ) → Octets list → decoded_list list ≡ given d.items
-    → Full d.addresses → length (payload_of d) ≤ payload_limit d.addresses.version → ReadBack d list (back_of d)
+    → length d.source ≡ 4 → length d.destination ≡ 4 → length (payload_of d) ≤ payload_limit → ReadBack d list (back_of d)
 unfolding listing
-read_back d list oct decoded full fits =
+read_back d list oct decoded s t fits =
     let both = encode-decode list d.items oct decoded in
     let valid : Valid d.items = both.1 in
     let items : List Item = worked_all d.user d.items in
     let wired : Each items = all-wired d.user d.items valid.each in
-    let takes : Takes d = record { full = full; few = valid.few; each = wired; fits = fits } in
+    let takes : Takes d = record { source = s; destination = t; few = valid.few; each = wired; fits = fits } in
     let there : list_in (payload_of d) (back_of d) ≡ list_of d.user d.items d.fill = list-there d in
     let walk : walk_from option_limit 0 (list_in (payload_of d) (back_of d)) ≡ listed (standing items d.fill) d.fill =
     ap (walk_from option_limit 0) there ∙ walk-list d wired (omega (arith, same_count d.user d.items, valid.few)) in

@@ -10,7 +10,6 @@ use lib.ListN.{length, drop, replicate, length-append, length-replicate}
 use lib.Seq.{drop_at}
 use Rattle.number_octets.specs.Octets.{octets}
 use Rattle.number_checksum.specs.Checksum.{word_sum, folded, sent}
-use Rattle.wire_addresses.specs.declared.Addresses.{Addresses}
 use Rattle.wire_nops.specs.declared.Strictness.{Strictness}
 use Rattle.wire_options.specs.Walk.{Item}
 use Rattle.wire_datagram.specs.Reading.{reads, reading}
@@ -53,6 +52,6 @@ written-fill d =
 
 -- What is read with "read" ends, behind its options, in what a writer with the same fill writes there, whatever else it writes. `payload_of` takes any
 -- fill, and the call `write` one up to 255: for those it is what the call writes.
-pub fill-as-written : (how : Strictness) (p : List ℕ) (addresses : Addresses) (r : Reading) → reading how p addresses ≡ reads r → r.verdict ≡ Read → (d : Datagram) → d.fill ≡ r.fill
+pub fill-as-written : (how : Strictness) (p s t : List ℕ) (r : Reading) → reading how p s t ≡ reads r → r.verdict ≡ Read → (d : Datagram) → d.fill ≡ r.fill
     → drop (length p - r.fill) p ≡ drop (length (payload_of d) - d.fill) (payload_of d)
-fill-as-written how p addresses r e v d same = (reading-fill how p addresses r e v).zeros ∙ ap (λ (n : ℕ). replicate n 0) (sym same) ∙ sym (written-fill d)
+fill-as-written how p s t r e v d same = (reading-fill how p s t r e v).zeros ∙ ap (λ (n : ℕ). replicate n 0) (sym same) ∙ sym (written-fill d)

@@ -5,7 +5,8 @@ use mathlib.Core.Path.{◌≡◌, refl, sym, ap, ap₂, ◌∙◌}
 use mathlib.Core.Bool.{false}
 use mathlib.Core.List.{List, [], ◌∷◌, ◌++◌, append_assoc}
 use mathlib.Core.Logic.{inr}
-use Prim.Native.Nat.{ℕ, suc, ◌+◌, ◌-◌, ◌≤◌, ◌<◌}
+use Prim.Native.Nat.{ℕ, suc, ◌+◌, ◌-◌, ◌%◌, ◌≤◌, ◌<◌}
+use native.Mathlib.Nat.{zero-add}
 use native.Mathlib.Omega.{arith}
 use lib.Dec.{eqb}
 use lib.ListN.{length, take, drop, length-append}
@@ -13,18 +14,15 @@ use lib.Seq.{take_at, drop_at, drop-drop, drop-append-add}
 use Rattle.number_octets.specs.Octets.{number, octets, part}
 use Rattle.number_octets.proofs.Laws.{length-octets, number-octets}
 use Rattle.number_offsets.specs.Offsets.{udp_header}
-use Rattle.number_checksum.specs.Checksum.{word_sum, folded, all_ones}
-use Rattle.number_checksum.proofs.Laws.{folded-le, sent-pos, sent-le}
-use Rattle.wire_addresses.specs.Addresses.{payload_limit, Full, pseudo_header, udp_sum}
-use Rattle.wire_addresses.proofs.Sums.{checksum-law}
-use Rattle.wire_addresses.proofs.Headers.{limit-small, even-header}
+use Rattle.number_checksum.specs.Checksum.{word_sum, folded, sent, all_ones, parity_after}
+use Rattle.number_checksum.proofs.Laws.{sent-le, field-law, parity-even}
 use Rattle.wire_nops.specs.declared.Strictness.{Strictness}
 use Rattle.wire_nops.specs.declared.Strictness.TheVariants.{Plain}
 use Rattle.wire_options.specs.Walk.{Item, listed, walk_from, option_limit}
 use Rattle.wire_area.specs.Area.{plain, area_of as area_walk}
 use Rattle.wire_surplus.specs.Surplus.{pad_of, start_of}
-use Rattle.wire_datagram.specs.Reading.{udp_length, udp_checksum, accepted, reads, reading}
-use Rattle.wire_reading.specs.Reading.{is_odd, walked, started}
+use Rattle.wire_datagram.specs.Reading.{udp_length, udp_checksum, pseudo_header, accepted, reads, reading}
+use Rattle.wire_reading.specs.Reading.{payload_limit, is_odd, walked, started}
 use Rattle.wire_reading.specs.declared.Reading.{Reading}
 use Rattle.wire_datagram.proofs.Refusals.{Sized, sum_of, reading-accepted}
 use Rattle.list_payload.specs.Payload.{worked_all, standing, list_of, area_of, Datagram, size_of, front_of, datagram_with, udp_checksum_of, payload_of}
@@ -33,10 +31,11 @@ use Rattle.list_payload.proofs.Areas.{plain-area, area-starts, area-list}
 
 -- what the writer takes
 pub record Takes (d : Datagram) : Type 0 where
-  pub full : Full d.addresses
+  pub source : length d.source ≡ 4
+  pub destination : length d.destination ≡ 4
   pub few : length d.items ≤ option_limit
   pub each : Each (worked_all d.user d.items)
-  pub fits : length (payload_of d) ≤ payload_limit d.addresses.version
+  pub fits : length (payload_of d) ≤ payload_limit
 
 -- ---- where the header's fields stand
 
@@ -98,7 +97,7 @@ module _ (d : Datagram) where
 
   checksum-small : udp_checksum_of d < 65536
   unfolding udp_checksum_of
-  checksum-small = omega (arith, sent-le (folded (word_sum false (pseudo_header d.addresses (size_of d) ++ datagram_with d (0 ∷ 0 ∷ [])))))
+  checksum-small = omega (arith, sent-le (folded (word_sum false (pseudo_header d.source d.destination (size_of d) ++ datagram_with d (0 ∷ 0 ∷ [])))))
 
   checksum-there : udp_checksum (payload_of d) ≡ udp_checksum_of d
   checksum-there =
@@ -111,17 +110,31 @@ module _ (d : Datagram) where
 
 -- ---- the UDP checksum
 
-udp-sum : (d : Datagram) → Takes d → udp_sum (pseudo_header d.addresses (size_of d)) (datagram_with d (octets 2 (udp_checksum_of d))) ≡ all_ones
+length-pseudo : (s t : List ℕ) (size : ℕ) → length s ≡ 4 → length t ≡ 4 → length (pseudo_header s t size) ≡ 12
+unfolding pseudo_header
+length-pseudo s t size a b =
+    let x : length (s ++ t ++ (0 ∷ 17 ∷ octets 2 size)) ≡ length (s ++ t) + length (0 ∷ 17 ∷ octets 2 size) =
+    length-append (s ++ t) (0 ∷ 17 ∷ octets 2 size) in
+    omega (arith, length-append s t, length-octets 2 size)
+
+udp-sum : (d : Datagram) → Takes d
+    → folded (word_sum false (pseudo_header d.source d.destination (size_of d) ++ datagram_with d (octets 2 (udp_checksum_of d)))) ≡ all_ones
 unfolding udp_checksum_of
 udp-sum d t =
-    checksum-law (pseudo_header d.addresses (size_of d)) (front_of d) d.user (even-header d.addresses (size_of d) t.full) (omega (arith, length_front d))
-
--- a checksum of zero is never sent, over either version
-pub never-zero : (d : Datagram) → udp_checksum_of d ≡ 0 → ⊥
-unfolding udp_checksum_of
-never-zero d e =
-    let sum : ℕ = word_sum false (pseudo_header d.addresses (size_of d) ++ datagram_with d (0 ∷ 0 ∷ [])) in
-    omega (arith, e, sent-pos (folded sum) (folded-le sum))
+    let pseudo : List ℕ = pseudo_header d.source d.destination (size_of d) in
+    let head : List ℕ = pseudo ++ front_of d in
+    let long : length head ≡ 18 =
+    length-append pseudo (front_of d) ∙ ap₂ ◌+◌ (length-pseudo d.source d.destination (size_of d) t.source t.destination) (length_front d) in
+    let even : parity_after false (length head) ≡ false = parity-even false (length head) (ap (λ (n : ℕ). n % 2) long) in
+    let blank : 0 + word_sum false (head ++ (0 ∷ 0 ∷ d.user)) ≡ word_sum false (pseudo ++ datagram_with d (0 ∷ 0 ∷ [])) =
+    zero-add (word_sum false (head ++ (0 ∷ 0 ∷ d.user))) ∙ ap (word_sum false) (append_assoc pseudo (front_of d) (0 ∷ 0 ∷ d.user)) in
+    let field : ℕ → ℕ = λ n. sent (folded n) in
+    let with-field : (n : ℕ) → 0 + word_sum false (head ++ (octets 2 (field n) ++ d.user)) ≡ word_sum false (pseudo ++ datagram_with d (octets 2 (field n))) =
+    λ n. zero-add (word_sum false (head ++ (octets 2 (field n) ++ d.user)))
+    ∙ ap (word_sum false) (append_assoc pseudo (front_of d) (octets 2 (field n) ++ d.user)) in
+    ap folded (sym (with-field (word_sum false (pseudo ++ datagram_with d (0 ∷ 0 ∷ [])))))
+    ∙ ap (λ (n : ℕ). folded (0 + word_sum false (head ++ (octets 2 (field n) ++ d.user)))) (sym blank)
+    ∙ field-law false 0 head d.user even
 
 -- ---- the reading
 
@@ -158,18 +171,19 @@ accepted-back how d t h =
     ∙ ap (walked p L (list_start d))
     (plain-area how (eqb L udp_header) (list_start d) (worked_all d.user d.items) d.fill t.each (omega (arith, same_count d.user d.items, t.few)))
 
-pub reading-back : (how : Strictness) (d : Datagram) → Takes d → reading how (payload_of d) d.addresses ≡ reads (back_of d)
-unfolding udp_header
+pub reading-back : (how : Strictness) (d : Datagram) → Takes d → reading how (payload_of d) d.source d.destination ≡ reads (back_of d)
+unfolding payload_limit udp_header
 reading-back how d t =
     let p : List ℕ = payload_of d in
     let size : length p ≡ size_of d + length (area d) = payload-length d in
-    let small : size_of d < 65536 = omega (arith, t.fits, limit-small d.addresses.version) in
+    let most : length p ≤ 65515 = t.fits in
+    let small : size_of d < 65536 = omega arith in
     let L : udp_length p ≡ size_of d = length-there d small in
-    let sized : Sized d.addresses.version p = record { least = omega arith; most = t.fits; header = omega arith; within = omega arith } in
-    let summed : sum_of p d.addresses ≡ all_ones =
-    ap (λ (n : ℕ). udp_sum (pseudo_header d.addresses n) (take n p)) L ∙ ap (udp_sum (pseudo_header d.addresses (size_of d))) (front-is d) ∙ udp-sum d t in
-    let there : udp_checksum p ≡ 0 → ⊥ = λ e. never-zero d (sym (checksum-there d) ∙ e) in
-    reading-accepted how p d.addresses sized (inr (there, summed)) ∙ ap reads (accepted-back how d t small)
+    let sized : Sized p = record { least = omega arith; most = most; header = omega arith; within = omega arith } in
+    let summed : sum_of p d.source d.destination ≡ all_ones =
+    ap (λ (n : ℕ). folded (word_sum false (pseudo_header d.source d.destination n ++ take n p))) L
+    ∙ ap (λ (x : List ℕ). folded (word_sum false (pseudo_header d.source d.destination (size_of d) ++ x))) (front-is d) ∙ udp-sum d t in
+    reading-accepted how p d.source d.destination sized (inr summed) ∙ ap reads (accepted-back how d t small)
 
 -- ---- what else is found there
 

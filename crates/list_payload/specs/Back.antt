@@ -1,6 +1,5 @@
 -- Demand 2's read-back: what the reader says of the bytes that a call of `write` leaves.
 use Rattle.std.specs.Prelude.{◌≡◌, Bool, false, cond, ◌||◌, List, [], ◌∷◌, ℕ, eqb, length, take, drop}
-use Rattle.wire_addresses.specs.declared.Addresses.{Addresses}
 use Rattle.wire_nops.specs.declared.Strictness.{Strictness}
 use Rattle.wire_step.specs.Kinds.{apc}
 use Rattle.wire_options.specs.Walk.{Item, Walked, listed, walk_from, option_limit}
@@ -27,13 +26,14 @@ apc_back items = cond (has_apc items) Right Absent
 abbrev pub walk_back : List ℕ → Reading → Walked
 walk_back payload back = walk_from option_limit 0 (bytes_in back.options payload)
 
--- A payload is read, plainly and strictly and over the addresses that it was made for, as what it was made from: the user data, the options of
--- the encoded list in their order with their bodies, each where it was written, APC, and fill. Listing them gives the encoded list byte for byte.
-pub record ReadsBack (addresses : Addresses) (user list : List ℕ) (fill : ℕ) (payload : List ℕ) : Type 0 where
+-- A payload is read, plainly and strictly, as what it was made from: the user data, the options of the encoded list in their order with their bodies, each
+-- where it was written, APC, and fill.
+-- Listing them gives the encoded list byte for byte.
+pub record ReadsBack (source destination user list : List ℕ) (fill : ℕ) (payload : List ℕ) : Type 0 where
   pub items : List Item
   pub decoded : decoded_list list ≡ given items
   pub back : Reading
-  pub is_read : (how : Strictness) → reading how payload addresses ≡ reads back
+  pub is_read : (how : Strictness) → reading how payload source destination ≡ reads back
   pub verdict : back.verdict ≡ Read
   pub same_user : bytes_in back.user payload ≡ user
   pub same_options : walk_back payload back ≡ listed (standing (worked_all user items) fill) fill
@@ -43,7 +43,7 @@ pub record ReadsBack (addresses : Addresses) (user list : List ℕ) (fill : ℕ)
   pub same_list : listing (walk_back payload back) ≡ list
 
 -- A call that answers a payload of `n` bytes and leaves `exit` of a buffer `entry`: its first `n` bytes are read back, and the others stay.
-pub record LeavesBack (addresses : Addresses) (user list : List ℕ) (fill : ℕ) (entry exit : List ℕ) (n : ℕ) : Type 0 where
+pub record LeavesBack (source destination user list : List ℕ) (fill : ℕ) (entry exit : List ℕ) (n : ℕ) : Type 0 where
   pub size : length (take n exit) ≡ n
   pub behind : drop n exit ≡ drop n entry
-  pub reads_back : ReadsBack addresses user list fill (take n exit)
+  pub reads_back : ReadsBack source destination user list fill (take n exit)

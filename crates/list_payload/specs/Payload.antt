@@ -6,8 +6,7 @@ use Rattle.number_checksum.specs.Checksum.{word_sum, folded, sent}
 use Rattle.number_crc32c.specs.Crc.{crc_of}
 use Rattle.wire_step.specs.Kinds.{apc}
 use Rattle.wire_options.specs.Walk.{Item, Located}
-use Rattle.wire_addresses.specs.declared.Addresses.{Addresses}
-use Rattle.wire_addresses.specs.Addresses.{pseudo_header, udp_sum}
+use Rattle.wire_datagram.specs.Reading.{pseudo_header, udp_sum}
 use Rattle.wire_reading.specs.Reading.{is_odd}
 use Rattle.list_encoding.specs.Wire.{longest_short, crc_width}
 
@@ -56,7 +55,8 @@ area_of odd list =
 
 -- what a datagram is made from
 pub record Datagram : Type 0 where
-  pub addresses : Addresses
+  pub source : List ℕ
+  pub destination : List ℕ
   pub source_port : ℕ
   pub destination_port : ℕ
   pub user : List ℕ
@@ -75,7 +75,7 @@ abbrev pub datagram_with : Datagram → List ℕ → List ℕ
 datagram_with d sum = front_of d ++ (sum ++ d.user)
 
 unfoldable pub udp_checksum_of : Datagram → ℕ
-udp_checksum_of d = sent (udp_sum (pseudo_header d.addresses (size_of d)) (datagram_with d (0 ∷ 0 ∷ [])))
+udp_checksum_of d = sent (udp_sum (pseudo_header d.source d.destination (size_of d)) (datagram_with d (0 ∷ 0 ∷ [])))
 
 -- the whole payload: header, data, pad, option checksum, options, fill
 unfoldable pub payload_of : Datagram → List ℕ

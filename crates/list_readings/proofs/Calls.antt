@@ -5,11 +5,9 @@ use mathlib.Core.Path.{◌≡◌, sym, ap, subst, ◌∙◌}
 use mathlib.Core.List.{List}
 use Prim.Native.Nat.{ℕ}
 use native.Mathlib.Omega.{arith}
-use lib.ListN.{take, drop}
+use lib.ListN.{length, take, drop}
 use lib.Seq.{take_at}
 use Rattle.number_octets.specs.Octets.{Octets}
-use Rattle.wire_addresses.specs.declared.Addresses.{Addresses}
-use Rattle.wire_addresses.specs.Addresses.{Full}
 use Rattle.wire_nops.specs.declared.Strictness.{Strictness}
 use Rattle.wire_datagram.specs.Reading.{reads, reading, answer_of}
 use Rattle.wire_reading.specs.declared.Reading.{Reading}
@@ -30,19 +28,19 @@ accepted-as (Refused refusal) r e = absurd (let z : ◌≡◌ {A = ℕ} 0 1 = cc
 accepted-as (Accepted x) r e = cc
 
 -- `exit` is what `write` leaves, and `outcome` what `read` answers of its first n bytes, plain or strict
-pub call-lists-back : (how : Strictness) (addresses : Addresses) (source_port destination_port : ℕ) (user : List ℕ) (fill : ℕ) (list entry exit : List ℕ) (n : ℕ)
+pub call-lists-back : (how : Strictness) (source destination : List ℕ) (source_port destination_port : ℕ) (user : List ℕ) (fill : ℕ) (list entry exit : List ℕ) (n : ℕ)
     (outcome : Outcome)
-    → Full addresses → Octets list
-    → Wrote (written (datagram_for addresses source_port destination_port user fill) list entry) (Payload n) exit
-    → answer_of outcome ≡ reading how (take n exit) addresses
+    → length source ≡ 4 → length destination ≡ 4 → Octets list
+    → Wrote (written (datagram_for source destination source_port destination_port user fill) list entry) (Payload n) exit
+    → answer_of outcome ≡ reading how (take n exit) source destination
     → ListedBack list fill (take n exit) outcome
-call-lists-back how addresses source_port destination_port user fill list entry exit n outcome full oct w e =
-    let b = write-reads-back addresses source_port destination_port user fill list entry n full oct (sym w.answered) in
-    let d : Datagram = datagram_for addresses source_port destination_port user fill b.items in
+call-lists-back how source destination source_port destination_port user fill list entry exit n outcome s t oct w e =
+    let b = write-reads-back source destination source_port destination_port user fill list entry n s t oct (sym w.answered) in
+    let d : Datagram = datagram_for source destination source_port destination_port user fill b.items in
     let front : take n exit ≡ payload_of d = ap (take n) (w.left ∙ b.left) ∙ take_at (payload_of d) (drop n entry) n (sym b.size) in
     record {
       back = back_of d;
-      accepted = accepted-as outcome (back_of d) (e ∙ ap (λ (p : List ℕ). reading how p addresses) front ∙ b.back.is_read how);
+      accepted = accepted-as outcome (back_of d) (e ∙ ap (λ (p : List ℕ). reading how p source destination) front ∙ b.back.is_read how);
       lists = λ buffer answer left into room.
           listed_back d list (back_of d) buffer answer left (written-lists-back d list (back_of d) b.back)
           (subst (λ (p : List ℕ). ListedInto (walk_of p (back_of d)) buffer answer left) front into) room;

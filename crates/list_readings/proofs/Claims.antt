@@ -9,8 +9,6 @@ use native.Mathlib.Omega.{arith}
 use borrow.Author.Tests.{le-leb}
 use lib.ListN.{length, drop}
 use Rattle.number_octets.specs.Octets.{Octets}
-use Rattle.wire_addresses.specs.declared.Addresses.{Addresses}
-use Rattle.wire_addresses.specs.Addresses.{Full}
 use Rattle.wire_nops.specs.declared.Strictness.{Strictness}
 use Rattle.wire_nops.specs.declared.Strictness.TheVariants.{Plain}
 use Rattle.wire_options.specs.Walk.{Item, Walked, listed, walk_from, option_limit, items_of}
@@ -78,9 +76,9 @@ value-claim bytes verdict from to count fill lists = record {
     no_read other true e = absurd (other (read-verdict verdict e))
     no_read other false e = e
 
-pub reading-listed : (how : Strictness) (payload : List ℕ) (addresses : Addresses) (r : Reading) → reading how payload addresses ≡ reads r → ReadingListed payload r
-reading-listed how payload addresses r e =
-    value-claim payload r.verdict r.options.from.0 r.options.to.0 r.count r.fill (reading-lists how payload addresses r e)
+pub reading-listed : (how : Strictness) (payload source destination : List ℕ) (r : Reading) → reading how payload source destination ≡ reads r → ReadingListed payload r
+reading-listed how payload source destination r e =
+    value-claim payload r.verdict r.options.from.0 r.options.to.0 r.count r.fill (reading-lists how payload source destination r e)
 
 pub rereading-listed : (how : Strictness) (original : List ℕ) (start : ℕ) (r : Rereading) → rereading how original start ≡ rereads r → RereadingListed original r
 rereading-listed how original start r e =
@@ -95,7 +93,7 @@ pub record ListsBack (d : Datagram) (list : List ℕ) (r : Reading) : Type 0 whe
 
 pub written-lists-back : (d : Datagram) (list : List ℕ) (r : Reading) → ReadBack d list r → ListsBack d list r
 written-lists-back d list r b =
-    let l = (reading-listed Plain (payload_of d) d.addresses r (b.is_read Plain)).with_read b.verdict in
+    let l = (reading-listed Plain (payload_of d) d.source d.destination r (b.is_read Plain)).with_read b.verdict in
     record { same_list = ap listing l.walks ∙ b.same_list; fill = l.fills ∙ b.fill }
 
 -- ---- the same, said of calls
@@ -105,12 +103,12 @@ pub record WroteListed (datagram : List Item → Datagram) (list buffer : List �
   pub wrote : WroteBack datagram list buffer n
   pub back : ListsBack (datagram wrote.items) list (back_of (datagram wrote.items))
 
-pub write-lists-back : (addresses : Addresses) (source_port destination_port : ℕ) (user : List ℕ) (fill : ℕ) (list buffer : List ℕ) (n : ℕ)
-    → Full addresses → Octets list
-    → (written (datagram_for addresses source_port destination_port user fill) list buffer).answer ≡ given n
-    → WroteListed (datagram_for addresses source_port destination_port user fill) list buffer n
-write-lists-back addresses source_port destination_port user fill list buffer n full oct e =
-    let w = write-reads-back addresses source_port destination_port user fill list buffer n full oct e in
+pub write-lists-back : (source destination : List ℕ) (source_port destination_port : ℕ) (user : List ℕ) (fill : ℕ) (list buffer : List ℕ) (n : ℕ)
+    → length source ≡ 4 → length destination ≡ 4 → Octets list
+    → (written (datagram_for source destination source_port destination_port user fill) list buffer).answer ≡ given n
+    → WroteListed (datagram_for source destination source_port destination_port user fill) list buffer n
+write-lists-back source destination source_port destination_port user fill list buffer n s t oct e =
+    let w = write-reads-back source destination source_port destination_port user fill list buffer n s t oct e in
     record { wrote = w; back = written-lists-back _ list _ w.back }
 
 pub listed_back : (d : Datagram) (list : List ℕ) (r : Reading) (buffer : List ℕ) (answer : Listed) (left : List ℕ) → ListsBack d list r

@@ -2,7 +2,6 @@
 use Rattle.std.specs.Prelude.{◌≡◌, Bool, true, false, cond, List, [], ◌∷◌, ◌++◌, ℕ, zero, suc, ◌+◌, eqb, leb, length, drop, replicate}
 use Rattle.number_octets.specs.Octets.{octets, overlay}
 use Rattle.number_crc32c.specs.Crc.{crc_of}
-use Rattle.wire_addresses.specs.declared.Addresses.{Addresses}
 use Rattle.wire_step.specs.Kinds.{apc}
 use Rattle.wire_options.specs.Walk.{Item}
 use Rattle.wire_reading.specs.Reading.{is_odd}
@@ -80,9 +79,10 @@ abbrev pub listed_bytes : ℕ → List ℕ → ℕ → List ℕ
 listed_bytes crc list fill = wires_listed crc list ++ replicate fill 0
 
 -- a datagram before its options are known
-abbrev pub plainly : Addresses → (source_port destination_port : ℕ) (user : List ℕ) → Datagram
-plainly addresses source_port destination_port user = record {
-  addresses = addresses;
+abbrev pub plainly : (source destination : List ℕ) (source_port destination_port : ℕ) (user : List ℕ) → Datagram
+plainly source destination source_port destination_port user = record {
+  source = source;
+  destination = destination;
   source_port = source_port;
   destination_port = destination_port;
   user = user;

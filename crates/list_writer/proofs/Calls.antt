@@ -7,8 +7,6 @@ use Prim.Native.Nat.{ℕ}
 use lib.ListN.{length, take, drop}
 use lib.Seq.{take_at, drop_at}
 use Rattle.number_octets.specs.Octets.{Octets}
-use Rattle.wire_addresses.specs.declared.Addresses.{Addresses}
-use Rattle.wire_addresses.specs.Addresses.{Full}
 use Rattle.wire_nops.specs.declared.Strictness.TheVariants.{Plain}
 use Rattle.wire_options.specs.Walk.{walk_from, option_limit}
 use Rattle.wire_reading.specs.Extents.{bytes_in}
@@ -39,9 +37,9 @@ module _ (d : Datagram) (list : List ℕ) (decoded : decoded_list list ≡ given
   whole =
       ap (walk_from option_limit 0)
       (lists-part p back.options.from.0 back.options.to.0 back.count back.fill
-      (reading-lists Plain p d.addresses back (b.is_read Plain) b.verdict))
+      (reading-lists Plain p d.source d.destination back (b.is_read Plain) b.verdict))
 
-  payload-back : ReadsBack d.addresses d.user list d.fill p
+  payload-back : ReadsBack d.source d.destination d.user list d.fill p
   payload-back = record {
     items = d.items;
     decoded = decoded;
@@ -58,19 +56,19 @@ module _ (d : Datagram) (list : List ℕ) (decoded : decoded_list list ≡ given
 
 -- ---- the call
 
-pub call-reads-back : (addresses : Addresses) (source_port destination_port : ℕ) (user : List ℕ) (fill : ℕ) (list entry exit : List ℕ) (n : ℕ)
-    → Full addresses → Octets list
-    → Wrote (written (datagram_for addresses source_port destination_port user fill) list entry) (Payload n) exit
-    → LeavesBack addresses user list fill entry exit n
-call-reads-back addresses source_port destination_port user fill list entry exit n full oct w =
-    let b = write-reads-back addresses source_port destination_port user fill list entry n full oct (sym w.answered) in
-    let d : Datagram = datagram_for addresses source_port destination_port user fill b.items in
+pub call-reads-back : (source destination : List ℕ) (source_port destination_port : ℕ) (user : List ℕ) (fill : ℕ) (list entry exit : List ℕ) (n : ℕ)
+    → length source ≡ 4 → length destination ≡ 4 → Octets list
+    → Wrote (written (datagram_for source destination source_port destination_port user fill) list entry) (Payload n) exit
+    → LeavesBack source destination user list fill entry exit n
+call-reads-back source destination source_port destination_port user fill list entry exit n s t oct w =
+    let b = write-reads-back source destination source_port destination_port user fill list entry n s t oct (sym w.answered) in
+    let d : Datagram = datagram_for source destination source_port destination_port user fill b.items in
     let left : exit ≡ payload_of d ++ drop n entry = w.left ∙ b.left in
     let front : take n exit ≡ payload_of d = ap (take n) left ∙ take_at (payload_of d) (drop n entry) n (sym b.size) in
     record {
       size = ap length front ∙ sym b.size;
       behind = ap (drop n) left ∙ drop_at (payload_of d) (drop n entry) n (sym b.size);
-      reads_back = subst (ReadsBack addresses user list fill) (sym front) (payload-back d list b.decoded b.back);
+      reads_back = subst (ReadsBack source destination user list fill) (sym front) (payload-back d list b.decoded b.back);
     }
 
 -- ---- what read-back shuts out
@@ -81,10 +79,10 @@ pub record OneOrigin (user user' list list' : List ℕ) (fill fill' : ℕ) : Typ
   pub one_list : list ≡ list'
   pub one_fill : fill ≡ fill'
 
-pub reads-back-once : (addresses : Addresses) (user user' list list' : List ℕ) (fill fill' : ℕ) (payload : List ℕ)
-    → ReadsBack addresses user list fill payload → ReadsBack addresses user' list' fill' payload
+pub reads-back-once : (source destination user user' list list' : List ℕ) (fill fill' : ℕ) (payload : List ℕ)
+    → ReadsBack source destination user list fill payload → ReadsBack source destination user' list' fill' payload
     → OneOrigin user user' list list' fill fill'
-reads-back-once addresses user user' list list' fill fill' payload a b =
+reads-back-once source destination user user' list list' fill fill' payload a b =
     let same : a.back ≡ b.back = cc (a.is_read Plain, b.is_read Plain) in
     record {
       one_user = sym a.same_user ∙ ap (λ (r : Reading). bytes_in r.user payload) same ∙ b.same_user;

@@ -2,4 +2,3 @@ pub mod Claims
 pub mod Calls
 pub mod Datagrams
 pub mod Outcomes
-pub mod Versions

@@ -15,10 +15,7 @@ use Rattle.number_octets.proofs.Laws.{length-octets}
 use Rattle.number_offsets.specs.Offsets.{udp_header}
 use Rattle.number_crc32c.specs.Crc.{crc_of}
 use Rattle.wire_options.specs.Walk.{Item}
-use Rattle.wire_addresses.specs.declared.Addresses.{Addresses}
-use Rattle.wire_addresses.specs.Addresses.{payload_limit}
-use Rattle.wire_addresses.proofs.Headers.{limit-small}
-use Rattle.wire_reading.specs.Reading.{is_odd}
+use Rattle.wire_reading.specs.Reading.{payload_limit, is_odd}
 use Rattle.list_encoding.specs.Encoding.{Answer, given, refused, decoded_list}
 use Rattle.list_encoding.specs.Wire.{Totals, totals_of, measured, wire_size}
 use Rattle.list_payload.specs.Payload.{list_of, area_of, Datagram, size_of, udp_checksum_of, payload_of}
@@ -30,18 +27,18 @@ use Rattle.list_writer.proofs.Datagrams.{datagram-size}
 
 -- ---- the test of the size
 
-module _ (limit size room : ℕ) where
-  pub over-limit : limit < size → false ≡ fits limit size room
-  unfolding fits
-  over-limit h = sym (ap (λ (t : Bool). t && leb size room) (lt-leb size limit h))
+pub over-limit : (size room : ℕ) → 65515 < size → false ≡ fits size room
+unfolding fits payload_limit
+over-limit size room h = sym (ap (λ (t : Bool). t && leb size room) (lt-leb size 65515 h))
 
-  pub within-limit : size ≤ limit → leb size room ≡ fits limit size room
-  unfolding fits
-  within-limit h = sym (ap (λ (t : Bool). t && leb size room) (le-leb size limit h))
+pub within-limit : (size room : ℕ) → size ≤ 65515 → leb size room ≡ fits size room
+unfolding fits payload_limit
+within-limit size room h = sym (ap (λ (t : Bool). t && leb size room) (le-leb size 65515 h))
 
-  fits_both : fits limit size room ≡ true → (size ≤ limit) × (size ≤ room)
-  unfolding fits
-  fits_both e = let b = both_true (leb size limit) (leb size room) e in (leb-true size limit b.0, leb-true size room b.1)
+fits_both : (size room : ℕ) → fits size room ≡ true → (size ≤ 65515) × (size ≤ room)
+unfolding fits payload_limit
+fits_both size room e =
+    let b = both_true (leb size 65515) (leb size room) e in (leb-true size 65515 b.0, leb-true size room b.1)
 
 -- ---- what the check says of the list
 
@@ -99,16 +96,13 @@ pub put_refused : (d : List Item → Datagram) (list buffer : List ℕ) (n : ℕ
 unfolding written
 put_refused d list buffer n e = ap (outcome_by d buffer) e
 
-module _ (addresses : Addresses) (source_port destination_port : ℕ) (user list : List ℕ) (fill : ℕ) (buffer : List ℕ) (size : ℕ) (items : List Item)
+module _ (source destination : List ℕ) (source_port destination_port : ℕ) (user list : List ℕ) (fill : ℕ) (buffer : List ℕ) (size : ℕ) (items : List Item)
     (e : decoded_list list ≡ given items) (s : size ≡ wire_size items) where
   abbrev d : List Item → Datagram
-  d = datagram_for addresses source_port destination_port user fill
-
-  abbrev limit : ℕ
-  limit = payload_limit addresses.version
+  d = datagram_for source destination source_port destination_port user fill
 
   abbrev payload : List ℕ
-  payload = payload_from (plainly addresses source_port destination_port user) list fill
+  payload = payload_from (plainly source destination source_port destination_port user) list fill
 
   same : payload ≡ payload_of (d items)
   unfolding payload_of list_of udp_checksum_of
@@ -117,26 +111,26 @@ module _ (addresses : Addresses) (source_port destination_port : ℕ) (user list
 
   pub long : length payload ≡ total (length user) size fill
   long =
-      payload-size (plainly addresses source_port destination_port user) list fill
+      payload-size (plainly source destination source_port destination_port user) list fill
       ∙ ap (λ (n : ℕ). total (length user) n fill) (ap length (wires-listed user list items e) ∙ wires-size user items ∙ sym s)
 
-  whole : written d list buffer ≡ put_whole limit payload buffer
+  whole : written d list buffer ≡ put_whole payload buffer
   unfolding written
-  whole = ap (outcome_by d buffer) e ∙ ap (λ (p : List ℕ). put_whole limit p buffer) (sym same)
+  whole = ap (outcome_by d buffer) e ∙ ap (λ (p : List ℕ). put_whole p buffer) (sym same)
 
-  pub room : fits limit (total (length user) size fill) (length buffer) ≡ true → (length payload ≤ 65535) × (length payload ≤ length buffer)
-  room f = let b = fits_both limit (total (length user) size fill) (length buffer) f in (omega (arith, b.0, long, limit-small addresses.version), omega (arith, b.1, long))
+  pub room : fits (total (length user) size fill) (length buffer) ≡ true → (length payload ≤ 65535) × (length payload ≤ length buffer)
+  room f = let b = fits_both (total (length user) size fill) (length buffer) f in (omega (arith, b.0, long), omega (arith, b.1, long))
 
-  by_size : (t : Bool) → fits limit (total (length user) size fill) (length buffer) ≡ t
+  by_size : (t : Bool) → fits (total (length user) size fill) (length buffer) ≡ t
       → written d list buffer ≡ cond t (put payload buffer) (untouched too_large buffer)
   unfolding put_whole
   by_size t f =
-      whole ∙ ap (λ (b : Bool). cond b (put payload buffer) (untouched too_large buffer)) (ap (λ (n : ℕ). fits limit n (length buffer)) long ∙ f)
+      whole ∙ ap (λ (b : Bool). cond b (put payload buffer) (untouched too_large buffer)) (ap (λ (n : ℕ). fits n (length buffer)) long ∙ f)
 
-  pub put-large : fits limit (total (length user) size fill) (length buffer) ≡ false → written d list buffer ≡ untouched too_large buffer
+  pub put-large : fits (total (length user) size fill) (length buffer) ≡ false → written d list buffer ≡ untouched too_large buffer
   put-large f = by_size false f
 
-  pub put-there : fits limit (total (length user) size fill) (length buffer) ≡ true → {exit : List ℕ} {end : ℕ} → Laid buffer 0 payload exit end
+  pub put-there : fits (total (length user) size fill) (length buffer) ≡ true → {exit : List ℕ} {end : ℕ} → Laid buffer 0 payload exit end
       → (given end ≡ (written d list buffer).answer) × (exit ≡ (written d list buffer).buffer)
   put-there f p =
       let l = laid-front p in

@@ -1,10 +1,8 @@
 -- What `write` answers and what it leaves in the buffer, by document 01: "Refusals leave the buffer alone: 7 docket unreadable, a field too wide or
 -- bytes left over; 9 kind 0, 1, 3 or 192 to 255 in a docket; 8 payload over 65,515 or over the buffer", and "Bytes behind the payload stay".
--- Over IPv6 the limit is 65,535 (document 02, R-5).
 use Rattle.std.specs.Prelude.{◌≡◌, Bool, cond, ◌&&◌, List, ◌++◌, ℕ, leb, length, drop}
 use Rattle.wire_options.specs.Walk.{Item}
-use Rattle.wire_addresses.specs.declared.Addresses.{Addresses}
-use Rattle.wire_addresses.specs.Addresses.{payload_limit}
+use Rattle.wire_reading.specs.Reading.{payload_limit}
 use Rattle.list_entry.specs.Option.{forbidden}
 use Rattle.list_encoding.specs.Encoding.{Answer, given, refused, unreadable, decoded_list}
 use Rattle.list_payload.specs.Payload.{Datagram, payload_of}
@@ -26,9 +24,9 @@ pub record Outcome : Type 0 where
   pub answer : Answer ℕ
   pub buffer : List ℕ
 
--- neither over the limit nor over the buffer
-unfoldable pub fits : ℕ → ℕ → ℕ → Bool
-fits limit size room = leb size limit && leb size room
+-- neither over 65,515 bytes nor over the buffer
+unfoldable pub fits : ℕ → ℕ → Bool
+fits size room = leb size payload_limit && leb size room
 
 abbrev pub put : List ℕ → List ℕ → Outcome
 put payload buffer = record { answer = given (length payload); buffer = payload ++ drop (length payload) buffer }
@@ -37,11 +35,11 @@ abbrev pub untouched : ℕ → List ℕ → Outcome
 untouched refusal buffer = record { answer = refused refusal; buffer = buffer }
 
 -- 8 comes last
-unfoldable pub put_whole : ℕ → List ℕ → List ℕ → Outcome
-put_whole limit payload buffer = cond (fits limit (length payload) (length buffer)) (put payload buffer) (untouched too_large buffer)
+unfoldable pub put_whole : List ℕ → List ℕ → Outcome
+put_whole payload buffer = cond (fits (length payload) (length buffer)) (put payload buffer) (untouched too_large buffer)
 
 abbrev pub outcome_by : (List Item → Datagram) → List ℕ → Answer (List Item) → Outcome
-outcome_by datagram buffer (given items) = put_whole (payload_limit (datagram items).addresses.version) (payload_of (datagram items)) buffer
+outcome_by datagram buffer (given items) = put_whole (payload_of (datagram items)) buffer
 outcome_by datagram buffer (refused refusal) = untouched refusal buffer
 
 -- what writing a datagram with the options of an encoded list comes to
@@ -49,9 +47,10 @@ unfoldable pub written : (List Item → Datagram) → (list buffer : List ℕ) �
 written datagram list buffer = outcome_by datagram buffer (decoded_list list)
 
 -- the arguments of `write`, with the options of the list
-abbrev pub datagram_for : Addresses → (source_port destination_port : ℕ) (user : List ℕ) (fill : ℕ) → List Item → Datagram
-datagram_for addresses source_port destination_port user fill items = record {
-  addresses = addresses;
+abbrev pub datagram_for : (source destination : List ℕ) (source_port destination_port : ℕ) (user : List ℕ) (fill : ℕ) → List Item → Datagram
+datagram_for source destination source_port destination_port user fill items = record {
+  source = source;
+  destination = destination;
   source_port = source_port;
   destination_port = destination_port;
   user = user;

@@ -1,3 +1,2 @@
--- `Answer` says what the writer answers and leaves, `Versions` the same of each IP version, written out.
+-- `Answer` says what the writer answers and leaves.
 pub mod Answer
-pub mod Versions

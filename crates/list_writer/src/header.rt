@@ -1,29 +1,29 @@
 // UDP header and user data, laid over the front of a buffer.
 ghost use Rattle.std.specs.Prelude.{[], ◌∷◌, ◌+◌, ◌≤◌, length, ◌≡◌};
 ghost use Rattle.number_octets.specs.Octets.{octets};
-ghost use Rattle.wire_addresses.specs.Addresses.{ipv4, pseudo_header, udp_sum};
+ghost use Rattle.wire_datagram.specs.Reading.{pseudo_header, udp_sum};
 ghost use Rattle.list_payload.specs.Payload.{datagram_with};
 ghost use Rattle.list_wire.specs.Parts.{Laid, plainly, summed};
 
 use number_offsets::UDP_HEADER;
-use wire_addresses::Addresses;
 
 // Where the checksum stands.
 const CHECKSUM: usize = 6;
 
 // Header and data, with the UDP checksum.
 pub fn put_datagram(
-    addresses: Addresses,
+    source: [u8; 4],
+    destination: [u8; 4],
     source_port: u16,
     destination_port: u16,
     data: &[u8],
     buffer: &mut [u8],
 )
     requires { (8 + length «data».now ≤ 65535) × (8 + length «data».now ≤ length buffer.old) }
-    ensures { Laid buffer.old 0 (summed (plainly addresses source_port destination_port «data».now))
+    ensures { Laid buffer.old 0 (summed (plainly source destination source_port destination_port «data».now))
         buffer.new (8 + length «data».now) }
 {
-    let sum = datagram_sum(addresses, source_port, destination_port, data);
+    let sum = datagram_sum(source, destination, source_port, destination_port, data);
     put_fields(
         source_port,
         destination_port,
@@ -35,14 +35,21 @@ pub fn put_datagram(
 
 // The sum over the pseudo-header and the datagram with a checksum of zero. It is taken from what is handed over: bytes that were just stored
 // would have to be waited for.
-fn datagram_sum(addresses: Addresses, source_port: u16, destination_port: u16, data: &[u8]) -> u16
+fn datagram_sum(
+    source: [u8; 4],
+    destination: [u8; 4],
+    source_port: u16,
+    destination_port: u16,
+    data: &[u8],
+) -> u16
     requires { 8 + length «data».now ≤ 65535 }
-    ensures { result ≡ udp_sum (pseudo_header addresses (8 + length «data».now))
-        (datagram_with (plainly addresses source_port destination_port «data».now) (0 ∷ 0 ∷ [])) }
+    ensures { result ≡ udp_sum (pseudo_header source destination (8 + length «data».now))
+        (datagram_with (plainly [] [] source_port destination_port «data».now) (0 ∷ 0 ∷ [])) }
 {
     let size = UDP_HEADER + data.len();
+    let pseudo = wire_datagram::reading::pseudo_sum(source, destination, size);
     let header = source_port as u64 + destination_port as u64 + size as u64;
-    wire_addresses::udp_sum(wire_addresses::address_sum(addresses), size, header, data)
+    number_checksum::add_block(pseudo + header, data, false)
 }
 
 // Header and data with a given checksum.
@@ -54,7 +61,7 @@ fn put_fields(
     buffer: &mut [u8],
 )
     requires { (8 + length «data».now ≤ 65535) × (8 + length «data».now ≤ length buffer.old) }
-    ensures { Laid buffer.old 0 (datagram_with (plainly (ipv4 [] []) source_port destination_port «data».now) (octets 2 checksum))
+    ensures { Laid buffer.old 0 (datagram_with (plainly [] [] source_port destination_port «data».now) (octets 2 checksum))
         buffer.new (8 + length «data».now) }
 {
     number_octets::put_u16(buffer, 0, source_port);

@@ -6,7 +6,7 @@ ghost use Rattle.list_wire.specs.Parts.{Laid, plainly, payload_from};
 use list_encoding::check;
 use list_encoding::check::Checked;
 use number_offsets::UDP_HEADER;
-use wire_addresses::Addresses;
+use wire_datagram::reading::PAYLOAD_LIMIT;
 
 mod header;
 
@@ -21,7 +21,8 @@ pub enum Written {
 
 // Writes a whole payload to the front of `buffer`: header, data, and an area with the options of the encoded list and `fill` zero bytes.
 pub fn write(
-    addresses: Addresses,
+    source: [u8; 4],
+    destination: [u8; 4],
     source_port: u16,
     destination_port: u16,
     data: &[u8],
@@ -30,17 +31,16 @@ pub fn write(
     buffer: &mut [u8],
 ) -> Written
     ensures { Wrote
-        (written (datagram_for addresses source_port destination_port «data».now fill) list.now buffer.old)
+        (written (datagram_for source destination source_port destination_port «data».now fill) list.now buffer.old)
         result buffer.new }
 {
     let checked = check::check(list);
     match checked {
         Checked::Sound { count: _, size } => {
-            let version = addresses.version;
-            let limit = wire_addresses::payload_limit(version);
-            if fits(limit, data.len(), size, fill, buffer.len()) {
+            if fits(data.len(), size, fill, buffer.len()) {
                 return Written::Payload(put_payload(
-                    addresses,
+                    source,
+                    destination,
                     source_port,
                     destination_port,
                     data,
@@ -57,18 +57,17 @@ pub fn write(
 }
 
 // Whether a payload with `data` bytes of user data and `options` bytes of options is neither over the limit nor over `room`.
-fn fits(limit: usize, data: usize, options: usize, fill: u8, room: usize) -> bool
-    requires { limit ≤ 65535 }
-    ensures { result ≡ fits limit (8 + «data» + («data» % 2 + 2 + (options + fill))) room }
+fn fits(data: usize, options: usize, fill: u8, room: usize) -> bool
+    ensures { result ≡ fits (8 + «data» + («data» % 2 + 2 + (options + fill))) room }
 {
-    if limit < data {
+    if PAYLOAD_LIMIT < data {
         return false;
     }
-    if limit < options {
+    if PAYLOAD_LIMIT < options {
         return false;
     }
     let total = UDP_HEADER + data + (data % 2 + 2 + (options + fill as usize));
-    if limit < total {
+    if PAYLOAD_LIMIT < total {
         return false;
     }
     total <= room
@@ -76,7 +75,8 @@ fn fits(limit: usize, data: usize, options: usize, fill: u8, room: usize) -> boo
 
 // A payload that fits, with the options of a list that can be read. The answer is its length.
 fn put_payload(
-    addresses: Addresses,
+    source: [u8; 4],
+    destination: [u8; 4],
     source_port: u16,
     destination_port: u16,
     data: &[u8],
@@ -84,16 +84,23 @@ fn put_payload(
     fill: u8,
     buffer: &mut [u8],
 ) -> usize
-    requires { (length (payload_from (plainly addresses source_port destination_port «data».now) list.now fill) ≤ 65535)
-        × (length (payload_from (plainly addresses source_port destination_port «data».now) list.now fill) ≤ length buffer.old) }
+    requires { (length (payload_from (plainly source destination source_port destination_port «data».now) list.now fill) ≤ 65535)
+        × (length (payload_from (plainly source destination source_port destination_port «data».now) list.now fill) ≤ length buffer.old) }
     ensures { Laid buffer.old 0
-        (payload_from (plainly addresses source_port destination_port «data».now) list.now fill)
+        (payload_from (plainly source destination source_port destination_port «data».now) list.now fill)
         buffer.new result }
 {
     let crc = list_wire::apc::crc_for(list, data);
     let size = UDP_HEADER + data.len();
     let end = list_area::put_blank(list, crc, fill, buffer, size);
-    header::put_datagram(addresses, source_port, destination_port, data, buffer);
+    header::put_datagram(
+        source,
+        destination,
+        source_port,
+        destination_port,
+        data,
+        buffer,
+    );
     list_area::put_ocs(buffer, size, end);
     end
 }

@@ -13,8 +13,8 @@ use Rattle.wire_step.specs.Step.{header_of, step_of}
 use Rattle.wire_options.specs.Walk.{walk_from, option_limit}
 use Rattle.wire_area.specs.Area.{area_of}
 use Rattle.wire_surplus.specs.Surplus.{start_of}
-use Rattle.wire_addresses.specs.Addresses.{payload_limit, padded, ipv4_header, pseudo_header}
-use Rattle.wire_datagram.specs.Reading.{accepted, reading}
+use Rattle.wire_datagram.specs.Reading.{pseudo_header, accepted, reading}
+use Rattle.wire_reading.specs.Reading.{payload_limit}
 use Rattle.program_text.specs.Digits.{digits_in, decimal_of}
 use Rattle.program_text.specs.Offsets.{at_offset}
 use Rattle.program_lines.specs.Lines.{numbers_of, option_line, option_lines}
@@ -36,5 +36,5 @@ line-1 =
 program-line-1 : text_of line-1
     ≡ 117 ∷ 115 ∷ 101 ∷ 114 ∷ 32 ∷ 48 ∷ 10 ∷ 118 ∷ 101 ∷ 114 ∷ 100 ∷ 105 ∷ 99 ∷ 116 ∷ 32 ∷ 114 ∷ 101 ∷ 97 ∷ 100 ∷ 10 ∷ 107 ∷ 105 ∷ 110 ∷ 100 ∷ 32 ∷ 54 ∷ 32 ∷ 51 ∷ 48 ∷ 48 ∷ 32 ∷ 97 ∷ 116 ∷ 32 ∷ 49 ∷ 48 ∷ 10 ∷ 102 ∷ 105 ∷ 108 ∷ 108 ∷ 32 ∷ 48 ∷ 10 ∷ []
 unfolding line-1 number udp_header word_sum folded class_of header_of step_of walk_from nops_of area_of option_limit start_of payload_limit first_of accepted reading
-    pseudo_header ipv4_header padded octets text_of report_of reading_text listing_of option_lines option_line at_offset number_line verdict_line numbers_of decimal_of digits_in
+    pseudo_header octets text_of report_of reading_text listing_of option_lines option_line at_offset number_line verdict_line numbers_of decimal_of digits_in
 program-line-1 = refl

@@ -15,8 +15,7 @@ use Rattle.number_octets.specs.Octets.{part}
 use Rattle.number_octets.proofs.Laws.{part-rest}
 use Rattle.number_offsets.specs.Offsets.{udp_header}
 use Rattle.wire_nops.specs.declared.Strictness.TheVariants.{Plain}
-use Rattle.wire_addresses.specs.declared.Version.TheVariants.{V4}
-use Rattle.wire_addresses.specs.Addresses.{payload_limit, ipv4}
+use Rattle.wire_reading.specs.Reading.{payload_limit}
 use Rattle.wire_datagram.proofs.Refusals.{refused-long}
 use Rattle.program_report.specs.Words.{refused_word}
 use Rattle.program_report.specs.Report.{number_line, answer_text, report_of}
@@ -87,10 +86,10 @@ input-long l h =
 
 -- ---- what need not be read
 
-too_long : (payload source destination : List ℕ) → udp_header ≤ length payload → payload_limit V4 < length payload
+too_long : (payload source destination : List ℕ) → udp_header ≤ length payload → payload_limit < length payload
     → report_of payload source destination ≡ number_line refused_word 2
 unfolding report_of
-too_long payload source destination g h = ap (answer_text payload) (refused-long Plain payload (ipv4 source destination) g h)
+too_long payload source destination g h = ap (answer_text payload) (refused-long Plain payload source destination g h)
 
 long-input : (l : List ℕ) → input_limit ≤ length l → text_of l ≡ number_line refused_word 2
 unfolding text_of input_limit udp_header payload_limit

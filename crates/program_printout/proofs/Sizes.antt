@@ -13,15 +13,13 @@ use lib.ListN.{length, take, drop, length-append, length-take, length-drop}
 use Rattle.number_tests.proofs.Tests.{first-none}
 use Rattle.number_offsets.specs.declared.PacketOffset.{PacketOffset}
 use Rattle.number_octets.specs.Octets.{number, part}
-use Rattle.wire_addresses.specs.declared.Version.TheVariants.{V4}
-use Rattle.wire_addresses.specs.Addresses.{payload_limit, ipv4}
 use Rattle.wire_nops.specs.declared.Strictness.TheVariants.{Plain}
 use Rattle.wire_step.specs.Kinds.{widths_of}
 use Rattle.wire_options.specs.Walk.{Item, Located, Walked, listed, faulty, walk_from, option_limit, options_of, offset_before}
 use Rattle.wire_options.proofs.Sizes.{body_sizes, walk-bounded}
 use Rattle.wire_reading.specs.Extents.{bytes_in, size_of}
 use Rattle.wire_datagram.specs.Reading.{Answer, refused, reads, reading}
-use Rattle.wire_reading.specs.Reading.{is_read}
+use Rattle.wire_reading.specs.Reading.{payload_limit, is_read}
 use Rattle.wire_reading.specs.Verdict.{fault_at}
 use Rattle.wire_reading.specs.declared.Extent.{Extent}
 use Rattle.wire_reading.specs.declared.Reading.{Reading}
@@ -205,16 +203,16 @@ reading-size payload r = go (is_read r.verdict)
         )
 
 -- a payload that is read is within the limit
-read-limit : (payload source destination : List ℕ) (r : Reading) → reading Plain payload (ipv4 source destination) ≡ reads r → length payload ≤ payload_limit V4
+read-limit : (payload source destination : List ℕ) (r : Reading) → reading Plain payload source destination ≡ reads r → length payload ≤ payload_limit
 read-limit payload source destination r e =
-    let none = (met-none Plain payload (ipv4 source destination) r e).0 in
-    ltb-false (payload_limit V4) (length payload) (first-none _ _ (first-none _ _ none).1).0
+    let none = (met-none Plain payload source destination r e).0 in
+    ltb-false payload_limit (length payload) (first-none _ _ (first-none _ _ none).1).0
 
 report-size : (payload source destination : List ℕ) → length (report_of payload source destination) ≤ text_limit
 unfolding report_of text_limit payload_limit
-report-size payload source destination = go (reading Plain payload (ipv4 source destination)) refl
+report-size payload source destination = go (reading Plain payload source destination) refl
   where
-    go : (answer : Answer) → reading Plain payload (ipv4 source destination) ≡ answer → length (answer_text payload answer) ≤ text_limit
+    go : (answer : Answer) → reading Plain payload source destination ≡ answer → length (answer_text payload answer) ≤ text_limit
     go (refused n) e = omega (arith, number_size refused_word n)
     go (reads r) e =
         let limit = read-limit payload source destination r e in omega (arith, reading-size payload r)

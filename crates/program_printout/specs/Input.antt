@@ -3,8 +3,7 @@
 use Rattle.std.specs.Prelude.{◌≡◌, cond, List, ◌++◌, ℕ, ◌+◌, ltb, length, take, drop}
 use Rattle.number_octets.specs.Octets.{part}
 use Rattle.wire_datagram.specs.Reading.{refusal_number}
-use Rattle.wire_addresses.specs.declared.Version.TheVariants.{V4}
-use Rattle.wire_addresses.specs.Addresses.{payload_limit}
+use Rattle.wire_reading.specs.Reading.{payload_limit}
 use Rattle.wire_datagram.specs.declared.reading.Refusal.TheVariants.{PayloadTooShort}
 use Rattle.program_report.specs.Words.{refused_word}
 use Rattle.program_report.specs.Report.{number_line, report_of}
@@ -16,9 +15,9 @@ address_size = 4
 abbrev pub addresses : ℕ
 addresses = address_size + address_size
 
--- the addresses, and one byte more than an IPv4 payload may have
+-- the addresses, and one byte more than a payload may have
 unfoldable pub input_limit : ℕ
-input_limit = addresses + (payload_limit V4 + 1)
+input_limit = addresses + (payload_limit + 1)
 
 -- what is printed of an input: source, destination and payload
 unfoldable pub text_of : List ℕ → List ℕ

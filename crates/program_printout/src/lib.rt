@@ -8,7 +8,7 @@ const ADDRESSES: usize = 8;
 // The refusal of a payload that is too short.
 const TOO_SHORT: usize = 1;
 
-// The addresses, and one byte more than an IPv4 payload may have.
+// The addresses, and one byte more than a payload may have.
 const INPUT_LIMIT: usize = 65524;
 
 // No report is longer.

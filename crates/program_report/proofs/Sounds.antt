@@ -6,7 +6,6 @@ use mathlib.Core.List.{List, ◌++◌, append-nil, []}
 use Prim.Native.Nat.{ℕ, ◌≤◌}
 use native.Mathlib.Omega.{arith}
 use lib.ListN.{length}
-use Rattle.wire_addresses.specs.declared.Addresses.{Addresses}
 use Rattle.wire_nops.specs.declared.Strictness.{Strictness}
 use Rattle.wire_options.specs.Walk.{walk_from, option_limit}
 use Rattle.wire_reading.specs.Extents.{size_of}
@@ -34,10 +33,10 @@ listable p r l =
       walks = ap (λ (x : List ℕ). is_listed (walk_from option_limit 0 x)) (lists-part p _ _ _ _ l) ∙ ap is_listed l.walks;
     }
 
-pub reading-sound : (how : Strictness) (p : List ℕ) (addresses : Addresses) (r : Reading) → reading how p addresses ≡ reads r → Sound p r
-reading-sound how p addresses r e = record {
-  user = subst⁻¹ (λ (x : Extent). x.from.0 ≤ x.to.0) (user-extent how p addresses r e) (in-range p addresses (met-none how p addresses r e).0).0;
-  options = λ q. listable p r (reading-lists how p addresses r e (read-verdict r.verdict q));
+pub reading-sound : (how : Strictness) (p s d : List ℕ) (r : Reading) → reading how p s d ≡ reads r → Sound p r
+reading-sound how p s d r e = record {
+  user = subst⁻¹ (λ (x : Extent). x.from.0 ≤ x.to.0) (user-extent how p s d r e) (in-range p s d (met-none how p s d r e).0).0;
+  options = λ q. listable p r (reading-lists how p s d r e (read-verdict r.verdict q));
 }
 
 -- ---- its text

@@ -1,6 +1,5 @@
 -- The report on a payload (document 01, "The program").
 use Rattle.std.specs.Prelude.{cond, List, [], ◌∷◌, ◌++◌, ℕ}
-use Rattle.wire_addresses.specs.Addresses.{ipv4}
 use Rattle.wire_nops.specs.declared.Strictness.TheVariants.{Plain}
 use Rattle.wire_options.specs.Walk.{walk_from, option_limit, options_of}
 use Rattle.wire_reading.specs.Extents.{size_of, bytes_in}
@@ -33,6 +32,6 @@ abbrev pub answer_text : List ℕ → Answer → List ℕ
 answer_text payload (refused number) = number_line refused_word number
 answer_text payload (reads reading) = reading_text payload reading
 
--- what is printed of an IPv4 payload between a source and a destination: "the small program is not strict" (document 02, R-6)
+-- what is printed of a payload between a source and a destination: "the small program is not strict" (document 02, R-6)
 unfoldable pub report_of : List ℕ → List ℕ → List ℕ → List ℕ
-report_of payload source destination = answer_text payload (reading Plain payload (ipv4 source destination))
+report_of payload source destination = answer_text payload (reading Plain payload source destination)

@@ -14,11 +14,7 @@ use wire_reading::{Extent, Reading};
 pub fn report(payload: &[u8], source: [u8; 4], destination: [u8; 4], text: &mut [u8]) -> usize
     ensures { Put text.old 0 (report_of payload.now source destination) result text.new }
 {
-    let outcome = reading::read(
-        payload,
-        wire_addresses::ipv4(source, destination),
-        Strictness::Plain,
-    );
+    let outcome = reading::read(payload, source, destination, Strictness::Plain);
     match outcome {
         Outcome::Refused(refusal) => program_text::put_line(
             b"refused ",
@@ -37,7 +33,6 @@ fn number_of(refusal: Refusal) -> usize
         Refusal::PayloadTooShort => 1,
         Refusal::PayloadTooLong => 2,
         Refusal::LengthOutOfRange => 3,
-        Refusal::ChecksumZero => 10,
         Refusal::ChecksumWrong => 4,
     }
 }

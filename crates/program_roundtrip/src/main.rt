@@ -18,15 +18,7 @@ fn main() {
     // An encoded option list: three options, APC, REQ with token 300, and kind 9 with a body of two bytes.
     let list = [3, 2, 6, 0xac, 0x02, 9, 2, 0xca, 0xfe];
     let mut buffer = [0u8; ROOM];
-    let written = list_writer::write(
-        wire_addresses::ipv4(source, destination),
-        4660,
-        53,
-        user,
-        &list,
-        1,
-        &mut buffer,
-    );
+    let written = list_writer::write(source, destination, 4660, 53, user, &list, 1, &mut buffer);
     match written {
         Written::Payload(length) => show(&buffer, length, source, destination),
         Written::Unreadable => say(b"refused 7\n"),
@@ -50,11 +42,7 @@ fn show(buffer: &[u8], length: usize, source: [u8; 4], destination: [u8; 4]) {
 }
 
 fn list(payload: &[u8], source: [u8; 4], destination: [u8; 4]) {
-    let outcome = reading::read(
-        payload,
-        wire_addresses::ipv4(source, destination),
-        Strictness::Plain,
-    );
+    let outcome = reading::read(payload, source, destination, Strictness::Plain);
     match outcome {
         Outcome::Accepted(reading) => list_back(payload, reading),
         Outcome::Refused(_) => say(b"nothing to list\n"),

@@ -8,7 +8,6 @@ use mathlib.Core.Option.{Option, none, some}
 use native.Mathlib.Omega.{arith}
 use lib.ListN.{length}
 use Rattle.number_offsets.specs.Offsets.{udp_header}
-use Rattle.wire_addresses.specs.declared.Addresses.{Addresses}
 use Rattle.wire_nops.specs.declared.Strictness.{Strictness}
 use Rattle.wire_area.specs.declared.Fragment.{Fragment}
 use Rattle.wire_datagram.specs.Reading.{reading, answer_of}
@@ -62,10 +61,10 @@ use Rattle.table_receiver.specs.Receive.{
 
 -- ---- what was found
 
-pub record Met (how : Strictness) (p : List ℕ) (addresses : Addresses) (f : Fragment) : Type 0 where
+pub record Met (how : Strictness) (p s d : List ℕ) (f : Fragment) : Type 0 where
   pub header : 4 ≤ length p
   pub within : Within p f
-  pub is : piece_in (reading how p addresses) ≡ some f
+  pub is : piece_in (reading how p s d) ≡ some f
 
 piece-verdict : (v : Verdict) (f : Fragment) → found_by (piece_of v) ≡ FoundFragment f → v ≡ Piece f
 piece-verdict Bare f e = absurd (let z : ◌≡◌ {A = ℕ} 0 1 = cc in omega arith)
@@ -86,19 +85,19 @@ none_found : (o : Option Fragment) → found_by o ≡ Other → o ≡ none
 none_found none e = refl
 none_found (some f) e = absurd (let z : ◌≡◌ {A = ℕ} 0 1 = cc in omega arith)
 
-module _ (how : Strictness) (p : List ℕ) (addresses : Addresses) where
-  pub met : (o : Outcome) (f : Fragment) → answer_of o ≡ reading how p addresses → found_in o ≡ FoundFragment f → Met how p addresses f
+module _ (how : Strictness) (p s d : List ℕ) where
+  pub met : (o : Outcome) (f : Fragment) → answer_of o ≡ reading how p s d → found_in o ≡ FoundFragment f → Met how p s d f
   unfolding udp_header
   met (Unread x) f a e = absurd (let z : ◌≡◌ {A = ℕ} 0 1 = cc in omega arith)
   met (Accepted r) f a e =
       let v = piece-verdict r.verdict f e in
       record {
-        header = let h = read-header how p addresses r (sym a) in omega (arith, h);
-        within = piece-within how p addresses r f (sym a) v;
+        header = let h = read-header how p s d r (sym a) in omega (arith, h);
+        within = piece-within how p s d r f (sym a) v;
         is = ap piece_in (sym a) ∙ ap piece_of v;
       }
 
-  pub met-other : (o : Outcome) → answer_of o ≡ reading how p addresses → found_in o ≡ Other → piece_in (reading how p addresses) ≡ none
+  pub met-other : (o : Outcome) → answer_of o ≡ reading how p s d → found_in o ≡ Other → piece_in (reading how p s d) ≡ none
   met-other (Unread x) a e = ap piece_in (sym a)
   met-other (Accepted r) a e = ap piece_in (sym a) ∙ none_found (piece_of r.verdict) e
 
@@ -118,12 +117,12 @@ pub other-leaves : (k : ℕ) (p : Packet) (out : List ℕ) (t : Table) (o : Outc
     → fate_in r ≡ fate_of (answer_of o) → Leaves (receive_on k p out t) r t.records t.store out
 other-leaves k p out t o r a e q =
     subst (λ (x : Receipt). Leaves x r t.records t.store out)
-    (sym (not-received k p out t (met-other p.strictness p.payload p.addresses o a e)))
+    (sym (not-received k p out t (met-other p.strictness p.payload p.source p.destination o a e)))
     (record { answers = q ∙ ap fate_of a; records_left = refl; store_left = refl; out_left = refl })
 
 pub fragment-leaves : (k : ℕ) (p : Packet) (out : List ℕ) (t : Table) (f : Fragment) (arrival : Arrival) (answer : Answer)
     (records : List Client) (store out' : List ℕ) (r : Received)
-    → piece_in (reading_of p) ≡ some f → arrival ≡ arrival_of p.payload p.addresses p.time f
+    → piece_in (reading_of p) ≡ some f → arrival ≡ arrival_of p.payload p.source p.destination p.time f
     → Table.Leaves (ask_on k (offering arrival (bytes_of p.payload f) out) t) answer records store out' → r ≡ Offered answer
     → Leaves (receive_on k p out t) r records store out'
 fragment-leaves k p out t f arrival answer records store out' r e ar l q =

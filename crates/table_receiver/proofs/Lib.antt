@@ -2,4 +2,3 @@ pub mod Facts
 pub mod ClientKind
 pub mod Lent
 pub mod Packets
-pub mod Versions

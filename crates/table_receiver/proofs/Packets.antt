@@ -193,7 +193,7 @@ module _ (t : Table) (cs : List Call) (terms : Terms t (all_events cs)) (k : ℕ
         ↔ (Taken (lent_of (table_after t cs)) k (offer_in p f) (length out) (book_from k t cs) × Whole (assembled (offer_in p f) (book_from k t cs)) n r)
     delivered-when n r =
         let both =
-        demand-3.delivery t (all_events cs) terms k (arrival_of p.payload p.addresses p.time f) (bytes_of p.payload f) out n r in
+        demand-3.delivery t (all_events cs) terms k (arrival_of p.payload p.source p.destination p.time f) (bytes_of p.payload f) out n r in
         let there = both.0 in
         let back = both.1 in (
           λ d.
@@ -209,7 +209,7 @@ module _ (t : Table) (cs : List Call) (terms : Terms t (all_events cs)) (k : ℕ
         → (receive_on k p out (table_after t cs)).out ≡ handed (assembled (offer_in p f) (book_from k t cs)) n out
     bytes-delivered n r d =
         out-is
-        ∙ demand-3.delivered_bytes t (all_events cs) terms k (arrival_of p.payload p.addresses p.time f)
+        ∙ demand-3.delivered_bytes t (all_events cs) terms k (arrival_of p.payload p.source p.destination p.time f)
         (bytes_of p.payload f) out n r (reply-of (delivered n r) d)
 
     placed-each : (n r : ℕ) → (receive_on k p out (table_after t cs)).fate ≡ offered (delivered n r)
@@ -217,7 +217,7 @@ module _ (t : Table) (cs : List Call) (terms : Terms t (all_events cs)) (k : ℕ
         → part g.place (size g) (receive_on k p out (table_after t cs)).out ≡ g.bytes
     placed-each n r d before g behind same =
         ap (part g.place (size g)) out-is
-        ∙ demand-3.placed t (all_events cs) terms k (arrival_of p.payload p.addresses p.time f) (bytes_of p.payload f) out n r
+        ∙ demand-3.placed t (all_events cs) terms k (arrival_of p.payload p.source p.destination p.time f) (bytes_of p.payload f) out n r
         (reply-of (delivered n r) d) before g behind same
 
   left_alone : ((n r : ℕ) → (receive_on k p out (table_after t cs)).fate ≡ offered (delivered n r) → ⊥) → (receive_on k p out (table_after t cs)).out ≡ out
@@ -227,7 +227,7 @@ module _ (t : Table) (cs : List Call) (terms : Terms t (all_events cs)) (k : ℕ
       go none e = ap (λ (x : Receipt). x.out) (not-received k p out (table_after t cs) e)
       go (some f) e =
           out-is f e
-          ∙ demand-3.untouched t (all_events cs) terms k (arrival_of p.payload p.addresses p.time f) (bytes_of p.payload f) out
+          ∙ demand-3.untouched t (all_events cs) terms k (arrival_of p.payload p.source p.destination p.time f) (bytes_of p.payload f) out
           (λ n r d. never n r (fate-is f e ∙ ap offered d))
 
   never_22 : (receive_on k p out (table_after t cs)).fate ≡ offered (refused 22) → ⊥

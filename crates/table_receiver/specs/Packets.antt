@@ -112,7 +112,7 @@ book_from k t cs = book_after k t (all_events cs)
 
 -- the fragment of a packet as the book has it
 abbrev pub offer_in : Packet → Fragment → Offer
-offer_in p f = Stands.offer_of (arrival_of p.payload p.addresses p.time f) (bytes_of p.payload f)
+offer_in p f = Stands.offer_of (arrival_of p.payload p.source p.destination p.time f) (bytes_of p.payload f)
 
 pub record OverPayloads : Type 0 where
   -- a datagram that is no fragment leaves every record, the store and out as they were

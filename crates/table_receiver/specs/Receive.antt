@@ -2,8 +2,6 @@
 use Rattle.std.specs.Prelude.{ℕ, ◌-◌, ◌≡◌, List}
 use Rattle.std.proofs.Math.Option.{Option, none, some}
 use Rattle.number_octets.specs.Octets.{number, part}
-use Rattle.wire_addresses.specs.declared.Addresses.{Addresses}
-use Rattle.wire_addresses.specs.Addresses.{version_number}
 use Rattle.wire_nops.specs.declared.Strictness.{Strictness}
 use Rattle.wire_area.specs.declared.Fragment.{Fragment}
 use Rattle.wire_reading.specs.Verdict.{verdict_says}
@@ -32,43 +30,38 @@ abbrev pub piece_in : Answer → Option Fragment
 piece_in (Reading.refused n) = none
 piece_in (Reading.reads r) = piece_of r.verdict
 
-abbrev pub with_ports : Addresses → ℕ → Fragment → ℕ → ℕ → Arrival
-with_ports addresses time f from to = record {
+abbrev pub with_ports : List ℕ → List ℕ → ℕ → Fragment → ℕ → ℕ → Arrival
+with_ports source destination time f from to = record {
   time = time;
-  flow = record {
-    source = addresses.source;
-    destination = addresses.destination;
-    source_port = from;
-    destination_port = to;
-    version = version_number addresses.version;
-  };
+  flow = record { source = source; destination = destination; source_port = from; destination_port = to };
   identification = f.identification;
   offset = f.place;
   option_start = f.option_start;
   last = f.last;
 }
 
--- a fragment as the table takes it: its flow is the addresses, the ports of the UDP header and the version
-abbrev pub arrival_of : List ℕ → Addresses → ℕ → Fragment → Arrival
-arrival_of payload addresses time f = with_ports addresses time f (number (part 0 2 payload)) (number (part 2 2 payload))
+-- a fragment as the table takes it: its flow is the addresses and the ports of the UDP header
+abbrev pub arrival_of : List ℕ → List ℕ → List ℕ → ℕ → Fragment → Arrival
+arrival_of payload source destination time f = with_ports source destination time f (number (part 0 2 payload)) (number (part 2 2 payload))
 
 -- its bytes
 abbrev pub bytes_of : List ℕ → Fragment → List ℕ
 bytes_of payload f = part f.start.0 (f.end.0 - f.start.0) payload
 
--- a datagram as it arrives, over IPv4 or IPv6, and how it is to be read
+-- a datagram as it arrives, and how it is to be read
 pub record Packet : Type 0 where
   pub time : ℕ
-  pub addresses : Addresses
+  pub source : List ℕ
+  pub destination : List ℕ
   pub strictness : Strictness
   pub payload : List ℕ
 
 abbrev pub reading_of : Packet → Answer
-reading_of p = reading p.strictness p.payload p.addresses
+reading_of p = reading p.strictness p.payload p.source p.destination
 
 -- the fragment call that a packet makes
 abbrev pub offer_of : Packet → Fragment → List ℕ → Ask
-offer_of p f out = offering (arrival_of p.payload p.addresses p.time f) (bytes_of p.payload f) out
+offer_of p f out = offering (arrival_of p.payload p.source p.destination p.time f) (bytes_of p.payload f) out
 
 -- what became of it: refused by the reader, a datagram of its own, or a fragment with the table's answer
 pub data Fate : Type 0 where

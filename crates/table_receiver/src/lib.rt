@@ -6,7 +6,6 @@ ghost use Rattle.table_receiver.specs.Receive.{piece_of, arrival_of, fate_of, fo
 
 use client_reassembly::{Answer, Arrival};
 use client_record::{Client, Flow};
-use wire_addresses::Addresses;
 use wire_datagram::reading;
 use wire_datagram::reading::{Outcome, Refusal};
 use wire_nops::Strictness;
@@ -15,7 +14,7 @@ use wire_reading::{Reading, Verdict};
 // What became of a datagram.
 #[derive(Drop)]
 pub enum Received {
-    // It is no datagram: the reader's refusals, 1 to 4 and 10.
+    // It is no datagram: document 01's refusals 1 to 4.
     Refused(Refusal),
     // A datagram of its own. Its user data is in the payload, where the reading says.
     Datagram(Reading),
@@ -75,22 +74,19 @@ fn other(outcome: Outcome) -> Received
 // The fragment as the table takes it.
 fn arrival_of(
     payload: &[u8],
-    addresses: Addresses,
+    source: [u8; 4],
+    destination: [u8; 4],
     time: u64,
     fragment: wire_area::Fragment,
 ) -> Arrival
     requires { 4 ≤ length payload.now }
-    ensures { result ≡ arrival_of payload.now addresses time fragment }
+    ensures { result ≡ arrival_of payload.now source destination time fragment }
 {
-    let version = addresses.version;
-    let source = addresses.source;
-    let destination = addresses.destination;
     let flow = Flow {
         source: source,
         destination: destination,
         source_port: number_octets::get_u16(payload, 0),
         destination_port: number_octets::get_u16(payload, 2),
-        version: wire_addresses::number_of(version),
     };
     let place = fragment.place;
     let option_start = fragment.option_start;
@@ -117,19 +113,20 @@ pub fn receive(
     store: &mut [u8],
     k: usize,
     time: u64,
-    addresses: Addresses,
+    source: [u8; 4],
+    destination: [u8; 4],
     strictness: Strictness,
     payload: &[u8],
     out: &mut [u8],
 ) -> Received
-    ensures { Leaves (receive_on k (record { time = time; addresses = addresses; strictness = strictness; payload = payload.now }) out.old (table_of records.old store.old)) result records.new store.new out.new }
+    ensures { Leaves (receive_on k (record { time = time; source = source; destination = destination; strictness = strictness; payload = payload.now }) out.old (table_of records.old store.old)) result records.new store.new out.new }
 {
-    let outcome = reading::read(payload, addresses, strictness);
+    let outcome = reading::read(payload, source, destination, strictness);
     let piece = look(outcome);
     match piece {
         Found::Other => other(outcome),
         Found::Fragment(fragment) => {
-            let arrival = arrival_of(payload, addresses, time, fragment);
+            let arrival = arrival_of(payload, source, destination, time, fragment);
             let start = fragment.start.0;
             let end = fragment.end.0;
             let answer = table_calls::offer(records, store, k, arrival, &payload[start..end], out);

@@ -6,7 +6,6 @@ use Prim.Native.Nat.{ℕ, ◌+◌}
 use lib.Dec.{eqb}
 use lib.ListN.{drop}
 use Rattle.number_offsets.specs.declared.PacketOffset.{PacketOffset}
-use Rattle.wire_addresses.specs.declared.Addresses.{Addresses}
 use Rattle.wire_nops.specs.declared.Strictness.{Strictness}
 use Rattle.wire_options.specs.declared.walk.Fault.{Fault}
 use Rattle.wire_area.specs.Area.{fault, area_of}
@@ -28,10 +27,10 @@ pub record ListFaults (how : Strictness) (p : List ℕ) (x : Fault) (there : Pac
   pub starts : ListStarts p at
   pub faults : area_of how (no_data (udp_length p)) (udp_length p + at) (drop (udp_length p + at) p) ≡ fault x there
 
-pub reading-fault : (how : Strictness) (p : List ℕ) (x : Fault) (there : PacketOffset) (addresses : Addresses) (r : Reading) → reading how p addresses ≡ reads r
+pub reading-fault : (how : Strictness) (p : List ℕ) (x : Fault) (there : PacketOffset) (s d : List ℕ) (r : Reading) → reading how p s d ≡ reads r
     → r.verdict ≡ verdict_of x there → ListFaults how p x there
 unfolding accepted
-reading-fault how p x there addresses r e v =
+reading-fault how p x there s d r e v =
     let f = started-fault how p (udp_length p) x there (start_of (is_odd (udp_length p)) (eqb (udp_checksum p) 0) (drop (udp_length p) p))
-    (ap (λ (y : Reading). fault_in y.verdict) (met-none how p addresses r e).1 ∙ ap fault_in v ∙ fault-named x there) in
+    (ap (λ (y : Reading). fault_in y.verdict) (met-none how p s d r e).1 ∙ ap fault_in v ∙ fault-named x there) in
     record { at = f.at; starts = f.starts; faults = f.faults }

@@ -1,5 +1,4 @@
 pub mod Claims
-pub mod Examples
 pub mod Faults
 pub mod Lists
 pub mod Offsets
@@ -7,6 +6,6 @@ pub mod Paddings
 pub mod Pieces
 pub mod Refusals
 pub mod Stricts
+pub mod Sums
 pub mod Survival
 pub mod Tails
-pub mod Versions

@@ -15,7 +15,6 @@ use Rattle.number_octets.proofs.Laws.{length_part}
 use Rattle.number_offsets.specs.Offsets.{udp_header}
 use Rattle.number_offsets.specs.declared.PacketOffset.{PacketOffset}
 use Rattle.wire_nops.specs.Nops.{nops_of}
-use Rattle.wire_addresses.specs.declared.Addresses.{Addresses}
 use Rattle.wire_nops.specs.declared.Strictness.{Strictness}
 use Rattle.wire_options.specs.Walk.{faulty, option_limit}
 use Rattle.wire_options.specs.Strict.{walk_by}
@@ -148,12 +147,12 @@ module _ (how : Strictness) (p : List ℕ) (x : Fault) (from : ℕ) (at : Packet
   met_at : AreaFault how (no_data (udp_length p)) x from l at → Met
   met_at c = ⊎_elim of-walk (λ d. ⊎_elim of-piece of-frag d) c
 
-pub fault-offset : (how : Strictness) (p : List ℕ) (addresses : Addresses) (r : Reading) (x : Fault) (at : PacketOffset) → reading how p addresses ≡ reads r
+pub fault-offset : (how : Strictness) (p s d : List ℕ) (r : Reading) (x : Fault) (at : PacketOffset) → reading how p s d ≡ reads r
     → r.verdict ≡ verdict_of x at → FaultInList how p x at
-fault-offset how p addresses r x at e v =
-    let f = reading-fault how p x at addresses r e v in
+fault-offset how p s d r x at e v =
+    let f = reading-fault how p x at s d r e v in
     let from : ℕ = udp_length p + f.at in
-    let range = in-range p addresses (met-none how p addresses r e).0 in
+    let range = in-range p s d (met-none how p s d r e).0 in
     let m = met_at how p x from at range.0 (area-cause how (no_data (udp_length p)) from (drop from p) x at f.faults) in
     record {
       into = f.at;
@@ -202,18 +201,18 @@ pub no-offset : (v : Verdict) (at : PacketOffset)
 no-offset v at = (λ e. beside (fault_in v) at (sym (both v).0 ∙ e), λ x e. (both v).0 ∙ ap placed e)
 
 -- so every offset that a reading carries names a byte of its option list
-pub offset-names : (how : Strictness) (p : List ℕ) (addresses : Addresses) (r : Reading) (at : PacketOffset) → reading how p addresses ≡ reads r → fault_at r.verdict ≡ some at
+pub offset-names : (how : Strictness) (p s d : List ℕ) (r : Reading) (at : PacketOffset) → reading how p s d ≡ reads r → fault_at r.verdict ≡ some at
     → (x : Fault) × (r.verdict ≡ verdict_of x at) × FaultInList how p x at
-offset-names how p addresses r at e o =
+offset-names how p s d r at e o =
     let f = (no-offset r.verdict at).0 o in
     let v : r.verdict ≡ verdict_of f.0 at = (both r.verdict).1 ∙ ap (named r.verdict) f.1 in
-    (f.0, v, fault-offset how p addresses r f.0 at e v)
+    (f.0, v, fault-offset how p s d r f.0 at e v)
 
 -- ---- options
 
 -- with "read" each option of the list stands at its offset, before the fill, and ends before every later one starts
-pub option-offsets : (how : Strictness) (p : List ℕ) (addresses : Addresses) (r : Reading) → reading how p addresses ≡ reads r → r.verdict ≡ Read
+pub option-offsets : (how : Strictness) (p s d : List ℕ) (r : Reading) → reading how p s d ≡ reads r → r.verdict ≡ Read
     → (lists : ListsIn p r) × OptionsFrom p r.options.from.0 r.fill lists.found
-option-offsets how p addresses r e v =
-    let lists = reading-lists how p addresses r e v in
+option-offsets how p s d r e v =
+    let lists = reading-lists how p s d r e v in
     (lists, options-from p r.options.from.0 option_limit lists.found r.fill lists.walks)

@@ -9,7 +9,6 @@ use Prim.Native.Nat.{ℕ, ◌+◌}
 use native.Mathlib.Omega.{arith}
 use lib.ListN.{length, drop}
 use Rattle.number_offsets.specs.declared.PacketOffset.{PacketOffset}
-use Rattle.wire_addresses.specs.declared.Addresses.{Addresses}
 use Rattle.wire_nops.specs.declared.Strictness.{Strictness}
 use Rattle.wire_nops.specs.declared.Strictness.TheVariants.{Plain, Strict}
 use Rattle.wire_options.specs.Walk.{option_limit}
@@ -29,13 +28,13 @@ pub record ReadPadding (p : List ℕ) (there : PacketOffset) : Type 0 where
   pub cause : (PaddingIn option_limit (udp_length p + at + length (drop (udp_length p + at) p)) (drop (udp_length p + at) p) there)
       ⊎ ((no_data (udp_length p) ≡ true) × PiecePadding (udp_length p + at) (drop (udp_length p + at) p) there)
 
-pub reading-padded : (how : Strictness) (p : List ℕ) (addresses : Addresses) (r : Reading) (there : PacketOffset) → reading how p addresses ≡ reads r → r.verdict ≡ Padded there
+pub reading-padded : (how : Strictness) (p s d : List ℕ) (r : Reading) (there : PacketOffset) → reading how p s d ≡ reads r → r.verdict ≡ Padded there
     → (how ≡ Strict) × ReadPadding p there
-reading-padded how p addresses r there e v =
-    let f = reading-fault how p padded_list there addresses r e v in
+reading-padded how p s d r there e v =
+    let f = reading-fault how p padded_list there s d r e v in
     let from : ℕ = udp_length p + f.at in
     let c = area-padded how (no_data (udp_length p)) from (drop from p) there f.faults in
     (c.0, record { at = f.at; starts = f.starts; cause = c.1 })
 
-pub plain-not-padded : (p : List ℕ) (addresses : Addresses) (r : Reading) (there : PacketOffset) → reading Plain p addresses ≡ reads r → r.verdict ≡ Padded there → ⊥
-plain-not-padded p addresses r there e v = let c : Plain ≡ Strict = (reading-padded Plain p addresses r there e v).0 in let z : ◌≡◌ {A = ℕ} 0 1 = cc in omega arith
+pub plain-not-padded : (p s d : List ℕ) (r : Reading) (there : PacketOffset) → reading Plain p s d ≡ reads r → r.verdict ≡ Padded there → ⊥
+plain-not-padded p s d r there e v = let c : Plain ≡ Strict = (reading-padded Plain p s d r there e v).0 in let z : ◌≡◌ {A = ℕ} 0 1 = cc in omega arith

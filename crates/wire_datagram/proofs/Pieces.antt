@@ -6,7 +6,6 @@ use Prim.Native.Nat.{ℕ, ◌+◌, ◌≤◌}
 use native.Mathlib.Omega.{arith}
 use lib.ListN.{length, drop, length-drop}
 use Rattle.number_offsets.specs.Offsets.{udp_header}
-use Rattle.wire_addresses.specs.declared.Addresses.{Addresses}
 use Rattle.wire_nops.specs.declared.Strictness.{Strictness}
 use Rattle.wire_area.specs.Area.{piece}
 use Rattle.wire_area.specs.declared.Fragment.{Fragment}
@@ -22,9 +21,9 @@ pub record Within (p : List ℕ) (f : Fragment) : Type 0 where
   pub starts : f.start.0 ≤ length p
   pub ends : f.end.0 ≡ length p
 
-pub piece-within : (how : Strictness) (p : List ℕ) (addresses : Addresses) (r : Reading) (f : Fragment) → reading how p addresses ≡ reads r → r.verdict ≡ Piece f → Within p f
-piece-within how p addresses r f e =
-    reading-by how (λ x. x.verdict ≡ Piece f → Within p f) p addresses r e
+pub piece-within : (how : Strictness) (p s d : List ℕ) (r : Reading) (f : Fragment) → reading how p s d ≡ reads r → r.verdict ≡ Piece f → Within p f
+piece-within how p s d r f e =
+    reading-by how (λ x. x.verdict ≡ Piece f → Within p f) p s d r e
     (λ end verdict o v. absurd (subst Other v o))
     (λ from options fill h w v. absurd (let z : ◌≡◌ {A = ℕ} 0 1 = cc in omega arith))
     (λ from g h a v.
@@ -34,7 +33,7 @@ piece-within how p addresses r f e =
     record { starts = subst (λ (m : ℕ). f.start.0 ≤ m) n b.starts; ends = b.ends ∙ n })
 
 -- a payload that is read has a whole header
-pub read-header : (how : Strictness) (p : List ℕ) (addresses : Addresses) (r : Reading) → reading how p addresses ≡ reads r → udp_header ≤ length p
-read-header how p addresses r e =
-    let range = in-range p addresses (met-none how p addresses r e).0 in
+pub read-header : (how : Strictness) (p s d : List ℕ) (r : Reading) → reading how p s d ≡ reads r → udp_header ≤ length p
+read-header how p s d r e =
+    let range = in-range p s d (met-none how p s d r e).0 in
     omega (arith, range.0, range.1)

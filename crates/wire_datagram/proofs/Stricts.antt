@@ -9,7 +9,6 @@ use lib.Dec.{eqb}
 use lib.ListN.{drop}
 use Rattle.number_tests.specs.Tests.{first_of}
 use Rattle.number_offsets.specs.declared.PacketOffset.{PacketOffset}
-use Rattle.wire_addresses.specs.declared.Addresses.{Addresses}
 use Rattle.wire_nops.specs.declared.Strictness.{Strictness}
 use Rattle.wire_nops.specs.declared.Strictness.TheVariants.{Plain}
 use Rattle.wire_surplus.specs.Surplus.{start_of}
@@ -31,9 +30,9 @@ module _ (how : Strictness) (p : List ℕ) where
   unfolding accepted
   accepted-or-plain = started-or-plain how p (udp_length p) (start_of (is_odd (udp_length p)) (eqb (udp_checksum p) 0) (drop (udp_length p) p))
 
-  pub reading-or-plain : (addresses : Addresses) → ((at : PacketOffset) × (reading how p addresses ≡ reads (padded at))) ⊎ (reading how p addresses ≡ reading Plain p addresses)
+  pub reading-or-plain : (s d : List ℕ) → ((at : PacketOffset) × (reading how p s d ≡ reads (padded at))) ⊎ (reading how p s d ≡ reading Plain p s d)
   unfolding reading
-  reading-or-plain addresses = go (first_of (refusal_tests p addresses)) accepted-or-plain
+  reading-or-plain s d = go (first_of (refusal_tests p s d)) accepted-or-plain
     where
       go : (o : Option ℕ) → OrPlain (accepted how p) (accepted Plain p)
           → ((at : PacketOffset) × (answered o (accepted how p) ≡ reads (padded at))) ⊎ (answered o (accepted how p) ≡ answered o (accepted Plain p))

@@ -7,7 +7,6 @@ use mathlib.Core.Logic.{◌⊎◌}
 use Prim.Native.Nat.{ℕ, ◌+◌}
 use lib.ListN.{length, drop}
 use Rattle.number_offsets.specs.declared.PacketOffset.{PacketOffset}
-use Rattle.wire_addresses.specs.declared.Addresses.{Addresses}
 use Rattle.wire_nops.specs.declared.Strictness.{Strictness}
 use Rattle.wire_options.specs.Walk.{option_limit}
 use Rattle.wire_options.specs.declared.walk.Fault.TheVariants.{Tail as tailed}
@@ -25,9 +24,9 @@ pub record ReadTail (p : List ℕ) (there : PacketOffset) : Type 0 where
   pub cause : (TailIn option_limit (udp_length p + at + length (drop (udp_length p + at) p)) (drop (udp_length p + at) p) there)
       ⊎ ((no_data (udp_length p) ≡ true) × PieceTail (udp_length p + at) (drop (udp_length p + at) p) there)
 
-pub reading-tail : (how : Strictness) (p : List ℕ) (addresses : Addresses) (r : Reading) (there : PacketOffset) → reading how p addresses ≡ reads r → r.verdict ≡ Tail there
+pub reading-tail : (how : Strictness) (p s d : List ℕ) (r : Reading) (there : PacketOffset) → reading how p s d ≡ reads r → r.verdict ≡ Tail there
     → ReadTail p there
-reading-tail how p addresses r there e v =
-    let f = reading-fault how p tailed there addresses r e v in
+reading-tail how p s d r there e v =
+    let f = reading-fault how p tailed there s d r e v in
     let from : ℕ = udp_length p + f.at in
     record { at = f.at; starts = f.starts; cause = area-tail how (no_data (udp_length p)) from (drop from p) there f.faults }

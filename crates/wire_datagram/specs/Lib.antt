@@ -1,3 +1,3 @@
 pub mod Reading
 pub mod Parts
-pub mod Versions
+pub mod Sums

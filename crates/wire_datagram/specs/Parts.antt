@@ -1,15 +1,9 @@
--- The reading and the outcome that parts stand for, and what an examination answers.
-use Rattle.std.specs.Prelude.{◌≡◌, List, ℕ}
-use Rattle.wire_addresses.specs.declared.Addresses.{Addresses}
-use Rattle.wire_addresses.specs.declared.Version.{Version}
-use Rattle.wire_addresses.specs.Addresses.{StandsFor}
-use Rattle.wire_nops.specs.declared.Strictness.{Strictness}
+-- The reading and the outcome that parts stand for.
 use Rattle.wire_datagram.specs.declared.parts.Examined.{Examined}
 use Rattle.wire_datagram.specs.declared.parts.Examined.TheVariants.{Refused as refused_parts, Accepted as accepted_parts}
 use Rattle.wire_datagram.specs.declared.parts.Parts.{Parts}
 use Rattle.wire_datagram.specs.declared.reading.Outcome.{Outcome}
 use Rattle.wire_datagram.specs.declared.reading.Outcome.TheVariants.{Refused, Accepted}
-use Rattle.wire_datagram.specs.Reading.{reading, answer_of}
 use Rattle.wire_reading.specs.declared.Reading.{Reading}
 
 abbrev pub gathered : Parts → Reading
@@ -25,7 +19,3 @@ gathered p = record {
 abbrev pub outcome_of : Examined → Outcome
 outcome_of (refused_parts refusal) = Refused refusal
 outcome_of (accepted_parts parts) = Accepted (gathered parts)
-
--- what is examined is read the same between all addresses of this version for which `words` stands
-pub record Examines (how : Strictness) (payload : List ℕ) (version : Version) (words : ℕ) (r : Examined) : Type 0 where
-  pub reads : (addresses : Addresses) → addresses.version ≡ version → StandsFor words addresses → answer_of (outcome_of r) ≡ reading how payload addresses

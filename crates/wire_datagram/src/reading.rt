@@ -1,21 +1,26 @@
 // The reading of a payload: refusals in order, and what `wire_reading` says of a payload that none meets.
-ghost use Rattle.std.specs.Prelude.{◌≡◌, ◌≤◌};
-ghost use Rattle.wire_datagram.specs.Reading.{reading, answer_of};
-ghost use Rattle.wire_datagram.specs.Parts.{Examines};
+ghost use Rattle.std.specs.Prelude.{◌≡◌, ◌≤◌, length};
+ghost use Rattle.wire_datagram.specs.Reading.{pseudo_header, udp_sum, reading, answer_of};
+ghost use Rattle.wire_datagram.specs.Parts.{outcome_of};
+ghost use Rattle.wire_datagram.specs.Sums.{Begins};
 
 use crate::parts;
 use crate::parts::Examined;
 use number_offsets::UDP_HEADER;
-use wire_addresses::{Addresses, Version};
 use wire_nops::Strictness;
 use wire_reading::Reading;
+
+// An IPv4 packet of 65,535 bytes less its header.
+pub const PAYLOAD_LIMIT: usize = 65515;
+
+// UDP's protocol number.
+const UDP: u64 = 17;
 
 #[derive(Drop)]
 pub enum Refusal {
     PayloadTooShort,
     PayloadTooLong,
     LengthOutOfRange,
-    ChecksumZero,
     ChecksumWrong,
 }
 
@@ -25,24 +30,31 @@ pub enum Outcome {
     Accepted(Reading),
 }
 
-// Reads one payload.
-pub fn read(payload: &[u8], addresses: Addresses, strictness: Strictness) -> Outcome
-    ensures { answer_of result ≡ reading strictness payload.now addresses }
+// Reads one IPv4 payload.
+pub fn read(
+    payload: &[u8],
+    source: [u8; 4],
+    destination: [u8; 4],
+    strictness: Strictness,
+) -> Outcome
+    ensures { answer_of result ≡ reading strictness payload.now source destination }
 {
-    let version = addresses.version;
-    let words = wire_addresses::address_sum(addresses);
-    parts::outcome_of(examine(payload, version, words, strictness))
+    parts::outcome_of(examine(payload, source, destination, strictness))
 }
 
-// The same, in parts, between addresses for which `words` stands.
-pub fn examine(payload: &[u8], version: Version, words: u64, strictness: Strictness) -> Examined
-    requires { words ≤ 34359738360 }
-    ensures { Examines strictness payload.now version words result }
+// The same, in parts.
+pub fn examine(
+    payload: &[u8],
+    source: [u8; 4],
+    destination: [u8; 4],
+    strictness: Strictness,
+) -> Examined
+    ensures { answer_of (outcome_of result) ≡ reading strictness payload.now source destination }
 {
     if payload.len() < UDP_HEADER {
         return Examined::Refused(Refusal::PayloadTooShort);
     }
-    if wire_addresses::payload_limit(version) < payload.len() {
+    if PAYLOAD_LIMIT < payload.len() {
         return Examined::Refused(Refusal::PayloadTooLong);
     }
     let size = number_octets::get_u16(payload, 4) as usize;
@@ -53,13 +65,8 @@ pub fn examine(payload: &[u8], version: Version, words: u64, strictness: Strictn
         return Examined::Refused(Refusal::LengthOutOfRange);
     }
     let checksum = number_octets::get_u16(payload, 6);
-    if checksum == 0 {
-        if wire_addresses::checksum_required(version) {
-            return Examined::Refused(Refusal::ChecksumZero);
-        }
-    }
     if checksum != 0 {
-        if wire_addresses::udp_sum(words, size, 0, &payload[..size]) != 65535 {
+        if udp_sum(&payload[..size], source, destination) != 65535 {
             return Examined::Refused(Refusal::ChecksumWrong);
         }
     }
@@ -69,4 +76,27 @@ pub fn examine(payload: &[u8], version: Version, words: u64, strictness: Strictn
         checksum == 0,
         strictness,
     )))
+}
+
+// The sum over the pseudo-header and a datagram.
+fn udp_sum(datagram: &[u8], source: [u8; 4], destination: [u8; 4]) -> u16
+    requires { length datagram.now ≤ 65535 }
+    ensures { result ≡ udp_sum (pseudo_header source destination (length datagram.now)) datagram.now }
+{
+    number_checksum::add_block(
+        pseudo_sum(source, destination, datagram.len()),
+        datagram,
+        false,
+    )
+}
+
+// The pseudo-header of a datagram of `size` bytes as a sum that is not folded yet, for the reader and for the writer.
+pub fn pseudo_sum(source: [u8; 4], destination: [u8; 4], size: usize) -> u64
+    requires { size ≤ 65535 }
+    ensures begins { Begins result (pseudo_header source destination size) }
+    ensures upper_bound { result ≤ 17179869184 }
+{
+    let addresses = number_octets::get_u32(&source, 0) as u64
+        + number_octets::get_u32(&destination, 0) as u64;
+    addresses + UDP + size as u64
 }

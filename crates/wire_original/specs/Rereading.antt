@@ -30,7 +30,7 @@ use Rattle.wire_original.specs.declared.RereadRefusal.TheVariants.{OriginalTooLo
 use Rattle.wire_original.specs.declared.RereadOutcome.{RereadOutcome}
 use Rattle.wire_original.specs.declared.RereadOutcome.TheVariants.{Refused, Accepted}
 
--- the largest IPv4 payload less a UDP header; "a reread keeps 65,507" over either version (document 02, R-5)
+-- the largest payload less a UDP header
 unfoldable pub original_limit : ℕ
 original_limit = 65507
 

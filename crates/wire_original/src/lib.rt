@@ -11,7 +11,7 @@ use wire_options::walk::{Fault, Walk};
 use wire_reading::{Apc, Verdict};
 use wire_surplus::Start;
 
-// The largest IPv4 payload less a UDP header, for originals of either version.
+// The largest payload less a UDP header.
 pub const ORIGINAL_LIMIT: usize = 65507;
 
 // Bytes of an original, counted from its first user byte.

@@ -28,9 +28,9 @@ use Rattle.wire_reading.specs.declared.Reading.{Reading}
 
 -- ---- limits
 
--- the longest payload of either version
-unfoldable pub longest_payload : ℕ
-longest_payload = 65535
+-- an IPv4 packet of 65,535 bytes less its header
+unfoldable pub payload_limit : ℕ
+payload_limit = 65515
 
 -- ---- what a reading says
 

@@ -4,7 +4,7 @@ ghost use Rattle.number_octets.specs.Octets.{part};
 ghost use Rattle.number_offsets.specs.Offsets.{udp_header};
 ghost use Rattle.wire_area.specs.Area.{area_of};
 ghost use Rattle.wire_surplus.specs.Surplus.{start_of};
-ghost use Rattle.wire_reading.specs.Reading.{longest_payload, is_odd, optionless, verdict_of, walked, no_data, started, is_read};
+ghost use Rattle.wire_reading.specs.Reading.{payload_limit, is_odd, optionless, verdict_of, walked, no_data, started, is_read};
 ghost use Rattle.wire_reading.specs.ByWalk.{apc_by};
 
 use number_offsets::{PacketOffset, UDP_HEADER};
@@ -62,7 +62,7 @@ pub struct Reading {
 
 // The reading of a payload that no refusal meets. `unused`: the UDP checksum is zero. Most payloads have no surplus area, and none is started.
 pub fn accept(payload: &[u8], size: usize, unused: bool, strictness: Strictness) -> Reading
-    requires { (udp_header ≤ size) × (size ≤ length payload.now) × (length payload.now ≤ longest_payload) }
+    requires { (udp_header ≤ size) × (size ≤ length payload.now) × (length payload.now ≤ payload_limit) }
     ensures { result ≡ started strictness payload.now size (start_of (is_odd size) unused (drop size payload.now)) }
 {
     if payload.len() == size {

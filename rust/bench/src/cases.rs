@@ -4,9 +4,8 @@ use crate::{sums, tables};
 use reference as plain;
 use std::cell::RefCell;
 use std::hint::black_box;
-use std::net::{Ipv4Addr, Ipv6Addr};
 use std::rc::Rc;
-use wuraketozo::{Addresses, Located, PacketOffset, Strictness};
+use wuraketozo::{Flow, Located, PacketOffset, Strictness};
 
 /// One side of a case. `prepare` is not timed; `run` does `calls` calls.
 pub trait Side {
@@ -37,45 +36,19 @@ impl Case {
     }
 }
 
-/// The addresses of either side.
-#[derive(Clone, Copy)]
-pub struct Ends {
-    pub library: Addresses,
-    pub reference: plain::Addresses,
-    /// Behind a size or a name: nothing over IPv4.
-    pub words: &'static str,
-}
-
-pub const IPV4: Ends = Ends {
-    library: Addresses::V4 {
-        source: Ipv4Addr::new(192, 0, 2, 1),
-        destination: Ipv4Addr::new(198, 51, 100, 7),
-    },
-    reference: plain::Addresses::V4 {
-        source: [192, 0, 2, 1],
-        destination: [198, 51, 100, 7],
-    },
-    words: "",
+pub const FLOW: Flow = Flow {
+    source: [192, 0, 2, 1],
+    destination: [198, 51, 100, 7],
+    source_port: 4_660,
+    destination_port: 53,
 };
 
-/// 2001:db8::1 and 2001:db8:7::7
-const SOURCE: Ipv6Addr = Ipv6Addr::new(0x2001, 0xdb8, 0, 0, 0, 0, 0, 1);
-const DESTINATION: Ipv6Addr = Ipv6Addr::new(0x2001, 0xdb8, 7, 0, 0, 0, 0, 7);
-
-pub const IPV6: Ends = Ends {
-    library: Addresses::V6 {
-        source: SOURCE,
-        destination: DESTINATION,
-    },
-    reference: plain::Addresses::V6 {
-        source: SOURCE.octets(),
-        destination: DESTINATION.octets(),
-    },
-    words: " over IPv6",
+pub const PLAIN_FLOW: plain::Flow = plain::Flow {
+    source: FLOW.source,
+    destination: FLOW.destination,
+    source_port: FLOW.source_port,
+    destination_port: FLOW.destination_port,
 };
-
-pub const SOURCE_PORT: u16 = 4_660;
-pub const DESTINATION_PORT: u16 = 53;
 
 /// Bytes of no pattern.
 pub fn bytes(count: usize) -> Vec<u8> {
@@ -197,7 +170,6 @@ const REQ: [u8; 6] = [6, 6, 0, 0, 1, 44];
 struct Payload {
     /// What it is, in words.
     words: String,
-    ends: Ends,
     user: Vec<u8>,
     list: Vec<u8>,
     fill: u8,
@@ -205,25 +177,13 @@ struct Payload {
 }
 
 impl Payload {
-    /// Of `size` bytes over IPv4, the bytes that user data, list and its `wire`
-    /// bytes leave being fill.
+    /// Of `size` bytes, the bytes that user data, list and its `wire` bytes
+    /// leave being fill.
     fn new(words: String, size: usize, user: Vec<u8>, list: Vec<u8>, wire: usize) -> Payload {
-        Payload::between(IPV4, words, size, user, list, wire)
-    }
-
-    fn between(
-        ends: Ends,
-        words: String,
-        size: usize,
-        user: Vec<u8>,
-        list: Vec<u8>,
-        wire: usize,
-    ) -> Payload {
         let pad = user.len() % 2;
         let fill = size - 8 - user.len() - pad - 2 - wire;
         let mut payload = Payload {
             words,
-            ends,
             user,
             list,
             fill: fill as u8,
@@ -235,7 +195,7 @@ impl Payload {
 
     /// With REQ 300, behind an APC if asked, and as much user data as leaves
     /// L of the asked parity: a fill of one byte makes up for the rest.
-    fn short_list(ends: Ends, size: usize, apc: bool, odd: bool) -> Payload {
+    fn short_list(size: usize, apc: bool, odd: bool) -> Payload {
         let (list, wire, with) = if apc {
             (vec![2, 2, 6, 0xAC, 2], 12, "with APC")
         } else {
@@ -244,8 +204,8 @@ impl Payload {
         let parity = if odd { "odd" } else { "even" };
         let room = size - 8 - usize::from(odd) - 2 - wire;
         let user = bytes(room - usize::from((room % 2 == 1) != odd));
-        let words = format!("{} bytes{}, {with}, {parity} L", shown(size), ends.words);
-        Payload::between(ends, words, size, user, list, wire)
+        let words = format!("{} bytes, {with}, {parity} L", shown(size));
+        Payload::new(words, size, user, list, wire)
     }
 
     /// 1,472 bytes with one byte of user data, so that L is odd, and one
@@ -310,22 +270,16 @@ impl Payload {
     }
 
     fn write(&mut self) -> Result<usize, wuraketozo::Refusal> {
-        wuraketozo::write(
-            self.ends.library,
-            SOURCE_PORT,
-            DESTINATION_PORT,
-            black_box(&self.user),
-            &self.list,
-            self.fill,
-            &mut self.bytes,
-        )
+        let (user, list) = (black_box(&self.user), &self.list);
+        wuraketozo::write(&FLOW, user, list, self.fill, &mut self.bytes)
     }
 
     fn write_plain(&mut self) -> Result<usize, u32> {
         plain::write(
-            self.ends.reference,
-            SOURCE_PORT,
-            DESTINATION_PORT,
+            FLOW.source,
+            FLOW.destination,
+            FLOW.source_port,
+            FLOW.destination_port,
             black_box(&self.user),
             &self.list,
             self.fill,
@@ -335,12 +289,12 @@ impl Payload {
 
     fn read(&self, strictness: Strictness) -> Result<wuraketozo::Reading, wuraketozo::Refusal> {
         let bytes = black_box(&self.bytes);
-        wuraketozo::read(bytes, self.ends.library, strictness)
+        wuraketozo::read(bytes, FLOW.source, FLOW.destination, strictness)
     }
 
     fn read_plain(&self, strictness: plain::Strictness) -> Result<plain::Reading, u32> {
         let bytes = black_box(&self.bytes);
-        plain::read(bytes, self.ends.reference, strictness)
+        plain::read(bytes, FLOW.source, FLOW.destination, strictness)
     }
 
     /// What either reads plainly, of a payload that is not refused.
@@ -567,7 +521,7 @@ fn walk(payload: Payload, count: usize) -> Case {
 
 fn listings() -> Vec<Case> {
     vec![
-        list(Payload::short_list(IPV4, 64, false, false)),
+        list(Payload::short_list(64, false, false)),
         list(Payload::full_list()),
         list(Payload::long_option()),
         list(Payload::nops_behind(1_400)),
@@ -576,8 +530,6 @@ fn listings() -> Vec<Case> {
 }
 
 const SIZES: [usize; 3] = [64, 1_472, 65_515];
-/// The last one is the limit over IPv6.
-const IPV6_SIZES: [usize; 3] = [64, 1_472, 65_535];
 const FILLS: [usize; 2] = [1_400, 65_000];
 
 fn payloads() -> Vec<Payload> {
@@ -585,11 +537,10 @@ fn payloads() -> Vec<Payload> {
     for size in SIZES {
         for apc in [false, true] {
             for odd in [false, true] {
-                payloads.push(Payload::short_list(IPV4, size, apc, odd));
+                payloads.push(Payload::short_list(size, apc, odd));
             }
         }
     }
-    payloads.extend(IPV6_SIZES.map(|size| Payload::short_list(IPV6, size, false, false)));
     payloads.push(Payload::long_option());
     payloads
 }

@@ -2,30 +2,17 @@
 //! reference's two, the plain one and the good one, on each of 12 clients or on
 //! one of them.
 
-use crate::cases::{bytes, Case, Ends, Make, Side, IPV4, IPV6, PLAIN};
-use crate::cases::{DESTINATION_PORT, SOURCE_PORT};
+use crate::cases::{bytes, Case, Make, Side, FLOW, PLAIN, PLAIN_FLOW};
 use reference as plain;
 use reference::generate::Random;
 use reference::{swift, Answer};
 use std::hint::black_box;
 use std::ops::Range;
 use std::rc::Rc;
-use wuraketozo::{Arrival, Client, Flow, Place, Plan, Received, Refusal};
-use wuraketozo::{CLIENT_LIMIT, ORIGINAL_LIMIT};
+use wuraketozo::{Arrival, Client, Place, Plan, Received, Refusal, CLIENT_LIMIT, ORIGINAL_LIMIT};
 
 /// When every call comes, in ms.
 const TIME: u64 = 1_000;
-
-/// The flow of what is offered.
-const FLOW: Flow = Flow::new(IPV4.library, SOURCE_PORT, DESTINATION_PORT);
-
-const PLAIN_FLOW: plain::Flow = plain::Flow {
-    source: FLOW.source,
-    destination: FLOW.destination,
-    source_port: FLOW.source_port,
-    destination_port: FLOW.destination_port,
-    version: FLOW.version,
-};
 
 /// A fragment's numbers.
 #[derive(Clone, Copy)]
@@ -41,8 +28,8 @@ struct Piece {
 enum Work {
     /// Offers these.
     Offer(Vec<Piece>),
-    /// Hands these over as payloads between these ends.
-    Receive(Ends, Vec<Vec<u8>>),
+    /// Hands these over as payloads.
+    Receive(Vec<Vec<u8>>),
     Clock,
     Account,
 }
@@ -52,7 +39,7 @@ impl Work {
     fn calls(&self) -> usize {
         match self {
             Work::Offer(pieces) => pieces.len(),
-            Work::Receive(_, payloads) => payloads.len(),
+            Work::Receive(payloads) => payloads.len(),
             Work::Clock | Work::Account => 1,
         }
     }
@@ -81,7 +68,7 @@ impl Task {
     fn turns(&self) -> impl Iterator<Item = usize> {
         let busy = self.busy.clone();
         let rounds = match self.work {
-            Work::Offer(_) | Work::Receive(..) => 1,
+            Work::Offer(_) | Work::Receive(_) => 1,
             Work::Clock | Work::Account => 96 / busy.len(),
         };
         (0..rounds).flat_map(move |_| busy.clone())
@@ -223,12 +210,12 @@ impl Table for Library {
                         note(&|| told(&answer));
                     }
                 }
-                Work::Receive(ends, payloads) => {
+                Work::Receive(payloads) => {
                     for payload in payloads {
-                        let (ends, plain) = (ends.library, PLAIN.library);
+                        let (from, to, plain) = (FLOW.source, FLOW.destination, PLAIN.library);
                         let payload = black_box(payload);
                         let received =
-                            table.receive(client, TIME, ends, plain, payload, &mut host.out);
+                            table.receive(client, TIME, from, to, plain, payload, &mut host.out);
                         let received = black_box(received);
                         note(&|| match &received {
                             Received::Fragment(answer) => told(answer),
@@ -329,10 +316,11 @@ impl<T: Reference> Table for T {
                         note(&|| answer);
                     }
                 }
-                Work::Receive(ends, payloads) => {
+                Work::Receive(payloads) => {
                     for payload in payloads {
                         let payload = black_box(payload);
-                        let read = plain::read(payload, ends.reference, PLAIN.reference);
+                        let (from, to) = (FLOW.source, FLOW.destination);
+                        let read = plain::read(payload, from, to, PLAIN.reference);
                         let mut answer = NO_FRAGMENT;
                         if let Ok(plain::Reading {
                             verdict: plain::Verdict::Piece(fragment),
@@ -343,7 +331,11 @@ impl<T: Reference> Table for T {
                             let call = plain::PieceCall {
                                 client,
                                 time: TIME,
-                                flow: plain::Flow::new(ends.reference, port(0), port(2)),
+                                flow: plain::Flow {
+                                    source_port: port(0),
+                                    destination_port: port(2),
+                                    ..PLAIN_FLOW
+                                },
                                 identification: fragment.identification,
                                 place: fragment.place,
                                 bytes: &payload[fragment.from..fragment.to],
@@ -459,7 +451,7 @@ fn of_each(place: usize, length: usize) -> Vec<Piece> {
 }
 
 /// The payload of a fragment, with both checksums.
-fn fragment_payload(ends: Ends, identification: u32, length: usize) -> Vec<u8> {
+fn fragment_payload(identification: u32, length: usize) -> Vec<u8> {
     let mut payload = vec![0x12, 0x34, 0, 53, 0, 8, 0, 0, 0, 0, 3, 10, 0, 20];
     payload.extend(identification.to_be_bytes());
     payload.extend([0, 8]);
@@ -467,7 +459,11 @@ fn fragment_payload(ends: Ends, identification: u32, length: usize) -> Vec<u8> {
     let sent = |sum| plain::checksum::sent(sum).to_be_bytes();
     let sum = sent(plain::checksum::area_sum(&payload[8..], false));
     payload[8..10].copy_from_slice(&sum);
-    let sum = sent(plain::checksum::udp_sum(ends.reference, &payload[..8]));
+    let sum = sent(plain::checksum::udp_sum(
+        FLOW.source,
+        FLOW.destination,
+        &payload[..8],
+    ));
     payload[6..8].copy_from_slice(&sum);
     payload
 }
@@ -657,15 +653,13 @@ fn offers() -> Vec<Case> {
 
 pub fn all() -> Vec<Case> {
     let mut cases = offers();
-    for ends in [IPV4, IPV6] {
-        let payloads = originals(FOUR).map(|number| fragment_payload(ends, number, 1_400));
-        cases.push(case(
-            format!("receive, a fragment of 1,400 bytes{} stored", ends.words),
-            vec![],
-            Work::Receive(ends, payloads.collect()),
-            is_stored,
-        ));
-    }
+    let payloads = originals(FOUR).map(|number| fragment_payload(number, 1_400));
+    cases.push(case(
+        "receive, a fragment of 1,400 bytes stored".into(),
+        vec![],
+        Work::Receive(payloads.collect()),
+        is_stored,
+    ));
     cases.push(case(
         "clock, nothing held".into(),
         vec![],

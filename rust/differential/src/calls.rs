@@ -3,13 +3,13 @@
 //! every record, the whole store and the whole out buffer are compared.
 
 use crate::convert::{
-    answer, answer_word, ends, flow, hex, reading, setting, setting_number, taken, Raw,
+    answer, answer_word, flow, hex, reading, setting, setting_number, taken, Raw,
 };
-use crate::counts::{over, Counts};
-use crate::keys::{self, Change};
-use crate::payloads::{count_length, put_sums, same, same_bytes, Check};
+use crate::counts::Counts;
+use crate::payloads::{same, same_bytes, Check};
 use crate::records::{bytes_of, count_assemblies, patterned, sort};
 use reference as plain;
+use reference::checksum;
 use reference::generate::{self, Ask, Call, Datagram, Lent, Random, World};
 use reference::table::{ASSEMBLIES, PIECES, PLACE};
 use reference::Strictness;
@@ -22,17 +22,6 @@ pub enum Way {
     Offered,
     /// As payloads, with other datagrams and damaged ones between them.
     Received,
-}
-
-impl Way {
-    /// What a list's keys are to be. A payload is over IPv4 or IPv6; what is
-    /// offered may have any version.
-    fn keys(self, random: &mut Random) -> Change {
-        match self {
-            Way::Offered => Change::any(random),
-            Way::Received => Change::of_versions(random),
-        }
-    }
 }
 
 /// The reference's table, and the library's beside it.
@@ -120,10 +109,8 @@ fn history(
     most: usize,
 ) -> Result<u64, String> {
     let mut pair = Pair::of(World::new(&Lent::of(&[1])));
-    let mut list = generate::calls(random, clients, most);
-    let change = way.keys(random);
-    for call in &mut list {
-        change.ask(&mut call.ask);
+    let list = generate::calls(random, clients, most);
+    for call in &list {
         if call.lent == pair.plain.lent() {
             run(random, counts, way, &mut pair, call)?;
             continue;
@@ -157,7 +144,6 @@ fn forged(random: &mut Random, counts: &mut Counts, way: Way, most: usize) -> Re
     // A plan may be another one now.
     let length = plain::store_length(&world.records);
     world.store.resize(length, 0x5A);
-    way.keys(random).world(&mut world);
     if random.one_in(8) {
         generate::misfit(random, &mut world);
     }
@@ -186,9 +172,7 @@ pub fn originals(random: &mut Random, counts: &mut Counts) -> Result<u64, String
     for number in 0..ORIGINALS {
         let way = [Way::Offered, Way::Received][(number % 2) as usize];
         let mut pair = Pair::of(World::new(&Lent::of(&[1])));
-        let change = way.keys(random);
-        for call in &mut generate::original_calls(random) {
-            change.ask(&mut call.ask);
+        for call in &generate::original_calls(random) {
             for _ in 0..TRIES {
                 let before = standing(&pair.plain, call);
                 run(random, counts, way, &mut pair, call)
@@ -290,26 +274,15 @@ fn wild(random: &mut Random, record: &mut plain::Record) {
             6 => record.repeated = number,
             7 => record.turned_away = number,
             8 => assembly.opened = number,
-            9 => assembly.count = number as u32,
+            9 => assembly.count = number,
             10 => assembly.identification = number as u32,
-            11 => wild_flow(random, &mut assembly.flow, number),
+            11 => assembly.flow.source_port = number as u16,
             12 => slot.offset = number as u16,
             13 => slot.length = number as u16,
             14 => slot.option_start = number as u16,
             15 => slot.last = number as u16,
             _ => record.plan = random.pick(&[number, number % 10]),
         }
-    }
-}
-
-/// Sets a part of a flow to anything.
-fn wild_flow(random: &mut Random, flow: &mut plain::Flow, number: u64) {
-    match random.below(5) {
-        0 => flow.source[random.below(16)] = number as u8,
-        1 => flow.destination[random.below(16)] = number as u8,
-        2 => flow.source_port = number as u16,
-        3 => flow.destination_port = number as u16,
-        _ => flow.version = number as u32,
     }
 }
 
@@ -356,10 +329,6 @@ pub fn run(
         held.unwrap_or(0),
         &expected,
     );
-    if let (Some(piece), plain::Answer::Stored) = (call.piece_call(), expected) {
-        counts.add(word, keys::sort(&piece.flow));
-        count_both(counts, word, &pair.plain, &piece);
-    }
     let found = if random.one_in(2) {
         by_c(random, pair, call, &mut right)
     } else {
@@ -394,14 +363,6 @@ fn count_answer(
     let plan = client.and_then(|client| lent.plans.get(client));
     if let (plain::Answer::Refused(29), Some(plan)) = (answer, plan) {
         counts.add(word, &format!("29 at a plan of {plan}"));
-    }
-}
-
-/// Counts a fragment that is held beside one with equal digits over the other
-/// version.
-fn count_both(counts: &mut Counts, word: &str, world: &World, piece: &plain::PieceCall) {
-    if keys::both_versions(world, piece.client, &piece.flow, piece.identification) {
-        counts.add(word, keys::BOTH_VERSIONS);
     }
 }
 
@@ -457,9 +418,9 @@ fn by_c(random: &mut Random, pair: &mut Pair, call: &Call, out: &mut [u8]) -> ra
                 time: *time,
                 flow: flow(key),
                 identification: *identification,
-                last: mark,
                 place: Place(*place),
                 option_start: Place(*r),
+                last: mark,
             };
             raw::offer(records, store, *client, fragment, bytes, out)
         }
@@ -498,8 +459,8 @@ fn by_wrapper(pair: &mut Pair, call: &Call, out: &mut [u8]) -> raw::Answer {
 }
 
 /// The datagram of a fragment's call, its client and its time; now and then
-/// another datagram or a damaged one. None where the call is no fragment's, or
-/// its flow or numbers do not fit a datagram.
+/// another datagram or a damaged one. None where the call is no fragment's or
+/// its numbers do not fit a datagram.
 fn as_datagram(random: &mut Random, call: &Call) -> Option<(Datagram, usize, u64)> {
     let Ask::Piece {
         client,
@@ -518,7 +479,6 @@ fn as_datagram(random: &mut Random, call: &Call) -> Option<(Datagram, usize, u64
     if random.one_in(8) {
         return Some((generate::datagram(random), *client, *time));
     }
-    let addresses = keys::addresses(flow)?;
     let offset = u16::try_from(place.checked_add(8)?).ok()?;
     let option_start = if *last {
         Some(u16::try_from(r.checked_add(8)?).ok()?)
@@ -553,24 +513,27 @@ fn as_datagram(random: &mut Random, call: &Call) -> Option<(Datagram, usize, u64
     payload.extend(option_start.iter().flat_map(|start| start.to_be_bytes()));
     payload.extend(others);
     payload.extend(bytes);
-    // Over IPv6 there is a checksum, mostly.
-    let summed = match addresses.version() {
-        6 => !random.one_in(20),
-        _ => random.one_in(2),
-    };
-    if summed {
-        put_sums(addresses, &mut payload);
+    if random.one_in(2) {
+        let sum = checksum::sent(checksum::area_sum(&payload[8..], false));
+        payload[8..10].copy_from_slice(&sum.to_be_bytes());
+        let sum = checksum::udp_sum(flow.source, flow.destination, &payload[..8]);
+        payload[6..8].copy_from_slice(&checksum::sent(sum).to_be_bytes());
     }
     if random.one_in(30) {
         let at = random.below(payload.len());
         payload[at] ^= 1 << random.below(8);
     }
-    Some((Datagram { addresses, payload }, *client, *time))
+    let datagram = Datagram {
+        source: flow.source,
+        destination: flow.destination,
+        payload,
+    };
+    Some((datagram, *client, *time))
 }
 
 /// One call per datagram, in either setting, against the reference's reader
 /// and table.
-pub fn receive(
+fn receive(
     random: &mut Random,
     counts: &mut Counts,
     pair: &mut Pair,
@@ -579,14 +542,16 @@ pub fn receive(
     time: u64,
     room: usize,
 ) -> Check {
-    let Datagram { addresses, payload } = datagram;
+    let Datagram {
+        source,
+        destination,
+        payload,
+    } = datagram;
     let before = random.byte();
     let mut left = vec![before; room];
     let mut right = left.clone();
     let strictness = random.pick(&[Strictness::Plain, Strictness::Strict]);
-    let read = plain::read(payload, *addresses, strictness);
-    let word = over("receive", addresses.version());
-    count_length(counts, &word, datagram, &read);
+    let read = plain::read(payload, *source, *destination, strictness);
     let expected = match &read {
         Ok(plain::Reading {
             verdict: plain::Verdict::Piece(fragment),
@@ -596,7 +561,12 @@ pub fn receive(
             let call = plain::PieceCall {
                 client,
                 time,
-                flow: plain::Flow::new(*addresses, port(0), port(2)),
+                flow: plain::Flow {
+                    source: *source,
+                    destination: *destination,
+                    source_port: port(0),
+                    destination_port: port(2),
+                },
                 identification: fragment.identification,
                 place: fragment.place,
                 bytes: &payload[fragment.from..fragment.to],
@@ -606,10 +576,7 @@ pub fn receive(
             let world = &mut pair.plain;
             let held = generate::held_before(world, &call);
             let came = plain::piece(&mut world.records, &mut world.store, &call, &mut left);
-            count_answer(counts, &word, &world.lent(), Some(client), held, &came);
-            if came == plain::Answer::Stored {
-                count_both(counts, &word, world, &call);
-            }
+            count_answer(counts, "receive", &world.lent(), Some(client), held, &came);
             raw::Received {
                 what: 2,
                 answer: answer(&came),
@@ -618,8 +585,8 @@ pub fn receive(
         }
         other => {
             match other {
-                Ok(reading) => count_datagram(counts, &word, payload, reading),
-                Err(number) => counts.add(&word, &number.to_string()),
+                Ok(reading) => count_datagram(counts, payload, reading),
+                Err(number) => counts.add("receive", &number.to_string()),
             }
             raw::Received {
                 what: u32::from(other.is_ok()),
@@ -631,8 +598,9 @@ pub fn receive(
     let number = setting_number(random, strictness);
     let shown = || {
         format!(
-            "receive, client {client}, time {time}, out {room} bytes of {before:02x}, {:?}, strictness {number}, payload {}",
-            ends(*addresses),
+            "receive, client {client}, time {time}, out {room} bytes of {before:02x}, source {}, destination {}, strictness {number}, payload {}",
+            hex(source),
+            hex(destination),
             hex(payload)
         )
     };
@@ -642,7 +610,8 @@ pub fn receive(
             &mut pair.store,
             client,
             time,
-            ends(*addresses),
+            *source,
+            *destination,
             number,
             payload,
             &mut right,
@@ -654,7 +623,8 @@ pub fn receive(
         match table.receive(
             client,
             time,
-            ends(*addresses),
+            *source,
+            *destination,
             strictness,
             payload,
             &mut right,
@@ -680,12 +650,12 @@ pub fn receive(
 }
 
 /// Counts a payload that is no fragment.
-fn count_datagram(counts: &mut Counts, call: &str, payload: &[u8], reading: &plain::Reading) {
-    counts.add(call, "datagram");
+fn count_datagram(counts: &mut Counts, payload: &[u8], reading: &plain::Reading) {
+    counts.add("receive", "datagram");
     if reading.verdict.fault_at().is_some() {
-        counts.add(call, reading.verdict.word());
+        counts.add("receive", reading.verdict.word());
     }
     if let Some(word) = generate::fault_led_by_frag(payload, reading) {
-        counts.add(call, word);
+        counts.add("receive", word);
     }
 }

@@ -2,7 +2,7 @@
 
 use reference as plain;
 use reference::generate::Random;
-use wuraketozo::{raw, Account, Addresses, Flow, PacketOffset, Place};
+use wuraketozo::{raw, Account, Flow, PacketOffset, Place};
 
 /// How many bytes are shown.
 const SHOWN: usize = 10_000;
@@ -15,26 +15,6 @@ pub fn hex(bytes: &[u8]) -> String {
         text += &format!(".. ({} bytes in all)", bytes.len());
     }
     text
-}
-
-/// The wrapper's addresses.
-pub fn ends(addresses: plain::Addresses) -> Addresses {
-    match addresses {
-        plain::Addresses::V4 {
-            source,
-            destination,
-        } => Addresses::V4 {
-            source: source.into(),
-            destination: destination.into(),
-        },
-        plain::Addresses::V6 {
-            source,
-            destination,
-        } => Addresses::V6 {
-            source: source.into(),
-            destination: destination.into(),
-        },
-    }
 }
 
 /// The number of "read".
@@ -280,7 +260,6 @@ pub fn flow(flow: &plain::Flow) -> Flow {
         destination: flow.destination,
         source_port: flow.source_port,
         destination_port: flow.destination_port,
-        version: flow.version,
     }
 }
 

@@ -1,22 +1,8 @@
 //! How often each verdict, refusal and answer came.
 
-use crate::keys;
 use reference::generate;
 use reference::table::ASSEMBLIES;
 use std::collections::BTreeMap;
-
-/// The name of a call that is counted for each IP version.
-pub fn over(call: &str, version: u32) -> String {
-    format!("{call} over IPv{version}")
-}
-
-/// The refusals of a reading, by IP version and in their order.
-fn refusals(version: u32) -> &'static [&'static str] {
-    match version {
-        6 => &["1", "2", "3", "10", "4"],
-        _ => &["1", "2", "3", "4"],
-    }
-}
 
 /// What must be reached, in the order of the table that is printed.
 fn wanted() -> Vec<String> {
@@ -24,19 +10,15 @@ fn wanted() -> Vec<String> {
     let mut add = |call: &str, results: &[&str]| {
         names.extend(results.iter().map(|result| format!("{call}: {result}")));
     };
-    for version in VERSIONS {
-        let read = over("read", version);
-        add(&read, refusals(version));
-        add(&read, &LIMIT);
-        add(&read, &["none", "short", "pad", "unsummed", "badsum"]);
-        add(&read, &["malformed", "unsafe", "fragdata", "crowded"]);
-        add(&read, &["read", "read with fill", "piece"]);
-        add(&read, &["tail", "tail led by FRAG", "padded"]);
-        add(&read, &["padded before FRAG", "padded behind FRAG"]);
-        add(&read, &["APC none", "APC right", "APC wrong"]);
-        for name in generate::fault_names(false) {
-            add(&read, &[&name]);
-        }
+    add("read", &["1", "2", "3", "4"]);
+    add("read", &["none", "short", "pad", "unsummed", "badsum"]);
+    add("read", &["malformed", "unsafe", "fragdata", "crowded"]);
+    add("read", &["read", "read with fill", "piece"]);
+    add("read", &["tail", "tail led by FRAG", "padded"]);
+    add("read", &["padded before FRAG", "padded behind FRAG"]);
+    add("read", &["APC none", "APC right", "APC wrong"]);
+    for name in generate::fault_names(false) {
+        add("read", &[&name]);
     }
     add("reread", &["2", "5", "6"]);
     add("reread", &["none", "short", "pad", "badsum", "malformed"]);
@@ -61,11 +43,7 @@ fn wanted() -> Vec<String> {
     let word = "list of a made-up reading";
     add(word, &["no option", "tail", "options", "8"]);
     add(word, &["options beside padding"]);
-    for version in VERSIONS {
-        let write = over("write", version);
-        add(&write, &["taken", "7", "8", "9"]);
-        add(&write, &LIMIT);
-    }
+    add("write", &["taken", "7", "8", "9"]);
     add("reset", &["taken", "20", "32"]);
     let of_20 = generate::TABLE_FAULTS.iter().copied();
     let of_20: Vec<&str> = of_20.filter(|name| name.contains("20")).collect();
@@ -82,26 +60,19 @@ fn wanted() -> Vec<String> {
     add("offer", &generate::TABLE_FAULTS);
     add("offer", &full);
     add("offer", &generate::LIMIT_SORTS);
-    add("offer", &keys::SORTS);
     add("advance", &["taken", "20", "21", "22", "27", "32"]);
     add("advance", &generate::TABLE_FAULTS);
     add("account", &["taken", "20", "21", "22", "32"]);
     add("account", &generate::TABLE_FAULTS);
-    for version in VERSIONS {
-        let receive = over("receive", version);
-        add(&receive, &["datagram"]);
-        add(&receive, refusals(version));
-        add(&receive, &LIMIT);
-        add(&receive, &["malformed", "unsafe", "fragdata", "crowded"]);
-        add(&receive, &["tail", "tail led by FRAG", "padded"]);
-        add(&receive, &["padded before FRAG", "padded behind FRAG"]);
-        add(&receive, &["stored", "repeated", "conflict", "delivered"]);
-        add(&receive, &numbers);
-        add(&receive, &generate::TABLE_FAULTS);
-        add(&receive, &full);
-        add(&receive, &generate::LIMIT_SORTS);
-        add(&receive, &[keys::BOTH_VERSIONS]);
-    }
+    add("receive", &["datagram", "1", "2", "3", "4"]);
+    add("receive", &["malformed", "unsafe", "fragdata", "crowded"]);
+    add("receive", &["tail", "tail led by FRAG", "padded"]);
+    add("receive", &["padded before FRAG", "padded behind FRAG"]);
+    add("receive", &["stored", "repeated", "conflict", "delivered"]);
+    add("receive", &numbers);
+    add("receive", &generate::TABLE_FAULTS);
+    add("receive", &full);
+    add("receive", &generate::LIMIT_SORTS);
     for word in ["forged record", "record with one byte changed"] {
         add(word, &["sound", "damaged", "live past its plan"]);
     }
@@ -112,12 +83,6 @@ fn wanted() -> Vec<String> {
     add("forged list", &generate::LIST_SORTS);
     names
 }
-
-/// The IP versions.
-const VERSIONS: [u32; 2] = [4, 6];
-
-/// Both sides of the limit of a payload.
-const LIMIT: [&str; 2] = ["the longest", "a byte too long"];
 
 /// The counts of one run.
 pub struct Counts {

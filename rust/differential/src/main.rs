@@ -12,8 +12,6 @@
 mod calls;
 mod convert;
 mod counts;
-mod keys;
-mod limits;
 mod payloads;
 mod plans;
 mod records;
@@ -87,7 +85,6 @@ fn run(arguments: &Arguments, counts: &mut Counts) -> Result<(), String> {
             + payloads::fills(&mut random(seed, 0, 4), counts).map_err(told)?
             + payloads::runs(&mut random(seed, 0, 5), counts).map_err(told)?
             + payloads::long_runs(&mut random(seed, 0, 6), counts).map_err(told)?
-            + limits::sweep(&mut random(seed, 0, 10), counts).map_err(told)?
     } else {
         0
     };

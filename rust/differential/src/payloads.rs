@@ -2,14 +2,13 @@
 //! reference, every field and every byte lent.
 
 use crate::convert::{
-    ends, entry, hex, reading, rereading, rewrapped, setting, setting_number, wrapped, PADDED,
+    entry, hex, reading, rereading, rewrapped, setting, setting_number, wrapped, PADDED,
 };
-use crate::counts::{over, Counts};
+use crate::counts::Counts;
 use crate::steps::{self, Sort};
 use reference as plain;
-use reference::checksum;
-use reference::generate::{self, Datagram, Random, Writing};
-use reference::{Addresses, Strictness};
+use reference::generate::{self, Datagram, Random};
+use reference::Strictness;
 use wuraketozo::{raw, Place};
 
 /// A difference, told in words.
@@ -24,8 +23,7 @@ pub fn round(random: &mut Random, counts: &mut Counts) -> Check {
     made_up(random, counts, &datagram.payload)?;
     steps::made_up(random, counts, &datagram.payload)?;
     steps::made_up(random, counts, &original)?;
-    let writing = generate::writing(random);
-    write(random, counts, &writing)
+    write(random, counts)
 }
 
 /// A payload of any sort: mostly the reference's, some long, some written
@@ -35,7 +33,7 @@ fn payload(random: &mut Random) -> Datagram {
         0 => long(random),
         1..=4 => {
             let mut datagram = written(random);
-            damage(random, &mut datagram);
+            damage(random, &mut datagram.payload);
             datagram
         }
         5 => written(random),
@@ -49,21 +47,16 @@ fn written(random: &mut Random) -> Datagram {
     let user = random.bytes(user_length);
     let list = generate::docket(random);
     let fill = random.pick(&[0, 0, 1, 255]);
-    let addresses = generate::addresses(random);
-    compose(random, addresses, &user, &list, fill)
+    compose(random, &user, &list, fill)
 }
 
 /// Writes with the reference; an empty payload where it refuses.
-fn compose(
-    random: &mut Random,
-    addresses: Addresses,
-    user: &[u8],
-    list: &[u8],
-    fill: u8,
-) -> Datagram {
+fn compose(random: &mut Random, user: &[u8], list: &[u8], fill: u8) -> Datagram {
+    let (source, destination) = (random.four(), random.four());
     let mut payload = vec![0; 70_000];
     let result = plain::write(
-        addresses,
+        source,
+        destination,
         random.draw() as u16,
         random.draw() as u16,
         user,
@@ -72,15 +65,18 @@ fn compose(
         &mut payload,
     );
     payload.truncate(result.unwrap_or(0));
-    Datagram { addresses, payload }
+    Datagram {
+        source,
+        destination,
+        payload,
+    }
 }
 
 /// A long payload: much user data, or bodies of any length up to the limit.
 fn long(random: &mut Random) -> Datagram {
-    let addresses = generate::addresses(random);
     let user_length = random.pick(&[0, 1, 1_400, 1_472, 4_096, 9_000, 30_000, 64_000]);
     let user = random.bytes(user_length);
-    let mut room = addresses.payload_most() - 8 - user_length - user_length % 2 - 2;
+    let mut room = 65_515 - 8 - user_length - user_length % 2 - 2;
     let mut bodies = Vec::new();
     for _ in 0..random.below(4) {
         let length = match random.below(4) {
@@ -108,26 +104,23 @@ fn long(random: &mut Random) -> Datagram {
         });
     }
     let list = plain::encode(&options);
-    let mut datagram = compose(random, addresses, &user, &list, 0);
+    let mut datagram = compose(random, &user, &list, 0);
     if random.one_in(3) {
-        damage(random, &mut datagram);
+        damage(random, &mut datagram.payload);
     }
     datagram
 }
 
-/// Changes a payload in one place. In one of two the change is looked at: over
-/// IPv4 with both checksums 0, so that nothing is summed, over IPv6 with both
-/// made anew.
-fn damage(random: &mut Random, datagram: &mut Datagram) {
-    let Datagram { addresses, payload } = datagram;
+/// Changes a payload in one place. With both checksums 0 nothing is summed,
+/// so that the change is looked at.
+fn damage(random: &mut Random, payload: &mut Vec<u8>) {
     let length = payload.len();
     if length < 10 {
         return;
     }
     let user_end = usize::from(u16::from_be_bytes([payload[4], payload[5]]));
     let sum_at = user_end + user_end % 2;
-    let looked_at = random.one_in(2) && sum_at + 2 <= length;
-    if looked_at {
+    if random.one_in(2) && sum_at + 2 <= length {
         payload[6..8].fill(0);
         payload[sum_at..sum_at + 2].fill(0);
     }
@@ -146,30 +139,6 @@ fn damage(random: &mut Random, datagram: &mut Datagram) {
             payload.remove(at);
         }
     }
-    if looked_at && addresses.version() == 6 && !random.one_in(8) {
-        put_sums(*addresses, payload);
-    }
-}
-
-/// Puts both checksums in, as far as the UDP length leaves room for them.
-pub fn put_sums(addresses: Addresses, payload: &mut [u8]) {
-    let Some(&[high, low]) = payload.get(4..6) else {
-        return;
-    };
-    let user_end = usize::from(u16::from_be_bytes([high, low]));
-    if user_end < 8 || user_end > payload.len() {
-        return;
-    }
-    let pad = user_end % 2;
-    let sum_at = user_end + pad;
-    if sum_at + 2 <= payload.len() {
-        payload[sum_at..sum_at + 2].fill(0);
-        let sum = checksum::sent(checksum::area_sum(&payload[user_end..], pad == 1));
-        payload[sum_at..sum_at + 2].copy_from_slice(&sum.to_be_bytes());
-    }
-    payload[6..8].fill(0);
-    let sum = checksum::sent(checksum::udp_sum(addresses, &payload[..user_end]));
-    payload[6..8].copy_from_slice(&sum.to_be_bytes());
 }
 
 /// Both settings.
@@ -192,7 +161,7 @@ fn settings_agree<T: PartialEq + std::fmt::Debug>(
 
 /// What the reader, the listing and the options say of a payload, in each
 /// setting.
-pub fn read(random: &mut Random, counts: &mut Counts, datagram: &Datagram) -> Check {
+fn read(random: &mut Random, counts: &mut Counts, datagram: &Datagram) -> Check {
     let mut answers = [raw::Reading::default(); 2];
     for (answer, strictness) in answers.iter_mut().zip(SETTINGS) {
         *answer = read_as(random, counts, datagram, strictness)?;
@@ -203,8 +172,12 @@ pub fn read(random: &mut Random, counts: &mut Counts, datagram: &Datagram) -> Ch
 }
 
 fn shown_payload(datagram: &Datagram) -> String {
-    let Datagram { addresses, payload } = datagram;
-    format!("{:?}, payload {}", ends(*addresses), hex(payload))
+    format!(
+        "source {}, destination {}, payload {}",
+        hex(&datagram.source),
+        hex(&datagram.destination),
+        hex(&datagram.payload)
+    )
 }
 
 /// The library's answer, after it was compared with the reference's.
@@ -214,29 +187,31 @@ fn read_as(
     datagram: &Datagram,
     strictness: Strictness,
 ) -> Result<raw::Reading, String> {
-    let Datagram { addresses, payload } = datagram;
-    let expected = plain::read(payload, *addresses, strictness);
-    let call = over("read", addresses.version());
+    let Datagram {
+        source,
+        destination,
+        payload,
+    } = datagram;
+    let expected = plain::read(payload, *source, *destination, strictness);
     match &expected {
-        Err(number) => counts.add(&call, &number.to_string()),
+        Err(number) => counts.add("read", &number.to_string()),
         Ok(found) => {
-            count_said(counts, &call, &found.verdict, found.fill, found.apc);
+            count_said(counts, "read", &found.verdict, found.fill, found.apc);
             for name in generate::fault_sorts(payload, found.user.to, 0, &found.verdict) {
-                counts.add(&call, &name);
+                counts.add("read", &name);
             }
             if let Some(word) = generate::fault_led_by_frag(payload, found) {
-                counts.add(&call, word);
+                counts.add("read", word);
             }
         }
     }
-    count_length(counts, &call, datagram, &expected);
     let number = setting_number(random, strictness);
     let shown = || format!("read, strictness {number}, {}", shown_payload(datagram));
-    let answer = raw::read(payload, ends(*addresses), number);
+    let answer = raw::read(payload, *source, *destination, number);
     same(&reading(&expected), &answer, &shown)?;
     same(
         &expected.map(|reading| wrapped(&reading)),
-        &wuraketozo::read(payload, ends(*addresses), setting(strictness))
+        &wuraketozo::read(payload, *source, *destination, setting(strictness))
             .map_err(|refusal| refusal.number()),
         &shown,
     )?;
@@ -276,22 +251,6 @@ fn read_as(
     )?;
     steps::forged_read(counts, payload, found.user.to, &shown)?;
     Ok(answer)
-}
-
-/// Counts payloads on either side of the limit.
-pub fn count_length(
-    counts: &mut Counts,
-    call: &str,
-    datagram: &Datagram,
-    result: &Result<plain::Reading, u32>,
-) {
-    let most = datagram.addresses.payload_most();
-    if datagram.payload.len() == most && result.is_ok() {
-        counts.add(call, "the longest");
-    }
-    if datagram.payload.len() == most + 1 && *result == Err(2) {
-        counts.add(call, "a byte too long");
-    }
 }
 
 /// The same for an original.
@@ -567,19 +526,20 @@ fn made_up(random: &mut Random, counts: &mut Counts, bytes: &[u8]) -> Check {
 }
 
 /// The writer, on the whole buffer lent, and what was written read again.
-pub fn write(random: &mut Random, counts: &mut Counts, writing: &Writing) -> Check {
+fn write(random: &mut Random, counts: &mut Counts) -> Check {
+    let writing = generate::writing(random);
     let before = random.byte();
     let mut left = vec![before; writing.buffer];
     let mut right = left.clone();
     let expected = writing.run(&mut left);
-    let call = over("write", writing.addresses.version());
     match expected {
-        Ok(_) => counts.add(&call, "taken"),
-        Err(number) => counts.add(&call, &number.to_string()),
+        Ok(_) => counts.add("write", "taken"),
+        Err(number) => counts.add("write", &number.to_string()),
     }
     let answer = if random.one_in(2) {
         raw::write(
-            ends(writing.addresses),
+            writing.source,
+            writing.destination,
             writing.source_port,
             writing.destination_port,
             &writing.user,
@@ -588,10 +548,14 @@ pub fn write(random: &mut Random, counts: &mut Counts, writing: &Writing) -> Che
             &mut right,
         )
     } else {
+        let flow = wuraketozo::Flow {
+            source: writing.source,
+            destination: writing.destination,
+            source_port: writing.source_port,
+            destination_port: writing.destination_port,
+        };
         let result = wuraketozo::write(
-            ends(writing.addresses),
-            writing.source_port,
-            writing.destination_port,
+            &flow,
             &writing.user,
             &writing.docket,
             writing.fill,
@@ -601,8 +565,9 @@ pub fn write(random: &mut Random, counts: &mut Counts, writing: &Writing) -> Che
     };
     let shown = || {
         format!(
-            "write, {:?}, ports {} and {}, list {}, fill {}, {} bytes of {before:02x}, user {}",
-            ends(writing.addresses),
+            "write, source {}, destination {}, ports {} and {}, list {}, fill {}, {} bytes of {before:02x}, user {}",
+            hex(&writing.source),
+            hex(&writing.destination),
             writing.source_port,
             writing.destination_port,
             hex(&writing.docket),
@@ -615,7 +580,8 @@ pub fn write(random: &mut Random, counts: &mut Counts, writing: &Writing) -> Che
     same_bytes(&left, &right, &shown)?;
     if let Ok(length) = expected {
         let datagram = Datagram {
-            addresses: writing.addresses,
+            source: writing.source,
+            destination: writing.destination,
             payload: right[..length].to_vec(),
         };
         read(random, counts, &datagram)?;
@@ -645,7 +611,7 @@ pub fn sweep(random: &mut Random, counts: &mut Counts) -> Result<u64, String> {
     let mut payloads = 0;
     let mut look = |random: &mut Random, payload: Vec<u8>| {
         payloads += 1;
-        swept(random, counts, payload)
+        read(random, counts, &swept(payload))
     };
     // Behind a length byte stand NOPs; zeros, which are a fill; or what would
     // be FRAG's fields: the start is 22 and the offsets are 9.
@@ -687,33 +653,17 @@ fn frag(start: usize, offset: u8, last: bool) -> Vec<u8> {
     option
 }
 
-/// The sweeps' addresses.
-const SWEPT_IPV4: Addresses = Addresses::V4 {
-    source: [192, 0, 2, 1],
-    destination: [198, 51, 100, 7],
-};
-const SWEPT_IPV6: Addresses = Addresses::V6 {
-    source: [0x20, 1, 0x0D, 0xB8, 0, 0, 0, 0, 0, 0, 0, 0, 0, 0, 0, 7],
-    destination: [0x20, 1, 0x0D, 0xB8, 0, 1, 0, 0, 0, 0, 0, 0, 0, 0, 0, 1],
-};
-
-/// A payload without checksums over IPv4 and over IPv6, which refuses it, and
-/// with them over IPv6.
-fn swept(random: &mut Random, counts: &mut Counts, payload: Vec<u8>) -> Check {
-    let mut summed = payload.clone();
-    put_sums(SWEPT_IPV6, &mut summed);
-    for (addresses, payload) in [
-        (SWEPT_IPV4, payload.clone()),
-        (SWEPT_IPV6, payload),
-        (SWEPT_IPV6, summed),
-    ] {
-        read(random, counts, &Datagram { addresses, payload })?;
+/// A payload between the sweeps' addresses.
+fn swept(payload: Vec<u8>) -> Datagram {
+    Datagram {
+        source: [192, 0, 2, 1],
+        destination: [198, 51, 100, 7],
+        payload,
     }
-    Ok(())
 }
 
-/// The list of a datagram and of an original at either parity, and of a
-/// fragment with other bytes behind Frag. Start.
+/// The list of a datagram and of an original at either parity, without
+/// checksums, and of a fragment with other bytes behind Frag. Start.
 fn in_each(random: &mut Random, counts: &mut Counts, list: &[u8]) -> Check {
     reread(random, counts, &[&[0, 0], list].concat(), 0)?;
     // One byte of user data, the pad, no option checksum.
@@ -726,7 +676,7 @@ fn in_each(random: &mut Random, counts: &mut Counts, list: &[u8]) -> Check {
         [&ODD_HEAD[..], &odd].concat(),
         [&HEAD[..], &frag, list, &part].concat(),
     ] {
-        swept(random, counts, payload)?;
+        read(random, counts, &swept(payload))?;
     }
     Ok(())
 }
@@ -777,7 +727,7 @@ pub fn long_runs(random: &mut Random, counts: &mut Counts) -> Result<u64, String
 
 /// Two runs of 0 to 16 NOPs each, around nothing, an option, 32 of them, a
 /// body of ones, EOL, FRAG or a fault, with nothing or an option behind: of a
-/// datagram and an original with 0 to 2 bytes of user data.
+/// datagram and an original with 0 to 2 bytes of user data, without checksums.
 /// Frag. Start is behind the second run, or in its middle. Counts the lists.
 pub fn runs(random: &mut Random, counts: &mut Counts) -> Result<u64, String> {
     let mut lists = 0;
@@ -808,7 +758,7 @@ pub fn runs(random: &mut Random, counts: &mut Counts) -> Result<u64, String> {
                     let runs = [&nops(before)[..], &middle, &nops(behind), end].concat();
                     let payload = [&front[..], &runs].concat();
                     reread(random, counts, &payload[8..], usize::from(user))?;
-                    swept(random, counts, payload)?;
+                    read(random, counts, &swept(payload))?;
                 }
             }
         }

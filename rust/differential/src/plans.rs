@@ -6,7 +6,6 @@ use crate::counts::Counts;
 use reference as plain;
 use reference::generate::{Ask, Call, Lent, Random, World};
 use reference::table::{ASSEMBLIES, CLIENTS_MOST, PLACE};
-use reference::Addresses;
 
 /// Numbers that are plans, and some that are none.
 const NUMBERS: [u64; 12] = [0, 1, 2, 3, 4, 5, 6, 7, 8, 9, 257, u64::MAX];
@@ -113,22 +112,12 @@ impl Sweep<'_> {
     }
 }
 
-/// Two bytes at the front of an original, over IPv4 and over IPv6 in turn.
+/// Two bytes at the front of an original.
 fn fragment(client: usize, identification: u32, time: u64) -> Ask {
-    let addresses = match (client + identification as usize) % 2 {
-        0 => Addresses::V4 {
-            source: [0; 4],
-            destination: [0; 4],
-        },
-        _ => Addresses::V6 {
-            source: [0; 16],
-            destination: [0; 16],
-        },
-    };
     Ask::Piece {
         client,
         time,
-        flow: plain::Flow::new(addresses, 0, 0),
+        flow: plain::Flow::default(),
         identification,
         place: 0,
         bytes: vec![client as u8, identification as u8],

@@ -66,10 +66,9 @@ impl Fields<'_> {
             self.octets(&mut assembly.flow.destination);
             self.u16(&mut assembly.flow.source_port);
             self.u16(&mut assembly.flow.destination_port);
-            self.u32(&mut assembly.flow.version);
             self.u32(&mut assembly.identification);
-            self.u32(&mut assembly.count);
             self.u64(&mut assembly.opened);
+            self.u64(&mut assembly.count);
             for slot in &mut assembly.pieces {
                 self.u16(&mut slot.offset);
                 self.u16(&mut slot.length);
@@ -276,7 +275,7 @@ fn asked(
     sound: bool,
 ) -> Result<(), String> {
     let mut record = plain::fresh(1);
-    record.assemblies[0].count = list.len() as u32;
+    record.assemblies[0].count = list.len() as u64;
     record.assemblies[0].pieces[..list.len()].copy_from_slice(list);
     record.held = sum(list) as u64;
     record.offered = record.held;

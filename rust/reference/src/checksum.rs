@@ -1,11 +1,9 @@
-//! The 16-bit ones' complement sum (RFC 768, RFC 1071, RFC 8200).
+//! The 16-bit ones' complement sum (RFC 768, RFC 1071).
 //!
 //! Everything here counts modulo 65,535. There 65,536 is 1, so a wider word
 //! may stand for the 16-bit words in it, and carries come back in at the end;
 //! and 256 times a 16-bit word is that word with its bytes exchanged, so words
 //! may be added in either byte order (RFC 1071, section 2).
-
-use crate::addresses::Addresses;
 
 /// Adds the carries back in until 16 bits remain. Adding a number to itself
 /// with its halves exchanged leaves their sum, carry included, on top.
@@ -97,34 +95,13 @@ fn blocks(bytes: &[u8]) -> (u64, &[u8]) {
     (low + high, blocks.remainder())
 }
 
-/// The sum over the pseudo-header, RFC 768's or RFC 8200's, and the datagram's
-/// bytes 0 to L.
+/// The sum over RFC 768's pseudo-header and the datagram's bytes 0 to L.
+/// Both numbers are UDP's: protocol 17, length L.
 #[inline]
-pub fn udp_sum(addresses: Addresses, datagram: &[u8]) -> u16 {
-    sum_behind(address_sum(addresses), datagram)
-}
-
-/// The same from the addresses' sum. Beside them both pseudo-headers have 17 and
-/// L, each at an even place: how wide the field of L is makes no difference.
-#[inline]
-pub fn sum_behind(addresses: u64, datagram: &[u8]) -> u16 {
-    let numbers = 17 + datagram.len() as u64;
-    fold(addresses + (numbers << 8) + little_endian(datagram)).swap_bytes()
-}
-
-/// The sum of both addresses' little-endian words.
-#[inline]
-pub fn address_sum(addresses: Addresses) -> u64 {
-    match addresses {
-        Addresses::V4 {
-            source,
-            destination,
-        } => little_endian(&source) + little_endian(&destination),
-        Addresses::V6 {
-            source,
-            destination,
-        } => little_endian(&source) + little_endian(&destination),
-    }
+pub fn udp_sum(source: [u8; 4], destination: [u8; 4], datagram: &[u8]) -> u16 {
+    let addresses =
+        u64::from(u32::from_be_bytes(source)) + u64::from(u32::from_be_bytes(destination));
+    sum(addresses + 17 + datagram.len() as u64, datagram, false)
 }
 
 /// The sum over the area's length and the area, paired on even offsets from

@@ -1,7 +1,6 @@
 //! Seeded inputs for every call: sound, mutated and adversarial ones, and a
 //! count of which verdicts, refusals and answers they reach.
 
-use crate::addresses::Addresses;
 use crate::book::{Book, OpenPiece};
 use crate::checksum;
 use crate::crc::crc32c;
@@ -57,10 +56,6 @@ impl Random {
         (self.draw() as u32).to_be_bytes()
     }
 
-    pub fn sixteen(&mut self) -> [u8; 16] {
-        (u128::from(self.draw()) << 64 | u128::from(self.draw())).to_be_bytes()
-    }
-
     /// One of a list that is not empty.
     pub fn pick<T: Copy>(&mut self, from: &[T]) -> T {
         from[self.below(from.len())]
@@ -72,43 +67,9 @@ impl Random {
 /// Input of `read`.
 #[derive(Clone, Debug)]
 pub struct Datagram {
-    pub addresses: Addresses,
+    pub source: [u8; 4],
+    pub destination: [u8; 4],
     pub payload: Vec<u8>,
-}
-
-/// Addresses of either version.
-pub fn addresses(random: &mut Random) -> Addresses {
-    if random.one_in(2) {
-        ipv6(random)
-    } else {
-        ipv4(random)
-    }
-}
-
-fn ipv4(random: &mut Random) -> Addresses {
-    Addresses::V4 {
-        source: random.four(),
-        destination: random.four(),
-    }
-}
-
-/// Now and then the loopback, an IPv4 address in IPv6 form, or all ones.
-fn ipv6(random: &mut Random) -> Addresses {
-    let mut loopback = [0; 16];
-    loopback[15] = 1;
-    let mut mapped = [0; 16];
-    mapped[10..12].fill(0xFF);
-    mapped[12..].copy_from_slice(&random.four());
-    let one = |random: &mut Random| match random.below(16) {
-        0 => loopback,
-        1 => mapped,
-        2 => [0xFF; 16],
-        _ => random.sixteen(),
-    };
-    Addresses::V6 {
-        source: one(random),
-        destination: one(random),
-    }
 }
 
 /// How a checksum field is filled.
@@ -120,8 +81,7 @@ enum Sum {
 }
 
 /// A payload of user data and area, with both checksums filled as asked.
-/// An area too short for an option checksum gets none. Without a UDP checksum
-/// it mostly goes over IPv4, since over IPv6 it is refused.
+/// An area too short for an option checksum gets none.
 fn build(random: &mut Random, user: &[u8], area: &[u8], udp: Sum, option: Sum) -> Datagram {
     let length = 8 + user.len();
     let mut payload = random.bytes(4);
@@ -129,11 +89,8 @@ fn build(random: &mut Random, user: &[u8], area: &[u8], udp: Sum, option: Sum) -
     payload.extend([0, 0]);
     payload.extend(user);
     payload.extend(area);
-    let addresses = if udp == Sum::Zero && !random.one_in(8) {
-        ipv4(random)
-    } else {
-        addresses(random)
-    };
+    let source = random.four();
+    let destination = random.four();
     let pad = length % 2;
     if area.len() >= pad + 2 {
         let field = filled(
@@ -143,10 +100,14 @@ fn build(random: &mut Random, user: &[u8], area: &[u8], udp: Sum, option: Sum) -
         );
         payload[length + pad..length + pad + 2].copy_from_slice(&field);
     }
-    let sum = checksum::udp_sum(addresses, &payload[..length]);
+    let sum = checksum::udp_sum(source, destination, &payload[..length]);
     let field = filled(random, udp, sum);
     payload[6..8].copy_from_slice(&field);
-    Datagram { addresses, payload }
+    Datagram {
+        source,
+        destination,
+        payload,
+    }
 }
 
 fn filled(random: &mut Random, how: Sum, sum: u16) -> [u8; 2] {
@@ -183,7 +144,7 @@ fn repair(datagram: &mut Datagram) {
         payload[at..at + 2].copy_from_slice(&sum.to_be_bytes());
     }
     payload[6..8].fill(0);
-    let sum = checksum::udp_sum(datagram.addresses, &payload[..length]);
+    let sum = checksum::udp_sum(datagram.source, datagram.destination, &payload[..length]);
     payload[6..8].copy_from_slice(&checksum::sent(sum).to_be_bytes());
 }
 
@@ -531,9 +492,7 @@ fn odd_datagram(random: &mut Random) -> Datagram {
     match random.below(5) {
         0 => datagram.payload.truncate(random.below(8)),
         1 => {
-            let most = datagram.addresses.payload_most();
-            let other = random.pick(&[65_515usize, 65_516, 66_000]);
-            let length = random.pick(&[most - 1, most, most, most + 1, other]);
+            let length = random.pick(&[65_514usize, 65_515, 65_515, 65_516, 66_000]);
             datagram.payload.resize(length, 0);
             repair(&mut datagram);
         }
@@ -599,13 +558,11 @@ pub fn original(random: &mut Random) -> (Vec<u8>, usize) {
 
 // ------------------------------------------------------------------ writing
 
-/// A buffer's length that is more than any payload's.
-const ROOMY: usize = 70_000;
-
 /// Input of `write`; the buffer is lent with this length.
 #[derive(Clone, Debug)]
 pub struct Writing {
-    pub addresses: Addresses,
+    pub source: [u8; 4],
+    pub destination: [u8; 4],
     pub source_port: u16,
     pub destination_port: u16,
     pub user: Vec<u8>,
@@ -700,59 +657,44 @@ pub fn bad_docket(random: &mut Random) -> Vec<u8> {
 
 /// One call of the writer.
 pub fn writing(random: &mut Random) -> Writing {
+    let user = if random.one_in(60) {
+        let count = random.pick(&[65_000, 65_504, 65_505, 65_506, 65_507, 65_508, 70_000]);
+        random.bytes(count)
+    } else {
+        user_data(random)
+    };
     let docket = if random.one_in(4) {
         bad_docket(random)
     } else {
         docket(random)
     };
     let mut writing = Writing {
-        addresses: addresses(random),
+        source: random.four(),
+        destination: random.four(),
         source_port: random.draw() as u16,
         destination_port: random.draw() as u16,
-        user: Vec::new(),
+        user,
         docket,
         fill: random.pick(&[0, 0, 1, 2, 7, 255]),
-        buffer: ROOMY,
-    };
-    writing.user = if random.one_in(60) {
-        // The payload's length stands around its limit.
-        let beside = writing.needed();
-        let left = writing.addresses.payload_most() - beside;
-        let count = random.pick(&[
-            left - 2,
-            left - 1,
-            left,
-            left,
-            left + 1,
-            left + 20,
-            65_000,
-            70_000,
-        ]);
-        random.bytes(count)
-    } else {
-        user_data(random)
+        buffer: 70_000,
     };
     // The buffer's length stands around the payload's.
-    let needed = writing.needed();
+    let needed = writing.run(&mut vec![0; 70_000]).unwrap_or(12);
     writing.buffer = match random.below(6) {
         0 => needed - 1,
         1 => 0,
         2 => needed + 3,
-        3 => ROOMY,
+        3 => 70_000,
         _ => needed,
     };
     writing
 }
 
 impl Writing {
-    /// The payload's length, or 12 where it is refused.
-    fn needed(&self) -> usize {
-        self.run(&mut vec![0; ROOMY]).unwrap_or(12)
-    }
-
     pub fn run(&self, buffer: &mut [u8]) -> Result<usize, u32> {
         write(
-            self.addresses,
+            self.source,
+            self.destination,
             self.source_port,
             self.destination_port,
             &self.user,
@@ -760,16 +702,6 @@ impl Writing {
             self.fill,
             buffer,
         )
-    }
-
-    /// What came of it; of those at the payload's limit, that.
-    fn sort(&self, result: &Result<usize, u32>) -> String {
-        match result {
-            Ok(length) if *length == self.addresses.payload_most() => "taken, the longest".into(),
-            Ok(_) => "taken".into(),
-            Err(8) if self.buffer == ROOMY => "refused 8, too long".into(),
-            Err(number) => format!("refused {number}"),
-        }
     }
 }
 
@@ -1100,33 +1032,27 @@ fn arrange<T: Clone>(random: &mut Random, list: &mut [T]) {
 }
 
 /// How many keys there are: more than any plan allows.
-const KEYS: usize = 16;
+const KEYS: usize = 10;
 
-/// Keys that mostly differ in one component: equal digits under two versions,
-/// a version that is none, bytes behind an IPv4 address.
+/// Keys that mostly differ in one component.
 fn key(number: usize) -> (Flow, u32) {
-    let addresses = Addresses::V4 {
+    let mut flow = Flow {
         source: [10, 0, 0, 1],
         destination: [10, 0, 0, 2],
+        source_port: 4_000,
+        destination_port: 5_000,
     };
-    let mut flow = Flow::new(addresses, 4_000, 5_000);
     let mut identification = 7;
     match number {
-        1 => flow.version = 6,
+        1 => flow.source[3] = 9,
         2 => flow.destination[0] = 11,
         3 => flow.source_port = 4_001,
-        4 => flow.source[15] = 9,
+        4 => flow.destination_port = 4_000,
         5 => identification = u32::MAX,
-        6 => flow.version = 7,
-        7 => flow.destination_port = 4_000,
-        8 => identification = 7 << 24,
-        9 => flow.source[3] = 9,
-        10 => flow.destination[15] = 1,
-        11 => (flow.version, flow.source[15]) = (6, 9),
-        12 => (flow.source_port, flow.destination_port) = (5_000, 4_000),
-        13 => flow.source[0] = 11,
-        14 => flow.destination[4] = 1,
-        15 => flow.version = 4 << 24,
+        6 => identification = 7 << 24,
+        7 => flow.source[0] = 11,
+        8 => flow.destination[3] = 1,
+        9 => (flow.source_port, flow.destination_port) = (5_000, 4_000),
         _ => {}
     }
     (flow, identification)
@@ -1438,7 +1364,7 @@ fn sound_pieces(random: &mut Random, assembly: &mut Assembly) {
         mark_last(random, &mut slots);
     }
     arrange(random, &mut slots);
-    assembly.count = slots.len() as u32;
+    assembly.count = slots.len() as u64;
     assembly.pieces[..slots.len()].copy_from_slice(&slots);
 }
 
@@ -1538,8 +1464,8 @@ pub fn damage(random: &mut Random, record: &mut Record, way: usize) -> bool {
             match way {
                 11 => assembly.opened = record.time.max(1),
                 12 => assembly.identification = 7,
-                13 => assembly.flow.version = random.pick(&[1, 4, 6, 1 << 31]),
-                14 => mark_flow(random, &mut assembly.flow),
+                13 => assembly.flow.destination_port = 1,
+                14 => assembly.flow.source[0] = 1,
                 15 => assembly.pieces[PIECES - 1].offset = 1,
                 _ => assembly.pieces[0].last = random.pick(&[1, 2, 255, 256]),
             }
@@ -1581,8 +1507,8 @@ pub fn damage(random: &mut Random, record: &mut Record, way: usize) -> bool {
                 18 if time < u64::MAX => assembly.opened = time + 1,
                 19 if time >= LIFE => assembly.opened = time - LIFE,
                 20 => {
-                    let past = PIECES as u32 + 1;
-                    assembly.count = random.pick(&[past, past + 1, 255, 256, 65_537, u32::MAX]);
+                    let past = PIECES as u64 + 1;
+                    assembly.count = random.pick(&[past, past + 1, 255, 256, past + 255, u64::MAX]);
                 }
                 // One more piece that is empty, one less that is left behind.
                 21 if count < PIECES => assembly.count += 1,
@@ -1644,16 +1570,6 @@ pub fn damage(random: &mut Random, record: &mut Record, way: usize) -> bool {
         }
     }
     true
-}
-
-/// Sets a byte of a fresh flow's addresses or ports.
-fn mark_flow(random: &mut Random, flow: &mut Flow) {
-    match random.below(4) {
-        0 => flow.source[random.below(16)] = 1,
-        1 => flow.destination[random.below(16)] = 1,
-        2 => flow.source_port = 1,
-        _ => flow.destination_port = 256,
-    }
 }
 
 /// The pieces of an original of T bytes, in any order, with the last one
@@ -1798,7 +1714,7 @@ fn replace_pieces(random: &mut Random, record: &mut Record, slots: &[Slot], coun
     }
     let at = random.below(live.len());
     let assembly = &mut live[at];
-    assembly.count = count as u32;
+    assembly.count = count as u64;
     assembly.pieces = [Slot::default(); PIECES];
     assembly.pieces[..slots.len()].copy_from_slice(slots);
     let held = record.assemblies.iter();
@@ -1838,8 +1754,8 @@ pub fn forged_world(random: &mut Random, clients: usize) -> World {
 pub fn misfit(random: &mut Random, world: &mut World) {
     let mut lent = world.lent();
     match random.below(4) {
-        0 if lent.store > 0 => lent.store -= 1,
-        0 | 1 => lent.store += 1,
+        0 => lent.store -= 1,
+        1 => lent.store += 1,
         2 => misplan(random, &mut lent.plans),
         _ => {
             misplan(random, &mut lent.plans);
@@ -2207,27 +2123,17 @@ pub fn fault_names(originals: bool) -> Vec<String> {
     names
 }
 
-/// The name of a call that is counted for each version.
-fn over(call: &str, version: u32) -> String {
-    format!("{call} over IPv{version}")
-}
-
 /// Counts a reading.
-fn count_reading(
-    coverage: &mut Coverage,
-    call: &str,
-    payload: &[u8],
-    result: &Result<Reading, u32>,
-) {
+fn count_reading(coverage: &mut Coverage, payload: &[u8], result: &Result<Reading, u32>) {
     match result {
-        Err(number) => count(coverage, format!("{call}: refused {number}")),
+        Err(number) => count(coverage, format!("read: refused {number}")),
         Ok(reading) => {
-            count_result(coverage, call, &reading.verdict, reading.apc);
+            count_result(coverage, "read", &reading.verdict, reading.apc);
             for name in fault_sorts(payload, reading.user.to, 0, &reading.verdict) {
-                count(coverage, format!("{call}: {name}"));
+                count(coverage, format!("read: {name}"));
             }
             if let Some(word) = fault_led_by_frag(payload, reading) {
-                count(coverage, format!("{call}: {word}"));
+                count(coverage, format!("read: {word}"));
             }
         }
     }
@@ -2251,12 +2157,15 @@ pub fn coverage(seed: u64, rounds: usize) -> Coverage {
     let mut random = Random::new(seed);
     let mut seen = Coverage::new();
     for _ in 0..rounds {
-        let Datagram { addresses, payload } = datagram(&mut random);
+        let Datagram {
+            source,
+            destination,
+            payload,
+        } = datagram(&mut random);
         let (whole, r) = original(&mut random);
         for strictness in [Strictness::Plain, Strictness::Strict] {
-            let result = read(&payload, addresses, strictness);
-            let call = over("read", addresses.version());
-            count_reading(&mut seen, &call, &payload, &result);
+            let result = read(&payload, source, destination, strictness);
+            count_reading(&mut seen, &payload, &result);
             if let Ok(reading) = result {
                 let mut buffer = vec![0; random.below(200)];
                 match list_options(&payload, &reading, &mut buffer) {
@@ -2275,9 +2184,10 @@ pub fn coverage(seed: u64, rounds: usize) -> Coverage {
             }
         }
         let writing = writing(&mut random);
-        let result = writing.run(&mut vec![0; writing.buffer]);
-        let call = over("write", writing.addresses.version());
-        count(&mut seen, format!("{call}: {}", writing.sort(&result)));
+        match writing.run(&mut vec![0; writing.buffer]) {
+            Ok(_) => count(&mut seen, "write: taken".into()),
+            Err(number) => count(&mut seen, format!("write: refused {number}")),
+        }
     }
     for round in 0..rounds.div_ceil(100) {
         let clients = if round % 2 == 0 { 1 } else { CLIENTS_MOST };
@@ -2324,55 +2234,47 @@ pub fn coverage(seed: u64, rounds: usize) -> Coverage {
     seen
 }
 
-/// The verdicts that packets and originals can have.
-const VERDICTS: [&str; 9] = [
-    "none",
-    "short",
-    "pad",
-    "badsum",
-    "malformed",
-    "crowded",
-    "tail",
-    "padded",
-    "read",
-];
-
 /// Every name that `coverage` should reach.
 pub fn wanted() -> Vec<String> {
     let mut names = Vec::new();
     let mut add = |call: &str, results: &[&str]| {
         names.extend(results.iter().map(|result| format!("{call}: {result}")));
     };
-    for version in [4, 6] {
-        let read = over("read", version);
-        add(&read, &["refused 1", "refused 2", "refused 3", "refused 4"]);
-        add(&read, &["apc none", "apc right", "apc wrong"]);
-        for word in VERDICTS {
-            add(&read, &[&format!("verdict {word}")]);
-        }
-        for word in ["unsummed", "unsafe", "fragdata", "piece"] {
-            add(&read, &[&format!("verdict {word}")]);
-        }
-        add(&read, &["tail led by FRAG"]);
-        add(&read, &["padded before FRAG", "padded behind FRAG"]);
-        for name in fault_names(false) {
-            add(&read, &[&name]);
-        }
-        let write = over("write", version);
-        add(&write, &["taken", "taken, the longest", "refused 7"]);
-        add(&write, &["refused 8", "refused 8, too long", "refused 9"]);
-    }
-    add(&over("read", 6), &["refused 10"]);
+    add(
+        "read",
+        &["refused 1", "refused 2", "refused 3", "refused 4"],
+    );
+    add("read", &["apc none", "apc right", "apc wrong"]);
     add("reread", &["apc none", "apc right", "apc wrong"]);
     add("reread", &["refused 2", "refused 6", "refused 5"]);
-    for word in VERDICTS {
+    for word in [
+        "none",
+        "short",
+        "pad",
+        "badsum",
+        "malformed",
+        "crowded",
+        "tail",
+        "padded",
+        "read",
+    ] {
+        add("read", &[&format!("verdict {word}")]);
         add("reread", &[&format!("verdict {word}")]);
+    }
+    for word in ["unsummed", "unsafe", "fragdata", "piece"] {
+        add("read", &[&format!("verdict {word}")]);
+    }
+    add("read", &["tail led by FRAG"]);
+    add("read", &["padded before FRAG", "padded behind FRAG"]);
+    for name in fault_names(false) {
+        add("read", &[&name]);
     }
     for name in fault_names(true) {
         add("reread", &[&name]);
     }
     add("list", &["taken", "refused 8"]);
     add("list reread", &["taken", "refused 8"]);
+    add("write", &["taken", "refused 7", "refused 8", "refused 9"]);
     add("set up", &["taken", "refused 20", "refused 32"]);
     let refused = ["refused 20", "refused 32", "refused 21", "refused 22"];
     add("bill", &["taken"]);

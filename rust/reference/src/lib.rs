@@ -1,11 +1,9 @@
-//! A plain reference for document 01 with requests of
-//! document 02: the reader of UDP payloads with RFC 9868 options over IPv4 and
-//! IPv6, the writer, the reassembly table, a client's plain book and the
-//! program's text.
+//! A plain reference for document 01 with requests and
+//! R-8 of document 02: the reader of IPv4 UDP payloads with RFC 9868 options, the
+//! writer, the reassembly table, a client's plain book and the program's text.
 //! Section names in comments are document 01's; "RFC" is RFC 9868.
 #![forbid(unsafe_code)]
 
-pub mod addresses;
 pub mod book;
 pub mod checksum;
 pub mod crc;
@@ -17,7 +15,6 @@ pub mod swift;
 pub mod table;
 pub mod writer;
 
-pub use addresses::Addresses;
 pub use book::Book;
 pub use docket::{decode, encode, list_options, list_reread, Listing};
 pub use program::report;

@@ -1,7 +1,5 @@
-//! "The program": its text for given input bytes. It stays with IPv4
-//! (document 02, R-5).
+//! "The program": its text for given input bytes.
 
-use crate::addresses::Addresses;
 use crate::reader::{read, Fields, Located, PacketOffset, Strictness, Verdict};
 use std::fmt::Write;
 
@@ -16,20 +14,21 @@ pub fn report(addresses_and_payload: &[u8]) -> String {
     let _ = match addresses_and_payload {
         [a, b, c, d, e, f, g, h, payload @ ..] => {
             let payload = &payload[..payload.len().min(PAYLOAD_READ_MOST)];
-            let addresses = Addresses::V4 {
-                source: [*a, *b, *c, *d],
-                destination: [*e, *f, *g, *h],
-            };
-            describe(&mut text, payload, addresses)
+            describe(&mut text, payload, [*a, *b, *c, *d], [*e, *f, *g, *h])
         }
         _ => writeln!(text, "refused 1"),
     };
     text
 }
 
-fn describe(text: &mut String, payload: &[u8], addresses: Addresses) -> std::fmt::Result {
+fn describe(
+    text: &mut String,
+    payload: &[u8],
+    source: [u8; 4],
+    destination: [u8; 4],
+) -> std::fmt::Result {
     // The program is not strict (document 02, R-6).
-    let reading = match read(payload, addresses, Strictness::Plain) {
+    let reading = match read(payload, source, destination, Strictness::Plain) {
         Ok(reading) => reading,
         Err(number) => return writeln!(text, "refused {number}"),
     };

@@ -1,10 +1,10 @@
-//! "Reading one IPv4 payload", with document 02's IPv6 (R-5), and "Walking the
-//! list".
+//! "Reading one IPv4 payload" and "Walking the list".
 
-use crate::addresses::Addresses;
 use crate::checksum;
 use crate::crc::crc32c;
 
+/// The longest payload that is read (refusal 2).
+pub const PAYLOAD_MOST: usize = 65_515;
 /// The longest original that is read again (refusal 2).
 pub const ORIGINAL_MOST: usize = 65_507;
 /// The most options besides NOP and EOL; one more is "crowded".
@@ -186,32 +186,17 @@ impl Rereading {
     }
 }
 
-/// Reads one payload: the reading, or refusal 1, 2, 3, 10 (over IPv6 alone) or
-/// 4, in this order.
-#[inline]
-pub fn read(payload: &[u8], addresses: Addresses, strictness: Strictness) -> Result<Reading, u32> {
-    // The addresses are summed where they come from and not handed on.
-    let line = Line {
-        payload_most: addresses.payload_most(),
-        checksum_optional: addresses.checksum_optional(),
-        address_sum: checksum::address_sum(addresses),
-    };
-    read_over(payload, line, strictness)
-}
-
-/// What the addresses say to the reader.
-#[derive(Clone, Copy)]
-struct Line {
-    payload_most: usize,
-    checksum_optional: bool,
-    address_sum: u64,
-}
-
-fn read_over(payload: &[u8], line: Line, strictness: Strictness) -> Result<Reading, u32> {
+/// Reads one IPv4 payload: the reading, or refusal 1 to 4.
+pub fn read(
+    payload: &[u8],
+    source: [u8; 4],
+    destination: [u8; 4],
+    strictness: Strictness,
+) -> Result<Reading, u32> {
     if payload.len() < 8 {
         return Err(1);
     }
-    if payload.len() > line.payload_most {
+    if payload.len() > PAYLOAD_MOST {
         return Err(2);
     }
     let length = number16(payload, 4);
@@ -219,10 +204,7 @@ fn read_over(payload: &[u8], line: Line, strictness: Strictness) -> Result<Readi
         return Err(3);
     }
     let summed = number16(payload, 6) != 0;
-    if !summed && !line.checksum_optional {
-        return Err(10);
-    }
-    if summed && checksum::sum_behind(line.address_sum, &payload[..length]) != 0xFFFF {
+    if summed && checksum::udp_sum(source, destination, &payload[..length]) != 0xFFFF {
         return Err(4);
     }
     let user = Range {

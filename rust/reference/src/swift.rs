@@ -133,7 +133,7 @@ fn last_mask(piece: &Slot) -> i32 {
 
 /// The bytes of a live assembly, if its pieces pass the record test.
 fn sound_bytes(assembly: &Assembly) -> Option<u64> {
-    if assembly.count > PIECES as u32 {
+    if assembly.count > PIECES as u64 {
         return None;
     }
     let (held, spare) = assembly.pieces.split_at(assembly.count as usize);

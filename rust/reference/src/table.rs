@@ -1,7 +1,5 @@
 //! "The table": a lent slice of client records beside a lent store.
 
-use crate::addresses::Addresses;
-
 /// The most clients (refusal 20).
 pub const CLIENTS_MOST: usize = 12;
 /// Assemblies in a record: the largest plan (refusal 32).
@@ -16,46 +14,13 @@ pub const LIFE: u64 = 120_000;
 /// The most bytes that a client may offer (refusal 28).
 pub const OFFERED_MOST: u64 = 1_000_000_000_000_000;
 
-/// Both addresses, both ports and the IP version. An IPv4 address is its four
-/// bytes and then twelve zeros. Flows are compared as they are handed in, with
-/// any version and any bytes.
+/// Both addresses and both ports.
 #[derive(Clone, Copy, Debug, PartialEq, Eq, Default)]
 pub struct Flow {
-    pub source: [u8; 16],
-    pub destination: [u8; 16],
+    pub source: [u8; 4],
+    pub destination: [u8; 4],
     pub source_port: u16,
     pub destination_port: u16,
-    pub version: u32,
-}
-
-impl Flow {
-    /// The flow of a datagram's addresses and ports.
-    pub fn new(addresses: Addresses, source_port: u16, destination_port: u16) -> Flow {
-        let (source, destination) = match addresses {
-            Addresses::V4 {
-                source,
-                destination,
-            } => (widened(source), widened(destination)),
-            Addresses::V6 {
-                source,
-                destination,
-            } => (source, destination),
-        };
-        Flow {
-            source,
-            destination,
-            source_port,
-            destination_port,
-            version: addresses.version(),
-        }
-    }
-}
-
-/// An IPv4 address in a flow: its four bytes, then twelve zeros.
-fn widened(address: [u8; 4]) -> [u8; 16] {
-    let mut wide = [0; 16];
-    wide[..4].copy_from_slice(&address);
-    wide
 }
 
 /// One held piece. It is last unless `last` is 0; the option start counts
@@ -73,8 +38,8 @@ pub struct Slot {
 pub struct Assembly {
     pub flow: Flow,
     pub identification: u32,
-    pub count: u32,
     pub opened: u64,
+    pub count: u64,
     pub pieces: [Slot; PIECES],
 }
 
@@ -84,8 +49,8 @@ impl Default for Assembly {
         Assembly {
             flow: Flow::default(),
             identification: 0,
-            count: 0,
             opened: 0,
+            count: 0,
             pieces: [Slot::default(); PIECES],
         }
     }
@@ -290,7 +255,7 @@ pub fn record_test(record: &Record) -> bool {
 
 /// The record test's part on one live assembly's pieces.
 fn pieces_test(assembly: &Assembly) -> bool {
-    if assembly.count > PIECES as u32 {
+    if assembly.count > PIECES as u64 {
         return false;
     }
     let (held, unused) = assembly.pieces.split_at(assembly.filled());

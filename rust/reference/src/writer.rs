@@ -1,15 +1,16 @@
 //! "Dockets and the writer": the writer of unfragmented datagrams.
 
-use crate::addresses::Addresses;
 use crate::checksum;
 use crate::crc::crc32c;
 use crate::docket::Entries;
-use crate::reader::{Fields, ReadOption};
+use crate::reader::{Fields, ReadOption, PAYLOAD_MOST};
 
 /// Writes the whole payload to the front of `buffer` and returns its length;
 /// refusal 7, 9 or 8 leaves the buffer alone.
+#[allow(clippy::too_many_arguments)]
 pub fn write(
-    addresses: Addresses,
+    source: [u8; 4],
+    destination: [u8; 4],
     source_port: u16,
     destination_port: u16,
     user: &[u8],
@@ -27,7 +28,7 @@ pub fn write(
     let udp_length = user.len().saturating_add(8);
     let pad = udp_length % 2;
     let length = udp_length.saturating_add(pad + 2 + options + usize::from(fill));
-    if length > addresses.payload_most() || length > buffer.len() {
+    if length > PAYLOAD_MOST || length > buffer.len() {
         return Err(8);
     }
 
@@ -52,7 +53,7 @@ pub fn write(
 
     let option_sum = checksum::sent(checksum::area_sum(&payload[udp_length..], pad == 1));
     payload[sum_at..sum_at + 2].copy_from_slice(&option_sum.to_be_bytes());
-    let udp_sum = checksum::udp_sum(addresses, &payload[..udp_length]);
+    let udp_sum = checksum::udp_sum(source, destination, &payload[..udp_length]);
     payload[6..8].copy_from_slice(&checksum::sent(udp_sum).to_be_bytes());
     Ok(length)
 }

@@ -5,15 +5,11 @@ use reference::*;
 
 const SOURCE: [u8; 4] = [192, 0, 2, 1];
 const DESTINATION: [u8; 4] = [192, 0, 2, 2];
-const ADDRESSES: Addresses = Addresses::V4 {
-    source: SOURCE,
-    destination: DESTINATION,
-};
 
 /// The area that the writer makes.
 fn area(user: &[u8], docket: &[u8], fill: u8) -> Vec<u8> {
     let mut buffer = [0xEE; 400];
-    let length = write(ADDRESSES, 1, 2, user, docket, fill, &mut buffer).unwrap();
+    let length = write(SOURCE, DESTINATION, 1, 2, user, docket, fill, &mut buffer).unwrap();
     assert!(buffer[length..].iter().all(|&byte| byte == 0xEE));
     buffer[8 + user.len()..length].to_vec()
 }
@@ -31,7 +27,7 @@ fn payload(user: &[u8], area: &[u8]) -> Vec<u8> {
 
 fn verdict(user: &[u8], area: &[u8]) -> Verdict {
     let payload = payload(user, area);
-    read(&payload, ADDRESSES, Strictness::Plain)
+    read(&payload, SOURCE, DESTINATION, Strictness::Plain)
         .unwrap()
         .verdict
 }
@@ -90,7 +86,7 @@ fn figure_01_program_text() {
     let mut input = [SOURCE, DESTINATION].concat();
     let mut buffer = [0; 100];
     let docket = [1, 6, 0xAC, 2];
-    let length = write(ADDRESSES, 1, 2, &[], &docket, 0, &mut buffer).unwrap();
+    let length = write(SOURCE, DESTINATION, 1, 2, &[], &docket, 0, &mut buffer).unwrap();
     input.extend(&buffer[..length]);
     // As document 02 has it.
     let text = "user 0\nverdict read\nkind 6 300 at 10\nfill 0\n";
@@ -139,7 +135,7 @@ fn figure_07_malformed() {
 fn figure_08_not_shortest() {
     let mut buffer = [0xEE; 100];
     let docket = [1, 6, 0x80, 0];
-    let answer = write(ADDRESSES, 1, 2, &[], &docket, 0, &mut buffer);
+    let answer = write(SOURCE, DESTINATION, 1, 2, &[], &docket, 0, &mut buffer);
     assert_eq!(answer, Err(7));
     assert_eq!(buffer, [0xEE; 100]);
 }

@@ -5,11 +5,6 @@ use reference::generate::{datagram, original, Random};
 use reference::Strictness::{Plain, Strict};
 use reference::*;
 
-const ZEROS: Addresses = Addresses::V4 {
-    source: [0; 4],
-    destination: [0; 4],
-};
-
 /// A payload without checksums: L, user data, pad and option checksum, then the
 /// list.
 fn payload(user: &[u8], list: &[u8]) -> Vec<u8> {
@@ -47,7 +42,7 @@ fn both(user: &[u8], list: &[u8], strictness: Strictness) -> [String; 2] {
         None => verdict.word().into(),
     };
     let packet = payload(user, list);
-    let reading = read(&packet, ZEROS, strictness).unwrap();
+    let reading = read(&packet, [0; 4], [0; 4], strictness).unwrap();
     let again = match reread(&packet[8..], user.len(), strictness) {
         Ok(rereading) => told(rereading.verdict),
         Err(number) => format!("refused {number}"),
@@ -202,7 +197,7 @@ fn padded() {
 /// Faults that are none of the walk, and no fault at all, name no byte.
 #[test]
 fn no_offset() {
-    let of = |payload: &[u8]| read(payload, ZEROS, Plain).unwrap().verdict;
+    let of = |payload: &[u8]| read(payload, [0; 4], [0; 4], Plain).unwrap().verdict;
     let area = |user: &[u8], area: &[u8]| {
         let mut bytes = payload(user, &[])[..8 + user.len()].to_vec();
         bytes.extend(area);
@@ -252,7 +247,7 @@ fn options_where_they_stand() {
     let list = [&[1, 1], &REQ[..], &MDS, &[1, 9, 2, 191, 3, 5], &[0, 0]].concat();
     for (user, start) in [(&b""[..], 10), (b"a", 12), (b"ab", 12), (b"abc", 14)] {
         let packet = payload(user, &list);
-        let reading = read(&packet, ZEROS, Plain).unwrap();
+        let reading = read(&packet, [0; 4], [0; 4], Plain).unwrap();
         let offsets: Vec<usize> = reading.options(&packet).map(|o| o.offset.0).collect();
         assert_eq!(offsets, [2, 8, 13, 15].map(|at| start + at));
         let original = &packet[8..];

@@ -8,11 +8,6 @@ use reference::Strictness::{Plain, Strict};
 use reference::*;
 use std::collections::BTreeMap;
 
-const ZEROS: Addresses = Addresses::V4 {
-    source: [0; 4],
-    destination: [0; 4],
-};
-
 fn payload(user: &[u8], area: &[u8]) -> Vec<u8> {
     let mut payload = vec![0, 1, 0, 2];
     payload.extend(((8 + user.len()) as u16).to_be_bytes());
@@ -25,7 +20,7 @@ fn payload(user: &[u8], area: &[u8]) -> Vec<u8> {
 /// The verdicts on an area in plain and in strict reading, without checksums.
 fn verdicts(user: &[u8], area: &[u8]) -> (Verdict, Verdict) {
     let packet = payload(user, area);
-    let [plain, strict] = by_setting(|strictness| read(&packet, ZEROS, strictness));
+    let [plain, strict] = by_setting(|strictness| read(&packet, [0; 4], [0; 4], strictness));
     if plain != strict {
         let verdict = strict.unwrap().verdict;
         let padded = Reading {
@@ -118,11 +113,7 @@ fn of_list(list: &[u8]) -> Verdict {
 #[test]
 fn refusals_in_order() {
     let read = |payload: &[u8]| {
-        let addresses = Addresses::V4 {
-            source: [1, 2, 3, 4],
-            destination: [5, 6, 7, 8],
-        };
-        let read = |strictness| read(payload, addresses, strictness);
+        let read = |strictness| read(payload, [1, 2, 3, 4], [5, 6, 7, 8], strictness);
         let [plain, strict] = by_setting(read);
         assert_eq!(plain, strict);
         plain.map(|reading| reading.verdict)
@@ -152,9 +143,9 @@ fn before_the_walk() {
     assert_eq!(verdict(&[], &[0xFE, 0xFC, 1]), Verdict::Read);
     // UDP checksum there, option checksum 0.
     let mut summed = payload(&[], &[0, 0]);
-    let sum = checksum::sent(checksum::udp_sum(ZEROS, &summed[..8]));
+    let sum = checksum::sent(checksum::udp_sum([0; 4], [0; 4], &summed[..8]));
     summed[6..8].copy_from_slice(&sum.to_be_bytes());
-    let reading = read(&summed, ZEROS, Plain).unwrap();
+    let reading = read(&summed, [0; 4], [0; 4], Plain).unwrap();
     assert_eq!(reading.verdict, Verdict::Unsummed);
 }
 
@@ -309,7 +300,7 @@ fn pieces() {
     let area = [&[0, 0][..], &frag(21, 8, None, &[192, 3])].concat();
     assert_eq!(verdict(&[1, 2], &area), malformed(12));
     let whole = payload(&[], &[&[0, 0][..], &frag(20, 8, None, &[5])].concat());
-    let reading = read(&whole, ZEROS, Plain).unwrap();
+    let reading = read(&whole, [0; 4], [0; 4], Plain).unwrap();
     assert_eq!(reading.user, Range { from: 8, to: 8 });
     assert_eq!((reading.options_from, reading.options_to), (0, 0));
 }
@@ -337,7 +328,7 @@ fn tails() {
     let right = payload(b"ab", &area);
     area.push(4);
     let bad = payload(b"ab", &area);
-    let reading = read(&right, ZEROS, Plain).unwrap();
+    let reading = read(&right, [0; 4], [0; 4], Plain).unwrap();
     assert_eq!((reading.count, reading.fill), (1, 2));
     assert_eq!(reading.apc, Apc::Right);
     let nothing = Reading {
@@ -349,7 +340,7 @@ fn tails() {
         fill: 0,
         apc: Apc::None,
     };
-    assert_eq!(read(&bad, ZEROS, Plain), Ok(nothing));
+    assert_eq!(read(&bad, [0; 4], [0; 4], Plain), Ok(nothing));
     assert_eq!(nothing.options(&bad).count(), 0);
     let rereading = reread(&bad[8..], 2, Plain).unwrap();
     assert_eq!(rereading.user, Range { from: 0, to: 2 });
@@ -370,7 +361,7 @@ fn fills() {
         let start = (frag_end + 1 + count) as u16;
         let list = frag(start, 8, None, &area[2..]);
         let packet = payload(b"ab", &area);
-        let reading = read(&packet, ZEROS, Plain).unwrap();
+        let reading = read(&packet, [0; 4], [0; 4], Plain).unwrap();
         assert_eq!((reading.verdict, reading.fill), (Verdict::Read, 1 + count));
         let piece = of_list(&[&list, &[255; 9][..]].concat());
         assert!(matches!(piece, Verdict::Piece(_)), "{count}");
@@ -438,7 +429,7 @@ fn padded_everywhere() {
                 let expected = strictly(at, count, Verdict::Read);
                 assert_eq!(verdicts(user, &area), expected, "{count} {user:?}");
                 let packet = payload(user, &area);
-                let reading = read(&packet, ZEROS, Plain).unwrap();
+                let reading = read(&packet, [0; 4], [0; 4], Plain).unwrap();
                 assert_eq!((reading.count, reading.fill), (options, fill));
                 let original = [user, &area].concat();
                 let r = user.len();
@@ -464,10 +455,10 @@ fn padded_reports_nothing() {
     area.extend(crc32c(b"ab").to_be_bytes());
     area.extend(nops(8));
     let packet = payload(b"ab", &area);
-    let plain = read(&packet, ZEROS, Plain).unwrap();
+    let plain = read(&packet, [0; 4], [0; 4], Plain).unwrap();
     assert_eq!((plain.count, plain.apc), (1, Apc::Right));
     assert_eq!(verdicts(b"ab", &area), (Verdict::Read, padded(25)));
-    let strict = read(&packet, ZEROS, Strict).unwrap();
+    let strict = read(&packet, [0; 4], [0; 4], Strict).unwrap();
     assert_eq!(strict.options(&packet).count(), 0);
     let mut buffer = [9; 4];
     let listing = list_options(&packet, &strict, &mut buffer).unwrap();
@@ -1056,7 +1047,7 @@ fn against_the_second_reader() {
     for _ in 0..200_000 {
         let input = datagram(&mut random);
         let payload = &input.payload;
-        let read = |strictness| read(payload, input.addresses, strictness);
+        let read = |strictness| read(payload, input.source, input.destination, strictness);
         for (strictness, result) in [Plain, Strict].into_iter().zip(by_setting(read)) {
             let Ok(reading) = result else {
                 continue;

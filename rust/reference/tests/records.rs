@@ -20,7 +20,7 @@ fn second_test(record: &Record) -> bool {
             continue;
         }
         live.push(place);
-        if assembly.count > PIECES as u32 {
+        if assembly.count > PIECES as u64 {
             return false;
         }
         let key = (assembly.flow, assembly.identification);
@@ -36,7 +36,7 @@ fn second_test(record: &Record) -> bool {
         let mut painted = vec![0u8; 1 << 17];
         let mut lasts = Vec::new();
         for (index, slot) in assembly.pieces.iter().enumerate() {
-            if index as u32 >= assembly.count {
+            if index as u64 >= assembly.count {
                 if *slot != fresh(1).assemblies[0].pieces[0] {
                     return false;
                 }
@@ -120,7 +120,7 @@ fn one_field_changed() {
         let s = random.below(PIECES);
         let assembly = &mut record.assemblies[a];
         let slot = &mut assembly.pieces[s];
-        match random.below(21) {
+        match random.below(20) {
             0 => record.time = near,
             1 => record.offered = value,
             2 => record.held = value,
@@ -129,8 +129,8 @@ fn one_field_changed() {
             5 => record.clashed = value,
             6 => record.repeated = value,
             7 => record.turned_away = value,
-            8 => assembly.flow.source[random.below(16)] = value as u8,
-            9 => assembly.flow.destination[random.below(16)] = value as u8,
+            8 => assembly.flow.source = (value as u32).to_be_bytes(),
+            9 => assembly.flow.destination = (value as u32).to_be_bytes(),
             10 => assembly.flow.source_port = value as u16,
             11 => assembly.flow.destination_port = value as u16,
             12 => assembly.identification = value as u32,
@@ -140,7 +140,6 @@ fn one_field_changed() {
             16 => slot.option_start = value as u16,
             17 => record.plan = value,
             18 => record.plan = random.below(ASSEMBLIES + 2) as u64,
-            19 => assembly.flow.version = value as u32,
             _ => slot.last ^= random.pick(&[1, 2, 255]),
         }
         assert_eq!(record_test(&record), second_test(&record), "{record:?}");
@@ -161,7 +160,7 @@ fn small_assemblies() {
     for _ in 0..10_000 {
         let mut record = fresh(1);
         let count = 1 + random.below(4);
-        record.assemblies[0].count = count as u32;
+        record.assemblies[0].count = count as u64;
         for slot in &mut record.assemblies[0].pieces[..count] {
             slot.offset = random.below(8) as u16;
             slot.length = random.below(4) as u16;
@@ -205,7 +204,7 @@ fn summed_assemblies() {
 /// has this list in its first assembly, and figures that fit.
 fn passes(slots: &[Slot]) -> bool {
     let mut record = fresh(1);
-    record.assemblies[0].count = slots.len() as u32;
+    record.assemblies[0].count = slots.len() as u64;
     record.assemblies[0].pieces[..slots.len()].copy_from_slice(slots);
     record.held = slots.iter().map(|slot| u64::from(slot.length)).sum();
     record.offered = record.held;
@@ -328,7 +327,7 @@ fn at_the_limits() {
     record.held = PIECES as u64;
     record.offered = record.held;
     for (count, sound) in [(PIECES, true), (PIECES + 1, false), (PIECES - 1, false)] {
-        record.assemblies[0].count = count as u32;
+        record.assemblies[0].count = count as u64;
         assert_eq!(record_test(&record), sound, "{count}");
         assert_eq!(second_test(&record), sound, "{count}");
     }
@@ -367,13 +366,9 @@ fn live_places_and_plans() {
 /// An unused place that is not fresh fails, within the plan and past it.
 #[test]
 fn unused_places_past_the_plan() {
-    let strays: [fn(&mut Assembly); 13] = [
+    let strays: [fn(&mut Assembly); 9] = [
         |unused| unused.flow.source[3] = 1,
-        |unused| unused.flow.source[15] = 1,
         |unused| unused.flow.destination[0] = 1,
-        |unused| unused.flow.destination[15] = 128,
-        |unused| unused.flow.version = 4,
-        |unused| unused.flow.version = 1 << 31,
         |unused| unused.flow.source_port = 1,
         |unused| unused.flow.destination_port = 256,
         |unused| unused.identification = 1 << 31,

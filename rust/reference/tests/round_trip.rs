@@ -3,16 +3,6 @@
 use reference::generate::{bad_docket, datagram, docket, original, writing, Random};
 use reference::*;
 
-const IPV4: Addresses = Addresses::V4 {
-    source: [1; 4],
-    destination: [2; 4],
-};
-
-const IPV6: Addresses = Addresses::V6 {
-    source: [1; 16],
-    destination: [2; 16],
-};
-
 #[test]
 fn writer_reader_listing() {
     let mut random = Random::new(4);
@@ -40,7 +30,7 @@ fn writer_reader_listing() {
         assert_eq!(payload[2..4], input.destination_port.to_be_bytes());
         assert_ne!(payload[6..8], [0, 0]);
         let [reading, strict] = [Strictness::Plain, Strictness::Strict]
-            .map(|strictness| read(payload, input.addresses, strictness).unwrap());
+            .map(|strictness| read(payload, input.source, input.destination, strictness).unwrap());
         assert_eq!(strict, reading);
         assert_eq!(reading.verdict, Verdict::Read);
         assert_eq!(payload[8..reading.user.to], input.user);
@@ -63,30 +53,36 @@ fn writer_reader_listing() {
     assert!(taken > 10_000);
 }
 
-/// 8's exact cause: the payload over 65,515, over IPv6 65,535, or over the
-/// buffer.
+/// 8's exact cause: the payload over 65,515 or over the buffer.
 #[test]
 fn writer_room() {
-    for (addresses, most) in [(IPV4, 65_515), (IPV6, 65_535)] {
-        let mut buffer = vec![0xEE; 70_000];
-        let mut write = |user: usize, fill: u8, room: usize| {
-            let (user, docket) = (vec![3; user], [2, 6, 0, 9, 1, 7]);
-            let buffer = &mut buffer[..room];
-            write(addresses, 3, 4, &user, &docket, fill, buffer)
-        };
-        // 8 + 2 + 6 + 3 bytes beside the user data, one more at an odd length.
-        assert_eq!(write(0, 0, 19), Ok(19));
-        assert_eq!(write(0, 0, 18), Err(8));
-        assert_eq!(write(1, 0, 21), Ok(21));
-        assert_eq!(write(1, 0, 20), Err(8));
-        assert_eq!(write(0, 255, 274), Ok(274));
-        assert_eq!(write(most - 19, 0, 70_000), Ok(most));
-        assert_eq!(write(most - 19, 1, 70_000), Err(8));
-        assert_eq!(write(most - 20, 0, 70_000), Ok(most));
-        assert_eq!(write(most - 18, 0, 70_000), Err(8));
-        assert_eq!(write(70_000, 0, 70_000), Err(8));
-        assert_eq!(write(0, 0, 0), Err(8));
-    }
+    let mut buffer = vec![0xEE; 70_000];
+    let mut write = |user: usize, fill: u8, room: usize| {
+        let user = vec![3; user];
+        let docket = [2, 6, 0, 9, 1, 7];
+        write(
+            [1; 4],
+            [2; 4],
+            3,
+            4,
+            &user,
+            &docket,
+            fill,
+            &mut buffer[..room],
+        )
+    };
+    // 8 + 2 + 6 + 3 bytes beside the user data, one more at an odd length.
+    assert_eq!(write(0, 0, 19), Ok(19));
+    assert_eq!(write(0, 0, 18), Err(8));
+    assert_eq!(write(1, 0, 21), Ok(21));
+    assert_eq!(write(1, 0, 20), Err(8));
+    assert_eq!(write(0, 255, 274), Ok(274));
+    assert_eq!(write(65_496, 0, 70_000), Ok(65_515));
+    assert_eq!(write(65_496, 1, 70_000), Err(8));
+    assert_eq!(write(65_495, 0, 70_000), Ok(65_515));
+    assert_eq!(write(65_497, 0, 70_000), Err(8));
+    assert_eq!(write(70_000, 0, 70_000), Err(8));
+    assert_eq!(write(0, 0, 0), Err(8));
 }
 
 #[test]
@@ -163,7 +159,7 @@ fn body_forms() {
         };
         let docket = encode(&[option]);
         let mut buffer = vec![0; 65_515];
-        let written = write(IPV4, 3, 4, &[], &docket, 0, &mut buffer).unwrap();
+        let written = write([1; 4], [2; 4], 3, 4, &[], &docket, 0, &mut buffer).unwrap();
         let list = &buffer[10..written];
         if length <= 252 {
             assert_eq!(list[..2], [191, length as u8 + 2]);
@@ -185,7 +181,7 @@ fn listings_of_any_reading() {
     for _ in 0..60_000 {
         let input = datagram(&mut random);
         let strictness = random.pick(&[Strictness::Plain, Strictness::Strict]);
-        if let Ok(reading) = read(&input.payload, input.addresses, strictness) {
+        if let Ok(reading) = read(&input.payload, input.source, input.destination, strictness) {
             let listing = list_options(&input.payload, &reading, &mut buffer).unwrap();
             let options = reading.options(&input.payload);
             let options = options.map(|located| located.option).collect();

@@ -245,7 +245,7 @@ fn ordered_record(random: &mut Random, order: Order, nudged: bool) -> Record {
         let slots = arrange(random, order, &slots);
         assembly.identification = number as u32;
         assembly.opened = 500 - random.below(2) as u64;
-        assembly.count = slots.len() as u32;
+        assembly.count = slots.len() as u64;
         assembly.pieces[..slots.len()].copy_from_slice(&slots);
         record.held += slots.iter().map(|slot| u64::from(slot.length)).sum::<u64>();
     }
@@ -358,15 +358,11 @@ fn change_field(random: &mut Random, record: &mut Record) {
         5 => record.clashed = value,
         6 => record.repeated = value,
         7 => record.turned_away = value,
-        8 => assembly.flow.source[random.below(16)] = value as u8,
-        9 => match random.below(3) {
-            0 => assembly.flow.destination[random.below(16)] = value as u8,
-            1 => assembly.flow.destination_port = value as u16,
-            _ => assembly.flow.version = value as u32,
-        },
+        8 => assembly.flow.source = (value as u32).to_be_bytes(),
+        9 => assembly.flow.destination_port = value as u16,
         10 => assembly.identification = value as u32,
         11 => assembly.opened = value,
-        12 => assembly.count = value as u32,
+        12 => assembly.count = value,
         13 => slot.offset = value as u16,
         14 => slot.length = value as u16,
         15 => slot.option_start = value as u16,

@@ -1,10 +1,9 @@
-//! Vectors from outside, and the sum and the CRC against the simplest spelling
-//! of them.
+//! Published vectors, and the sum and the CRC against the simplest spelling of
+//! them.
 
 use reference::checksum::{area_sum, fold, sent, sum, udp_sum};
 use reference::crc::crc32c;
 use reference::generate::Random;
-use reference::{read, write, Addresses, Range, Strictness, Verdict};
 
 fn bytes_of(data: &[u8]) -> [u8; 4] {
     crc32c(data).to_be_bytes()
@@ -116,122 +115,18 @@ fn sums_to_all_ones() {
 #[test]
 fn sums_with_their_lengths() {
     let mut random = Random::new(3);
-    for length in (0..200).chain([1_000, 1_001, 65_515, 65_535]) {
+    for length in (0..200).chain([1_000, 1_001, 65_515]) {
         let bytes = random.bytes(length);
         let even = [&(length as u16).to_be_bytes(), &bytes[..]].concat();
         let odd = [&(length as u16).to_be_bytes(), &[0][..], &bytes].concat();
         assert_eq!(area_sum(&bytes, false), slow_sum(&even), "{length}");
         assert_eq!(area_sum(&bytes, true), slow_sum(&odd), "{length}");
-        for (source, destination) in [(random.four(), random.four()), ([0xFF; 4], [0xFF; 4])] {
-            // RFC 768.
-            let count = (length as u16).to_be_bytes();
-            let pseudo = [&source[..], &destination, &[0, 17], &count, &bytes].concat();
-            let addresses = Addresses::V4 {
-                source,
-                destination,
-            };
-            assert_eq!(udp_sum(addresses, &bytes), slow_sum(&pseudo), "{length}");
-        }
-        for (source, destination) in [
-            (random.sixteen(), random.sixteen()),
-            ([0xFF; 16], [0xFF; 16]),
-            ([0; 16], [0; 16]),
-        ] {
-            // RFC 8200, section 8.1.
-            let count = (length as u32).to_be_bytes();
-            let pseudo = [&source[..], &destination, &count, &[0, 0, 0, 17], &bytes].concat();
-            let addresses = Addresses::V6 {
-                source,
-                destination,
-            };
-            assert_eq!(udp_sum(addresses, &bytes), slow_sum(&pseudo), "{length}");
+        for (a, b) in [(random.four(), random.four()), ([0xFF; 4], [0xFF; 4])] {
+            let pseudo = [&a[..], &b, &[0, 17], &(length as u16).to_be_bytes(), &bytes].concat();
+            assert_eq!(udp_sum(a, b, &bytes), slow_sum(&pseudo), "{length}");
         }
     }
     assert_eq!((sent(0), sent(0xFFFF), sent(1)), (0xFFFF, 0xFFFF, 0xFFFE));
-}
-
-/// IPv6 datagrams whose checksum Linux worked out (6.18.44, x86-64, 18 November
-/// 2026, taken from the loopback by `tools/vectors/capture.py`).
-fn from_the_kernel() -> [(Addresses, &'static [u8]); 4] {
-    let to_itself = between([0, 0, 0, 0, 0, 0, 0, 1], [0, 0, 0, 0, 0, 0, 0, 1]);
-    let two_hosts = between(
-        [0x2001, 0xDB8, 0, 1, 0, 0, 0, 10],
-        [0x2001, 0xDB8, 0, 2, 0, 0, 0, 11],
-    );
-    [
-        (to_itself, b"\x9c\x40\x16\x33\0\x14\x34\xa7level 412 cm"),
-        (
-            to_itself,
-            b"\x16\x33\xff\xff\0\x1d\xa6\x51gauge 7, level 412 cm",
-        ),
-        // All else sums to FFFF.
-        (to_itself, b"\x9c\x40\x16\x33\0\x0a\xff\xffMe"),
-        (
-            two_hosts,
-            b"\xc0\0\0\x35\0\x3b\x25\x77\x00\x05\x0a\x0f\x14\x19\x1e\x23\x28\x2d\x32\x37\
-            \x3c\x41\x46\x4b\x50\x55\x5a\x5f\x64\x69\x6e\x73\x78\x7d\x82\x87\x8c\x91\x96\x9b\
-            \xa0\xa5\xaa\xaf\xb4\xb9\xbe\xc3\xc8\xcd\xd2\xd7\xdc\xe1\xe6\xeb\xf0\xf5\xfa",
-        ),
-    ]
-}
-
-/// IPv6 addresses in groups of 16 bits.
-fn between(source: [u16; 8], destination: [u16; 8]) -> Addresses {
-    let octets = |groups: [u16; 8]| {
-        let mut octets = [0; 16];
-        for (two, group) in octets.chunks_mut(2).zip(groups) {
-            two.copy_from_slice(&group.to_be_bytes());
-        }
-        octets
-    };
-    Addresses::V6 {
-        source: octets(source),
-        destination: octets(destination),
-    }
-}
-
-#[test]
-fn kernel_datagrams() {
-    for (addresses, datagram) in from_the_kernel() {
-        let reading = read(datagram, addresses, Strictness::Plain).unwrap();
-        let user = Range {
-            from: 8,
-            to: datagram.len(),
-        };
-        assert_eq!((reading.user, reading.verdict), (user, Verdict::None));
-        // The writer makes the same bytes, and the area of an empty docket.
-        let port = |at: usize| u16::from_be_bytes([datagram[at], datagram[at + 1]]);
-        let mut buffer = [0; 100];
-        let (from, to) = (port(0), port(2));
-        let length = write(addresses, from, to, &datagram[8..], &[0], 0, &mut buffer).unwrap();
-        assert_eq!(buffer[..datagram.len()], *datagram);
-        let area: &[u8] = match datagram.len() % 2 {
-            0 => &[0xFF, 0xFD],
-            _ => &[0, 0xFF, 0xFC],
-        };
-        assert_eq!(buffer[datagram.len()..length], *area);
-    }
-}
-
-/// No datagram from outside is read that differs in one byte of it.
-#[test]
-fn kernel_datagrams_changed() {
-    for (addresses, datagram) in from_the_kernel() {
-        for at in 0..datagram.len() {
-            for change in 1..=255 {
-                let mut changed = datagram.to_vec();
-                changed[at] ^= change;
-                let answer = read(&changed, addresses, Strictness::Plain);
-                let zero = changed[6..8] == [0, 0];
-                match at {
-                    // L, which the sum has too.
-                    4 | 5 => assert!(matches!(answer, Err(3 | 4)), "{at} {change}"),
-                    _ if zero => assert_eq!(answer, Err(10), "{at} {change}"),
-                    _ => assert_eq!(answer, Err(4), "{at} {change}"),
-                }
-            }
-        }
-    }
 }
 
 #[test]

@@ -1,14 +1,10 @@
 //! Lists of calls on a table. Lines: `table of plans PLAN PLAN .., store BYTES,
 //! out BYTES` (what is lent from here on: a record for each plan, which gets
 //! it), `set up`, `piece` or `last` CLIENT at TIME key FLOW/IDENTIFICATION
-//! place PLACE length LENGTH r R other OTHER version VERSION behind BYTES,
-//! `clock CLIENT at TIME`, `bill CLIENT`, `forge CLIENT field FIELD place PLACE
-//! slot SLOT value VALUE`, and `end`. Of a line its first letter and its numbers
-//! count; a number that is not there is 0, and the version 4. Other lines are
-//! titles.
-//!
-//! Payloads are told by words: `receive CLIENT at TIME [strictly] from ADDRESS
-//! to ADDRESS bytes BYTES`. The answer is that of the piece, or the reading.
+//! place PLACE length LENGTH r R other OTHER, `clock CLIENT at TIME`, `bill
+//! CLIENT`, `forge CLIENT field FIELD place PLACE slot SLOT value VALUE`, and
+//! `end`. Of a line its first letter and its numbers count; a number that is
+//! not there is 0. Other lines are titles.
 //!
 //! Every line is printed with its answer, and at the end of a list the CRC32c
 //! of the whole store. A list starts with a store of 5a, and finds the records
@@ -16,11 +12,8 @@
 
 use crate::crc::crc32c;
 use crate::forge::forge;
-use crate::readings::told_of_reading;
-use crate::words::Words;
 use wuraketozo::{
-    Account, Answer, Arrival, Client, Flow, Place, Plan, Received, Refusal, Strictness, Table,
-    CLIENT_LIMIT,
+    Account, Answer, Arrival, Client, Flow, Place, Plan, Refusal, Table, CLIENT_LIMIT,
 };
 
 /// One record more than a table may have, and one byte more than their store
@@ -118,7 +111,6 @@ impl Lists {
             'c' => told(table.advance(client, numbers.get(1)), |()| "taken".into()),
             'b' => told(table.account(client), figures),
             'p' | 'l' => offered(&mut table, letter == 'l', numbers, self.room),
-            'r' => received(&mut table, &mut Words::of(line), self.room)?,
             _ => String::new(),
         })
     }
@@ -129,7 +121,7 @@ impl Lists {
 fn offered(table: &mut Table, last: bool, numbers: &Numbers, room: usize) -> String {
     let arrival = Arrival {
         time: numbers.get(1),
-        flow: flow(numbers),
+        flow: flow(numbers.get(2)),
         identification: numbers.get(3) as u32,
         place: Place(numbers.size(4)),
         last,
@@ -137,34 +129,6 @@ fn offered(table: &mut Table, last: bool, numbers: &Numbers, room: usize) -> Str
     };
     let mut out = vec![BLANK; room];
     let answer = table.offer(numbers.size(0), &arrival, &bytes(numbers), &mut out);
-    with_out(answer, &out)
-}
-
-/// A payload: what comes of the fragment that it is, or the reading.
-fn received(table: &mut Table, words: &mut Words, room: usize) -> Result<String, String> {
-    words.skip("receive")?;
-    let client = words.number()?;
-    words.skip("at")?;
-    let time = words.number()?;
-    let strictness = match words.skipped("strictly") {
-        true => Strictness::Strict,
-        false => Strictness::Plain,
-    };
-    words.skip("from")?;
-    let addresses = words.addresses()?;
-    words.skip("bytes")?;
-    let payload = words.bytes()?;
-    let mut out = vec![BLANK; room];
-    let text = match table.receive(client, time, addresses, strictness, &payload, &mut out) {
-        Received::Fragment(answer) => return Ok(with_out(answer, &out)),
-        Received::Datagram(reading) => format!(": datagram{}", told_of_reading(&payload, &reading)),
-        Received::Unread(refusal) => format!(": unread {}", refusal.number()),
-    };
-    Ok(text + touched(&out))
-}
-
-/// The answer to a fragment.
-fn with_out(answer: Result<Answer, Refusal>, out: &[u8]) -> String {
     let text = told(answer, |answer| match answer {
         Answer::Stored => "stored".into(),
         Answer::Repeated => "repeated".into(),
@@ -175,17 +139,11 @@ fn with_out(answer: Result<Answer, Refusal>, out: &[u8]) -> String {
         } => format!("delivered {length} {}", option_start.0),
     });
     if matches!(answer, Ok(Answer::Delivered { .. })) {
-        format!("{text} out {:08x}", crc32c(out))
+        format!("{text} out {:08x}", crc32c(&out))
+    } else if out.iter().any(|byte| *byte != BLANK) {
+        text + " out touched"
     } else {
-        text + touched(out)
-    }
-}
-
-/// Without a delivery the out buffer stays as it was.
-fn touched(out: &[u8]) -> &'static str {
-    match out.iter().all(|byte| *byte == BLANK) {
-        true => "",
-        false => " out touched",
+        text
     }
 }
 
@@ -204,22 +162,13 @@ fn figures(a: Account) -> String {
 }
 
 /// Flows 1, 256, 65,536 and 4,294,967,296 differ from flow 0 in one part each.
-/// Behind the four bytes of an address stand zeros, but for the bytes of
-/// `behind`, lowest first: the source's 16th, the destination's 16th, the
-/// source's fifth, the destination's fifth.
-fn flow(numbers: &Numbers) -> Flow {
-    let [n, behind] = [numbers.get(2), numbers.get(9)].map(u64::to_le_bytes);
-    let mut flow = Flow {
-        source_port: u16::from_le_bytes([n[2], n[3]]),
-        destination_port: u16::from_le_bytes([n[4], n[5]]),
-        version: numbers.0.get(8).map_or(4, |version| *version as u32),
-        ..Flow::default()
-    };
-    flow.source[..4].copy_from_slice(&[192, 0, 2, n[0]]);
-    flow.destination[..4].copy_from_slice(&[198, 51, 100, n[1]]);
-    (flow.source[15], flow.destination[15]) = (behind[0], behind[1]);
-    (flow.source[4], flow.destination[4]) = (behind[2], behind[3]);
-    flow
+fn flow(n: u64) -> Flow {
+    Flow {
+        source: [192, 0, 2, n as u8],
+        destination: [198, 51, 100, (n >> 8) as u8],
+        source_port: (n >> 16) as u16,
+        destination_port: (n >> 32) as u16,
+    }
 }
 
 /// A fragment's bytes: each goes by its place in the original, the

@@ -23,21 +23,16 @@ pub fn forge(record: &mut Client, field: u64, place: usize, slot: usize, value: 
     }
 }
 
-/// Fields 8 to 11, 16 to 18, and 20 to 22: what an assembly has beside its
-/// fragments. 16 and 17 are the first four bytes of an address, 21 and 22 the
-/// one byte of it that the slot says.
+/// Fields 8 to 11, and 16 to 18: what an assembly has beside its fragments.
 fn forge_assembly(assembly: &mut Assembly, field: u64, slot: usize, value: u64) {
     match field {
         8 => assembly.identification = value as u32,
         9 => assembly.flow.source_port = value as u16,
         10 => assembly.opened = value,
-        11 => assembly.count = value as u32,
-        16 => assembly.flow.source[..4].copy_from_slice(&(value as u32).to_be_bytes()),
-        17 => assembly.flow.destination[..4].copy_from_slice(&(value as u32).to_be_bytes()),
+        11 => assembly.count = value,
+        16 => assembly.flow.source = (value as u32).to_be_bytes(),
+        17 => assembly.flow.destination = (value as u32).to_be_bytes(),
         18 => assembly.flow.destination_port = value as u16,
-        20 => assembly.flow.version = value as u32,
-        21 => assembly.flow.source[slot % 16] = value as u8,
-        22 => assembly.flow.destination[slot % 16] = value as u8,
         _ => {
             let held = &mut assembly.fragments[slot % FRAGMENT_LIMIT];
             forge_fragment(held, field, value);

@@ -4,7 +4,6 @@
 #![forbid(unsafe_code)]
 
 mod calls;
-mod changes;
 mod crc;
 mod forge;
 mod readings;

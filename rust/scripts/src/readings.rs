@@ -2,33 +2,24 @@
 //! by one, and walks over ranges that no reader gave. Lines:
 //!
 //!     packet NAME [from ADDRESS to ADDRESS] bytes BYTES
-//!     changes NAME [from ADDRESS to ADDRESS] bytes BYTES
 //!     original NAME r NUMBER bytes BYTES
 //!     walk NAME verdict VERDICT rest NUMBER NUMBER bytes BYTES
 //!
-//! The first three have two answers, `NAME plain ..` and `NAME strict ..`. So has a
+//! The first two have two answers, `NAME plain ..` and `NAME strict ..`. So has a
 //! walk, `NAME packet ..` and `NAME original ..`: its bytes are both. An option
 //! is told as `kind KIND at OFFSET BODY`, a long body by its length and CRC32c.
-//! Addresses are those of IPv4 or of IPv6, which says how a packet is read.
-//! `changes` reads all that differs from a packet in one byte, an address or the
-//! payload, and tells how often each refusal and each verdict came. Lines that
-//! start with `--` are remarks.
+//! Lines that start with `--` are remarks.
 
-use crate::changes::tally;
 use crate::crc::crc32c;
 use crate::words::Words;
 use std::fmt::Write;
-use std::net::Ipv4Addr;
 use wuraketozo::{
-    read, reread, rewalk, walk, Addresses, Apc, Located, PacketOffset, Place, Reading, Refusal,
-    Rereading, Strictness, Verdict,
+    read, reread, rewalk, walk, Apc, Located, PacketOffset, Place, Reading, Refusal, Rereading,
+    Strictness, Verdict,
 };
 
-/// Where a line says nothing of them.
-pub const ADDRESSES: Addresses = Addresses::V4 {
-    source: Ipv4Addr::new(192, 0, 2, 1),
-    destination: Ipv4Addr::new(198, 51, 100, 7),
-};
+const SOURCE: [u8; 4] = [192, 0, 2, 1];
+const DESTINATION: [u8; 4] = [198, 51, 100, 7];
 
 pub fn run(script: &str) -> Result<String, String> {
     let mut said = String::new();
@@ -38,10 +29,9 @@ pub fn run(script: &str) -> Result<String, String> {
         let name = words.word()?;
         let answers = match what {
             "packet" => packet(&mut words)?,
-            "changes" => changes(&mut words)?,
             "original" => original(&mut words)?,
             "walk" => made_up(&mut words)?,
-            _ => return words.wrong("neither packet, changes, original nor walk"),
+            _ => return words.wrong("neither packet, original nor walk"),
         };
         for (way, answer) in answers {
             said += &format!("{name} {way}{answer}\n");
@@ -62,45 +52,17 @@ fn by_setting(told: impl Fn(Strictness) -> Result<String, Refusal>) -> Answers {
 }
 
 fn packet(words: &mut Words) -> Result<Answers, String> {
-    let (addresses, payload) = sent(words)?;
-    Ok(by_setting(|strictness| {
-        told_of_payload(&payload, addresses, strictness)
-    }))
-}
-
-/// A packet's addresses and payload.
-fn sent(words: &mut Words) -> Result<(Addresses, Vec<u8>), String> {
-    let mut addresses = ADDRESSES;
+    let (mut source, mut destination) = (SOURCE, DESTINATION);
     if words.skipped("from") {
-        addresses = words.addresses()?;
+        source = words.address()?;
+        words.skip("to")?;
+        destination = words.address()?;
     }
     words.skip("bytes")?;
-    Ok((addresses, words.bytes()?))
-}
-
-fn told_of_payload(
-    payload: &[u8],
-    addresses: Addresses,
-    strictness: Strictness,
-) -> Result<String, Refusal> {
-    let reading = read(payload, addresses, strictness)?;
-    Ok(told_of_reading(payload, &reading))
-}
-
-/// Every field of a reading, and its options one by one.
-pub fn told_of_reading(payload: &[u8], reading: &Reading) -> String {
-    told_of_packet(reading) + &options(walk(payload, reading))
-}
-
-/// What plain reading gives.
-pub fn told_plainly(payload: &[u8], addresses: Addresses) -> String {
-    told_of_payload(payload, addresses, Strictness::Plain).unwrap_or_else(refused)
-}
-
-fn changes(words: &mut Words) -> Result<Answers, String> {
-    let (addresses, payload) = sent(words)?;
+    let payload = words.bytes()?;
     Ok(by_setting(|strictness| {
-        Ok(tally(addresses, &payload, strictness))
+        let reading = read(&payload, source, destination, strictness)?;
+        Ok(told_of_packet(&reading) + &options(walk(&payload, &reading)))
     }))
 }
 

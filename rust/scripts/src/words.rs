@@ -1,9 +1,7 @@
 //! A script line as words.
 
 use std::iter::Peekable;
-use std::net::IpAddr;
 use std::str::{FromStr, SplitWhitespace};
-use wuraketozo::Addresses;
 
 /// The words of a line that are left.
 pub struct Words<'a> {
@@ -51,20 +49,12 @@ impl<'a> Words<'a> {
         }
     }
 
-    /// `192.0.2.1 to 198.51.100.7`, or `2001:db8::1 to 2001:db8::2`
-    pub fn addresses(&mut self) -> Result<Addresses, String> {
-        let source = self.address()?;
-        self.skip("to")?;
-        match Addresses::between(source, self.address()?) {
-            Some(addresses) => Ok(addresses),
-            None => self.wrong("one address of each version"),
-        }
-    }
-
-    fn address(&mut self) -> Result<IpAddr, String> {
-        match self.word()?.parse() {
-            Ok(address) => Ok(address),
-            Err(_) => self.wrong("not an address"),
+    /// `192.0.2.1`
+    pub fn address(&mut self) -> Result<[u8; 4], String> {
+        let parts: Result<Vec<u8>, _> = self.word()?.split('.').map(u8::from_str).collect();
+        match parts.map(<[u8; 4]>::try_from) {
+            Ok(Ok(address)) => Ok(address),
+            _ => self.wrong("not an address"),
         }
     }
 
@@ -93,5 +83,5 @@ impl<'a> Words<'a> {
 }
 
 fn is_hex(word: &str) -> bool {
-    word.len().is_multiple_of(2) && word.bytes().all(|byte| byte.is_ascii_hexdigit())
+    word.len() % 2 == 0 && word.bytes().all(|byte| byte.is_ascii_hexdigit())
 }

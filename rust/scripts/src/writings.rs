@@ -1,19 +1,20 @@
 //! Cases of the writer. Lines:
 //!
-//!     write NAME [from ADDRESS to ADDRESS] [ports NUMBER NUMBER]
-//!         data BYTES list BYTES fill NUMBER room NUMBER [back]
+//!     write NAME data BYTES list BYTES fill NUMBER room NUMBER
 //!
 //! Each prints the answer, the CRC32c of the whole buffer lent, and a short
-//! payload; with `back` what was written is read over the same addresses, in a
-//! line of its own, `NAME back ..`. Lines that start with `--` are remarks.
+//! payload. Lines that start with `--` are remarks.
 
 use crate::crc::crc32c;
-use crate::readings::{told_plainly, ADDRESSES};
 use crate::words::Words;
-use wuraketozo::write;
+use wuraketozo::{write, Flow};
 
-/// Where a line says nothing of them.
-const PORTS: (u16, u16) = (4660, 53);
+const FLOW: Flow = Flow {
+    source: [192, 0, 2, 1],
+    destination: [198, 51, 100, 7],
+    source_port: 4660,
+    destination_port: 53,
+};
 
 /// What a buffer holds before the call.
 const UNTOUCHED: u8 = 0x5A;
@@ -32,14 +33,6 @@ pub fn run(script: &str) -> Result<String, String> {
 fn case(words: &mut Words) -> Result<String, String> {
     words.skip("write")?;
     let name = words.word()?;
-    let mut addresses = ADDRESSES;
-    if words.skipped("from") {
-        addresses = words.addresses()?;
-    }
-    let mut ports = PORTS;
-    if words.skipped("ports") {
-        ports = (words.number()?, words.number()?);
-    }
     words.skip("data")?;
     let data = words.bytes()?;
     words.skip("list")?;
@@ -48,10 +41,9 @@ fn case(words: &mut Words) -> Result<String, String> {
     let fill = words.number()?;
     words.skip("room")?;
     let mut buffer = vec![UNTOUCHED; words.number()?];
-    let back = words.skipped("back");
-    let answer = write(addresses, ports.0, ports.1, &data, &list, fill, &mut buffer);
+    let answer = write(&FLOW, &data, &list, fill, &mut buffer);
     let crc = crc32c(&buffer);
-    let mut said = match answer {
+    Ok(match answer {
         Err(refusal) => format!("{name} refused {} buffer {crc:08x}\n", refusal.number()),
         Ok(length) if length > SHOWN => format!("{name} length {length} buffer {crc:08x}\n"),
         Ok(length) => {
@@ -62,10 +54,5 @@ fn case(words: &mut Words) -> Result<String, String> {
                 .collect();
             format!("{name} length {length} buffer {crc:08x} payload {payload}\n")
         }
-    };
-    if let (true, Ok(length)) = (back, answer) {
-        let read = told_plainly(&buffer[..length], addresses);
-        said += &format!("{name} back{read}\n");
-    }
-    Ok(said)
+    })
 }

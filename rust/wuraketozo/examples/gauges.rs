@@ -1,34 +1,17 @@
-//! Reads datagrams of a gauge over IPv4 and of one over IPv6, puts a fragmented
-//! one together, and shows an account. Options and faults are shown with their
-//! offsets, as in a packet trace.
+//! Reads datagrams, puts a fragmented one together, and shows an account. Options
+//! and faults are shown with their offsets, as in a packet trace.
 
-use std::net::{Ipv4Addr, Ipv6Addr};
 use wuraketozo::{
-    entries, list, relist, reread, rewalk, store_length, walk, write, Addresses, Answer, Apc,
-    Client, Entry, Located, Plan, Received, Refusal, Strictness, Table, Value, Verdict,
-    ORIGINAL_LIMIT,
+    entries, list, relist, reread, rewalk, store_length, walk, write, Answer, Apc, Client, Entry,
+    Flow, Located, Plan, Received, Refusal, Strictness, Table, Value, Verdict, ORIGINAL_LIMIT,
 };
 
-/// From the gauge over IPv4 to the host. A host that receives has both ends from
-/// its socket: `Addresses::between(source.to_canonical(), destination.to_canonical())`.
-const IPV4: Addresses = Addresses::V4 {
-    source: Ipv4Addr::new(192, 0, 2, 1),
-    destination: Ipv4Addr::new(198, 51, 100, 7),
+const GAUGE: Flow = Flow {
+    source: [192, 0, 2, 1],
+    destination: [198, 51, 100, 7],
+    source_port: 4_660,
+    destination_port: 53,
 };
-
-/// From the gauge over IPv6 to the host.
-const IPV6: Addresses = Addresses::V6 {
-    source: Ipv6Addr::new(0x2001, 0xdb8, 0, 0, 0, 0, 0, 7),
-    destination: Ipv6Addr::new(0x2001, 0xdb8, 0, 0, 0, 0, 0, 1),
-};
-
-/// Both gauges send from port 4660 to port 53.
-fn written(addresses: Addresses, user: &[u8], list: &[u8]) -> Result<Vec<u8>, Refusal> {
-    let mut payload = vec![0; 64];
-    let length = write(addresses, 4_660, 53, user, list, 0, &mut payload)?;
-    payload.truncate(length);
-    Ok(payload)
-}
 
 /// More than seven NOPs in a row would be the verdict `Padded`.
 const STRICTNESS: Strictness = Strictness::Strict;
@@ -92,27 +75,24 @@ fn main() -> Result<(), Refusal> {
     let mut table = Table::new(&mut records, &mut store);
     table.reset()?;
 
-    // Over IPv4 and over IPv6 a datagram with an APC and a REQ with token 300;
-    // one with a fault and no checksum, which only IPv4 allows; then a
+    // A datagram with an APC and a REQ with token 300, one with a fault, then a
     // fragmented original, its last fragment first: 12 bytes of data, then its
     // options. A fragment of another original comes in between: the plan has no
     // place for it.
-    let list_in = [2, 2, 6, 0xAC, 2];
+    let mut whole = [0; 64];
+    let length = write(&GAUGE, b"level 412 cm", &[2, 2, 6, 0xAC, 2], 0, &mut whole)?;
     let arrivals = [
-        (IPV4, written(IPV4, b"level 412 cm", &list_in)?),
-        (IPV6, written(IPV6, b"level 87 cm", &list_in)?),
-        (IPV4, faulty()),
-        (IPV6, faulty()),
-        (
-            IPV4,
-            fragment(7, 6, b"413 cm\0\0\x06\x06\0\0\x01\x2d", Some(12)),
-        ),
-        (IPV4, fragment(8, 0, b"next: ", None)),
-        (IPV4, fragment(7, 0, b"level ", None)),
+        whole[..length].to_vec(),
+        faulty(),
+        fragment(7, 6, b"413 cm\0\0\x06\x06\0\0\x01\x2d", Some(12)),
+        fragment(8, 0, b"next: ", None),
+        fragment(7, 0, b"level ", None),
     ];
     let mut buffer = [0; 256];
-    for (time, (addresses, payload)) in arrivals.iter().enumerate() {
-        match table.receive(1, time as u64, *addresses, STRICTNESS, payload, &mut out) {
+    for (time, payload) in arrivals.iter().enumerate() {
+        let time = time as u64;
+        let (source, destination) = (GAUGE.source, GAUGE.destination);
+        match table.receive(1, time, source, destination, STRICTNESS, payload, &mut out) {
             Received::Unread(refusal) => println!("{refusal}"),
             Received::Datagram(reading) => {
                 let listing = list(payload, &reading, &mut buffer)?;

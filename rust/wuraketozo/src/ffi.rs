@@ -7,13 +7,10 @@
 //! - what may be written does not overlap anything else that is lent, and no
 //!   other thread uses it: it comes from a `&mut`.
 
-use crate::addresses::Addresses;
 use crate::reading::PacketOffset;
 use crate::record::{Account, Client, Flow, Place, Plan};
 use core::mem::{align_of, offset_of, size_of};
-use core::net::{Ipv4Addr, Ipv6Addr};
 
-/// `wuraketozo_address`
 #[repr(C)]
 #[derive(Clone, Copy)]
 struct Address {
@@ -21,23 +18,8 @@ struct Address {
 }
 
 impl Address {
-    fn of(address: Ipv4Addr) -> Address {
-        let octets = address.octets();
+    fn of(octets: [u8; 4]) -> Address {
         Address { octets }
-    }
-}
-
-/// `wuraketozo_address_ipv6`
-#[repr(C)]
-#[derive(Clone, Copy)]
-struct AddressIpv6 {
-    octets: [u8; 16],
-}
-
-impl AddressIpv6 {
-    fn of(address: Ipv6Addr) -> AddressIpv6 {
-        let octets = address.octets();
-        AddressIpv6 { octets }
     }
 }
 
@@ -145,9 +127,9 @@ pub struct Fragment {
     pub time: u64,
     pub flow: Flow,
     pub identification: u32,
-    pub last: u32,
     pub place: Place,
     pub option_start: Place,
+    pub last: u32,
 }
 
 /// `wuraketozo_received`
@@ -161,8 +143,8 @@ pub struct Received {
 
 mod c {
     use super::{
-        Address, AddressIpv6, Answer, Client, Extent, Fragment, Listing, OriginalExtent,
-        OriginalOption, PacketOption, Place, Reading, Received, Rereading, Written,
+        Address, Answer, Client, Extent, Fragment, Listing, OriginalExtent, OriginalOption,
+        PacketOption, Place, Reading, Received, Rereading, Written,
     };
 
     extern "C" {
@@ -171,13 +153,6 @@ mod c {
             length: usize,
             source: Address,
             destination: Address,
-            strictness: u32,
-        ) -> Reading;
-        pub fn wuraketozo_read_ipv6(
-            payload: *const u8,
-            length: usize,
-            source: AddressIpv6,
-            destination: AddressIpv6,
             strictness: u32,
         ) -> Reading;
         pub fn wuraketozo_reread(
@@ -227,20 +202,7 @@ mod c {
             buffer: *mut u8,
             room: usize,
         ) -> Written;
-        pub fn wuraketozo_write_ipv6(
-            source: AddressIpv6,
-            destination: AddressIpv6,
-            source_port: u16,
-            destination_port: u16,
-            user: *const u8,
-            user_length: usize,
-            list: *const u8,
-            list_length: usize,
-            fill: u8,
-            buffer: *mut u8,
-            room: usize,
-        ) -> Written;
-        pub fn wuraketozo_layout_8() -> usize;
+        pub fn wuraketozo_layout_7() -> usize;
         pub fn wuraketozo_share_size(plan: u64) -> usize;
         pub fn wuraketozo_out_size() -> usize;
         pub fn wuraketozo_client_limit() -> usize;
@@ -292,49 +254,25 @@ mod c {
             out: *mut u8,
             room: usize,
         ) -> Received;
-        pub fn wuraketozo_receive_ipv6(
-            records: *mut Client,
-            count: usize,
-            store: *mut u8,
-            store_length: usize,
-            k: usize,
-            time: u64,
-            source: AddressIpv6,
-            destination: AddressIpv6,
-            strictness: u32,
-            payload: *const u8,
-            length: usize,
-            out: *mut u8,
-            room: usize,
-        ) -> Received;
     }
 }
 
 /// A library of another layout has no symbol of this name, so that nothing
 /// that uses this crate links against it.
 #[used]
-static LAYOUT: unsafe extern "C" fn() -> usize = c::wuraketozo_layout_8;
+static LAYOUT: unsafe extern "C" fn() -> usize = c::wuraketozo_layout_7;
 
 #[inline]
-pub fn read(payload: &[u8], addresses: Addresses, strictness: u32) -> Reading {
-    let (bytes, length) = (payload.as_ptr(), payload.len());
-    match addresses {
-        Addresses::V4 {
-            source,
-            destination,
-        } => {
-            let (source, destination) = (Address::of(source), Address::of(destination));
-            // SAFETY: see the head of this file.
-            unsafe { c::wuraketozo_read(bytes, length, source, destination, strictness) }
-        }
-        Addresses::V6 {
-            source,
-            destination,
-        } => {
-            let (source, destination) = (AddressIpv6::of(source), AddressIpv6::of(destination));
-            // SAFETY: see the head of this file.
-            unsafe { c::wuraketozo_read_ipv6(bytes, length, source, destination, strictness) }
-        }
+pub fn read(payload: &[u8], source: [u8; 4], destination: [u8; 4], strictness: u32) -> Reading {
+    // SAFETY: see the head of this file.
+    unsafe {
+        c::wuraketozo_read(
+            payload.as_ptr(),
+            payload.len(),
+            Address::of(source),
+            Address::of(destination),
+            strictness,
+        )
     }
 }
 
@@ -389,9 +327,11 @@ pub fn renext(original: &[u8], verdict: u32, rest: OriginalExtent) -> OriginalOp
     unsafe { c::wuraketozo_renext(original.as_ptr(), original.len(), verdict, rest) }
 }
 
+#[allow(clippy::too_many_arguments)]
 #[inline]
 pub fn write(
-    addresses: Addresses,
+    source: [u8; 4],
+    destination: [u8; 4],
     source_port: u16,
     destination_port: u16,
     user: &[u8],
@@ -399,49 +339,21 @@ pub fn write(
     fill: u8,
     buffer: &mut [u8],
 ) -> Written {
-    match addresses {
-        Addresses::V4 {
-            source,
-            destination,
-        } => {
-            // SAFETY: see the head of this file.
-            unsafe {
-                c::wuraketozo_write(
-                    Address::of(source),
-                    Address::of(destination),
-                    source_port,
-                    destination_port,
-                    user.as_ptr(),
-                    user.len(),
-                    list.as_ptr(),
-                    list.len(),
-                    fill,
-                    buffer.as_mut_ptr(),
-                    buffer.len(),
-                )
-            }
-        }
-        Addresses::V6 {
-            source,
-            destination,
-        } => {
-            // SAFETY: see the head of this file.
-            unsafe {
-                c::wuraketozo_write_ipv6(
-                    AddressIpv6::of(source),
-                    AddressIpv6::of(destination),
-                    source_port,
-                    destination_port,
-                    user.as_ptr(),
-                    user.len(),
-                    list.as_ptr(),
-                    list.len(),
-                    fill,
-                    buffer.as_mut_ptr(),
-                    buffer.len(),
-                )
-            }
-        }
+    // SAFETY: see the head of this file.
+    unsafe {
+        c::wuraketozo_write(
+            Address::of(source),
+            Address::of(destination),
+            source_port,
+            destination_port,
+            user.as_ptr(),
+            user.len(),
+            list.as_ptr(),
+            list.len(),
+            fill,
+            buffer.as_mut_ptr(),
+            buffer.len(),
+        )
     }
 }
 
@@ -452,7 +364,7 @@ pub fn sizes() -> [usize; 6] {
     // SAFETY: these take numbers and touch nothing.
     unsafe {
         [
-            c::wuraketozo_layout_8(),
+            c::wuraketozo_layout_7(),
             c::wuraketozo_out_size(),
             c::wuraketozo_client_limit(),
             c::wuraketozo_share_size(Plan::SMALLEST.get()),
@@ -532,58 +444,29 @@ pub fn receive(
     store: &mut [u8],
     k: usize,
     time: u64,
-    addresses: Addresses,
+    source: [u8; 4],
+    destination: [u8; 4],
     strictness: u32,
     payload: &[u8],
     out: &mut [u8],
 ) -> Received {
-    match addresses {
-        Addresses::V4 {
-            source,
-            destination,
-        } => {
-            // SAFETY: see the head of this file.
-            unsafe {
-                c::wuraketozo_receive(
-                    records.as_mut_ptr(),
-                    records.len(),
-                    store.as_mut_ptr(),
-                    store.len(),
-                    k,
-                    time,
-                    Address::of(source),
-                    Address::of(destination),
-                    strictness,
-                    payload.as_ptr(),
-                    payload.len(),
-                    out.as_mut_ptr(),
-                    out.len(),
-                )
-            }
-        }
-        Addresses::V6 {
-            source,
-            destination,
-        } => {
-            // SAFETY: see the head of this file.
-            unsafe {
-                c::wuraketozo_receive_ipv6(
-                    records.as_mut_ptr(),
-                    records.len(),
-                    store.as_mut_ptr(),
-                    store.len(),
-                    k,
-                    time,
-                    AddressIpv6::of(source),
-                    AddressIpv6::of(destination),
-                    strictness,
-                    payload.as_ptr(),
-                    payload.len(),
-                    out.as_mut_ptr(),
-                    out.len(),
-                )
-            }
-        }
+    // SAFETY: see the head of this file.
+    unsafe {
+        c::wuraketozo_receive(
+            records.as_mut_ptr(),
+            records.len(),
+            store.as_mut_ptr(),
+            store.len(),
+            k,
+            time,
+            Address::of(source),
+            Address::of(destination),
+            strictness,
+            payload.as_ptr(),
+            payload.len(),
+            out.as_mut_ptr(),
+            out.len(),
+        )
     }
 }
 
@@ -602,10 +485,10 @@ pub fn record_of(bytes: [u8; size_of::<Client>()]) -> Client {
 /// The fields of a record's structs leave no gap: their sizes sum to it.
 #[allow(dead_code)]
 const NO_GAP: () = {
-    assert!(size_of::<Flow>() == 16 + 16 + 2 + 2 + 4);
+    assert!(size_of::<Flow>() == 4 + 4 + 2 + 2);
     assert!(size_of::<Held>() == 2 + 2 + 2 + 2);
     assert!(
-        size_of::<Assembly>() == size_of::<Flow>() + 4 + 4 + 8 + FRAGMENT_LIMIT * size_of::<Held>()
+        size_of::<Assembly>() == size_of::<Flow>() + 4 + 8 + 8 + FRAGMENT_LIMIT * size_of::<Held>()
     );
     assert!(size_of::<Client>() == 9 * 8 + ASSEMBLY_LIMIT * size_of::<Assembly>());
 };
@@ -635,13 +518,11 @@ use crate::record::{Assembly, Held, ASSEMBLY_LIMIT, FRAGMENT_LIMIT};
 
 layouts! {
     Address "wuraketozo_address" 4 1: octets 0;
-    AddressIpv6 "wuraketozo_address_ipv6" 16 1: octets 0;
-    Flow "wuraketozo_flow" 40 4:
-        source 0, destination 16, source_port 32, destination_port 34, version 36;
+    Flow "wuraketozo_flow" 12 2: source 0, destination 4, source_port 8, destination_port 10;
     Held "wuraketozo_held" 8 2: offset 0, length 2, option_start 4, last 6;
-    Assembly "wuraketozo_assembly" 568 8:
-        flow 0, identification 40, count 44, opened 48, fragments 56;
-    Client "wuraketozo_client" 4616 8:
+    Assembly "wuraketozo_assembly" 544 8:
+        flow 0, identification 12, opened 16, count 24, fragments 32;
+    Client "wuraketozo_client" 4424 8:
         plan 0, time 8, offered 16, held 24, delivered 32, expired 40, conflicted 48,
         repeated 56, rejected 64, assemblies 72;
     Account "wuraketozo_figures" 56 8:
@@ -659,8 +540,8 @@ layouts! {
     Written "wuraketozo_written" 16 8: refusal 0, size 8;
     Answer "wuraketozo_answer" 80 8:
         refusal 0, outcome 4, length 8, option_start 16, figures 24;
-    Fragment "wuraketozo_fragment" 72 8:
-        time 0, flow 8, identification 48, last 52, place 56, option_start 64;
+    Fragment "wuraketozo_fragment" 48 8:
+        time 0, flow 8, identification 20, place 24, option_start 32, last 40;
     Received "wuraketozo_received" 200 8: what 0, reading 8, answer 120;
 }
 
@@ -669,7 +550,6 @@ mod tests {
     use super::LAYOUTS;
     use crate::reading::tests::verdicts;
     use crate::{Plan, Strictness, ASSEMBLY_LIMIT, CLIENT_LIMIT, FRAGMENT_LIMIT, ORIGINAL_LIMIT};
-    use crate::{PAYLOAD_LIMIT_IPV4, PAYLOAD_LIMIT_IPV6};
     use std::io::Write;
     use std::process::{Command, Stdio};
 
@@ -701,8 +581,6 @@ mod tests {
             ("ASSEMBLY_LIMIT", ASSEMBLY_LIMIT),
             ("FRAGMENT_LIMIT", FRAGMENT_LIMIT),
             ("ORIGINAL_LIMIT", ORIGINAL_LIMIT),
-            ("PAYLOAD_LIMIT_IPV4", PAYLOAD_LIMIT_IPV4),
-            ("PAYLOAD_LIMIT_IPV6", PAYLOAD_LIMIT_IPV6),
         ] {
             text += &format!("_Static_assert(WURAKETOZO_{name} == {number}, \"{name}\");\n");
         }

@@ -1,7 +1,7 @@
 //! Safe Rust over the proved library for UDP datagrams with the options of
-//! RFC 9868, over IPv4 and IPv6: a reader, a writer, and reassembly for up to 12
-//! clients that do not show in each other's accounts, each with as many
-//! originals under way at once as its plan allows.
+//! RFC 9868: a reader, a writer, and reassembly for up to 12 clients that do
+//! not show in each other's accounts, each with as many originals under way at
+//! once as its plan allows.
 //!
 //! Every call takes any input: what can't be taken is refused, and no input
 //! panics. What the library answers and what it leaves in each buffer and
@@ -9,7 +9,6 @@
 #![deny(unsafe_code)]
 #![warn(missing_docs)]
 
-mod addresses;
 #[allow(unsafe_code, missing_docs)]
 mod ffi;
 mod options;
@@ -20,7 +19,6 @@ mod table;
 mod walk;
 mod writing;
 
-pub use addresses::{Addresses, PAYLOAD_LIMIT_IPV4, PAYLOAD_LIMIT_IPV6};
 pub use options::{entries, list, relist, Entries, Entry, Listing, Value};
 pub use reading::{
     read, reread, Apc, Fragment, PacketOffset, Reading, Rereading, Strictness, Verdict,

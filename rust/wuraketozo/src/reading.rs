@@ -1,6 +1,5 @@
 //! Reading a payload, or an original again.
 
-use crate::addresses::Addresses;
 use crate::ffi;
 use crate::record::Place;
 use crate::refusal::Refusal;
@@ -29,13 +28,11 @@ impl fmt::Display for PacketOffset {
 /// `Padded`.
 ///
 /// ```
-/// use std::net::Ipv4Addr;
 /// use wuraketozo::{read, PacketOffset, Strictness, Verdict};
-/// let addresses = (Ipv4Addr::new(192, 0, 2, 1), Ipv4Addr::new(198, 51, 100, 7)).into();
 /// // UDP length 8, no checksums, eight NOPs from offset 10 on.
 /// let payload = [0x12, 0x34, 0, 53, 0, 8, 0, 0, 0, 0, 1, 1, 1, 1, 1, 1, 1, 1];
 /// let verdict = |payload: &[u8], strictness| {
-///     let reading = read(payload, addresses, strictness)?;
+///     let reading = read(payload, [192, 0, 2, 1], [198, 51, 100, 7], strictness)?;
 ///     Ok(reading.verdict)
 /// };
 /// assert_eq!(verdict(&payload, Strictness::Plain)?, Verdict::Read);
@@ -86,15 +83,14 @@ pub struct Fragment {
 /// a packet trace.
 ///
 /// ```
-/// use std::net::Ipv4Addr;
 /// use wuraketozo::{read, PacketOffset, Strictness, Verdict};
 /// // UDP length 8, no checksums; REQ 300 at 10, then a REQ of 5 bytes at 16.
 /// let payload = [
 ///     0x12, 0x34, 0, 53, 0, 8, 0, 0, 0, 0, //
 ///     6, 6, 0, 0, 1, 0x2C, 6, 5, 0, 0, 0,
 /// ];
-/// let addresses = (Ipv4Addr::new(192, 0, 2, 1), Ipv4Addr::new(198, 51, 100, 7)).into();
-/// let verdict = read(&payload, addresses, Strictness::Plain)?.verdict;
+/// let (source, destination) = ([192, 0, 2, 1], [198, 51, 100, 7]);
+/// let verdict = read(&payload, source, destination, Strictness::Plain)?.verdict;
 /// assert_eq!(verdict, Verdict::Malformed(PacketOffset(16)));
 /// assert_eq!(verdict.fault_at(), Some(PacketOffset(16)));
 /// # Ok::<(), wuraketozo::Refusal>(())
@@ -328,39 +324,30 @@ impl Rereading {
     }
 }
 
-/// Reads one UDP payload. Refusals 1 to 4 over IPv4; over IPv6 1, 2, 3, 10 and
-/// 4, where 10 is a UDP checksum of zero. A payload may be longer over IPv6
-/// ([`PAYLOAD_LIMIT_IPV6`](crate::PAYLOAD_LIMIT_IPV6)) than over IPv4
-/// ([`PAYLOAD_LIMIT_IPV4`](crate::PAYLOAD_LIMIT_IPV4)). All else is the same.
+/// Reads one IPv4 UDP payload. Refusals 1 to 4.
 ///
 /// ```
-/// use std::net::{Ipv4Addr, Ipv6Addr};
-/// use wuraketozo::{read, Refusal, Strictness, Verdict};
+/// use wuraketozo::{read, Strictness, Verdict};
 /// // Ports 4660 and 53, UDP length 8, checksum; option checksum, REQ 300.
 /// let payload = [
 ///     0x12, 0x34, 0x00, 0x35, 0x00, 0x08, 0x01, 0x39, //
 ///     0xF8, 0xC5, 0x06, 0x06, 0x00, 0x00, 0x01, 0x2C,
 /// ];
-/// let addresses = (Ipv4Addr::new(192, 0, 2, 1), Ipv4Addr::new(198, 51, 100, 7)).into();
-/// let reading = read(&payload, addresses, Strictness::Plain)?;
+/// let (source, destination) = ([192, 0, 2, 1], [198, 51, 100, 7]);
+/// let reading = read(&payload, source, destination, Strictness::Plain)?;
 /// assert_eq!(reading.verdict, Verdict::Read);
 /// assert_eq!(reading.options, 10..16);
 /// assert_eq!(reading.count, 1);
-/// // No checksums: over IPv4 they may be left out, over IPv6 not.
-/// let payload = [0x12, 0x34, 0x00, 0x35, 0x00, 0x08, 0x00, 0x00];
-/// assert!(read(&payload, addresses, Strictness::Plain).is_ok());
-/// let addresses = (Ipv6Addr::LOCALHOST, Ipv6Addr::LOCALHOST).into();
-/// let refused = read(&payload, addresses, Strictness::Plain);
-/// assert_eq!(refused, Err(Refusal::ChecksumZero));
-/// # Ok::<(), Refusal>(())
+/// # Ok::<(), wuraketozo::Refusal>(())
 /// ```
 #[inline]
 pub fn read(
     payload: &[u8],
-    addresses: Addresses,
+    source: [u8; 4],
+    destination: [u8; 4],
     strictness: Strictness,
 ) -> Result<Reading, Refusal> {
-    Reading::of(ffi::read(payload, addresses, strictness.number()))
+    Reading::of(ffi::read(payload, source, destination, strictness.number()))
 }
 
 /// Reads an original again that was put together from fragments. Refusals

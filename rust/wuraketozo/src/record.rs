@@ -1,8 +1,5 @@
 //! A client's record, as C and Rust share it.
 
-use crate::addresses::Addresses;
-use core::net::Ipv4Addr;
-
 /// The longest original that is put together, the smallest out buffer, and
 /// the bytes of the store for one assembly.
 pub const ORIGINAL_LIMIT: usize = 8_192;
@@ -78,65 +75,18 @@ pub fn store_length(records: &[Client]) -> usize {
 #[derive(Clone, Copy, Debug, Default, PartialEq, Eq, PartialOrd, Ord, Hash)]
 pub struct Place(pub usize);
 
-/// Where a datagram comes from and goes to; with an identification, the key of
-/// an original. [`Flow::new`] makes one. Keys are compared as they are handed
-/// in: equal digits under different versions are different flows, and any other
-/// version, or other bytes behind an IPv4 address, make one more.
+/// Where a datagram comes from and goes to.
 #[repr(C)]
 #[derive(Clone, Copy, Debug, Default, PartialEq, Eq, Hash)]
 pub struct Flow {
-    /// First byte first; an IPv4 address is its four bytes and then twelve zeros.
-    pub source: [u8; 16],
-    /// As the source.
-    pub destination: [u8; 16],
+    /// IPv4, first byte first.
+    pub source: [u8; 4],
+    /// IPv4, first byte first.
+    pub destination: [u8; 4],
     /// UDP source port.
     pub source_port: u16,
     /// UDP destination port.
     pub destination_port: u16,
-    /// The IP version, 4 or 6. It is 0 in a fresh record.
-    pub version: u32,
-}
-
-impl Flow {
-    /// The flow of datagrams between these addresses and ports.
-    ///
-    /// ```
-    /// use std::net::{Ipv4Addr, Ipv6Addr};
-    /// use wuraketozo::Flow;
-    /// let v4 = (Ipv4Addr::new(192, 0, 2, 1), Ipv4Addr::new(198, 51, 100, 7));
-    /// let flow = Flow::new(v4.into(), 4660, 53);
-    /// assert_eq!(flow.source, [192, 0, 2, 1, 0, 0, 0, 0, 0, 0, 0, 0, 0, 0, 0, 0]);
-    /// assert_eq!(flow.version, 4);
-    /// let v6 = (Ipv6Addr::from(flow.source), Ipv6Addr::from(flow.destination));
-    /// let same_digits = Flow::new(v6.into(), 4660, 53);
-    /// assert_eq!(same_digits, Flow { version: 6, ..flow });
-    /// assert_ne!(same_digits, flow);
-    /// ```
-    pub const fn new(addresses: Addresses, source_port: u16, destination_port: u16) -> Flow {
-        let (source, destination, version) = match addresses {
-            Addresses::V4 {
-                source,
-                destination,
-            } => (widened(source), widened(destination), 4),
-            Addresses::V6 {
-                source,
-                destination,
-            } => (source.octets(), destination.octets(), 6),
-        };
-        Flow {
-            source,
-            destination,
-            source_port,
-            destination_port,
-            version,
-        }
-    }
-}
-
-/// Its four bytes and then twelve zeros.
-const fn widened(address: Ipv4Addr) -> [u8; 16] {
-    let [a, b, c, d] = address.octets();
-    [a, b, c, d, 0, 0, 0, 0, 0, 0, 0, 0, 0, 0, 0, 0]
 }
 
 /// A fragment that is held.
@@ -161,10 +111,10 @@ pub struct Assembly {
     pub flow: Flow,
     /// FRAG's identification.
     pub identification: u32,
-    /// Fragments held.
-    pub count: u32,
     /// When its first fragment came, in ms.
     pub opened: u64,
+    /// Fragments held.
+    pub count: u64,
     /// The first `count` of them are in use, in order of arrival.
     pub fragments: [Held; FRAGMENT_LIMIT],
 }
@@ -173,15 +123,14 @@ impl Assembly {
     /// As in a fresh record.
     const FRESH: Assembly = Assembly {
         flow: Flow {
-            source: [0; 16],
-            destination: [0; 16],
+            source: [0; 4],
+            destination: [0; 4],
             source_port: 0,
             destination_port: 0,
-            version: 0,
         },
         identification: 0,
-        count: 0,
         opened: 0,
+        count: 0,
         fragments: [Held {
             offset: 0,
             length: 0,

@@ -50,7 +50,7 @@ macro_rules! refusals {
 
 refusals! {
     1 PayloadTooShort "the payload is under 8 bytes",
-    2 TooLong "the payload is over 65,515 bytes over IPv4 or 65,535 over IPv6, or the original over 65,507",
+    2 TooLong "the payload is over 65,515 bytes, or the original over 65,507",
     3 LengthOutOfRange "the UDP length is under 8 or over the payload's length",
     4 ChecksumWrong "the UDP checksum is wrong",
     5 UnsafeOption "the original has an unsafe option: nothing of it is to be delivered",
@@ -58,7 +58,6 @@ refusals! {
     7 UnreadableList "the encoded option list can't be read",
     8 TooLarge "the result is too large for the buffer or for a payload",
     9 KindNotWritten "the encoded option list has a kind that is not to be written",
-    10 ChecksumZero "the UDP checksum is zero, which IPv6 does not allow",
     20 TableMisfit "not 1 to 12 records, or the store is not as long as their plans ask for",
     21 NoSuchClient "there is no such client",
     22 UnsoundRecord "the client's record fails the record test",

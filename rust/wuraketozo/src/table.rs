@@ -1,6 +1,5 @@
 //! The reassembly table.
 
-use crate::addresses::Addresses;
 use crate::ffi;
 use crate::reading::{Reading, Strictness};
 use crate::record::{Account, Client, Flow, Place};
@@ -44,7 +43,7 @@ pub enum Answer {
 /// What came of a datagram.
 #[derive(Clone, Debug, PartialEq, Eq)]
 pub enum Received {
-    /// It can't be read: refusals 1 to 4, and over IPv6 also 10.
+    /// It can't be read: refusals 1 to 4.
     Unread(Refusal),
     /// A datagram of its own; its user data is in the payload.
     Datagram(Reading),
@@ -137,9 +136,9 @@ impl<'a> Table<'a> {
             time: arrival.time,
             flow: arrival.flow,
             identification: arrival.identification,
-            last: u32::from(arrival.last),
             place: arrival.place,
             option_start: arrival.option_start,
+            last: u32::from(arrival.last),
         };
         answer(ffi::offer(
             self.records,
@@ -172,38 +171,14 @@ impl<'a> Table<'a> {
     /// Reads a payload that arrived for a client and, if it is a fragment,
     /// offers it with its own flow. What is no fragment touches no record,
     /// no store and no out buffer. The strictness may be another one with each
-    /// datagram, and so may the IP version.
-    ///
-    /// ```
-    /// use std::net::Ipv6Addr;
-    /// use wuraketozo::{store_length, Client, Plan, Table, ORIGINAL_LIMIT};
-    /// use wuraketozo::{write, Addresses, Received, Refusal, Strictness};
-    /// let mut records = [Client::new(Plan::SMALLEST)];
-    /// let mut store = vec![0; store_length(&records)];
-    /// let mut out = [0; ORIGINAL_LIMIT];
-    /// let mut table = Table::new(&mut records, &mut store);
-    /// table.reset()?;
-    /// let addresses = Addresses::V6 {
-    ///     source: Ipv6Addr::new(0x2001, 0xdb8, 0, 0, 0, 0, 0, 7),
-    ///     destination: Ipv6Addr::new(0x2001, 0xdb8, 0, 0, 0, 0, 0, 1),
-    /// };
-    /// let mut payload = [0; 64];
-    /// let length = write(addresses, 4660, 53, b"level 412 cm", &[0], 0, &mut payload)?;
-    /// let payload = &mut payload[..length];
-    /// let plain = Strictness::Plain;
-    /// let received = table.receive(0, 5, addresses, plain, payload, &mut out);
-    /// assert!(matches!(received, Received::Datagram(_)));
-    /// // Without a checksum, which IPv6 does not allow.
-    /// payload[6..8].fill(0);
-    /// let received = table.receive(0, 5, addresses, plain, payload, &mut out);
-    /// assert_eq!(received, Received::Unread(Refusal::ChecksumZero));
-    /// # Ok::<(), Refusal>(())
-    /// ```
+    /// datagram.
+    #[allow(clippy::too_many_arguments)]
     pub fn receive(
         &mut self,
         client: usize,
         time: u64,
-        addresses: Addresses,
+        source: [u8; 4],
+        destination: [u8; 4],
         strictness: Strictness,
         payload: &[u8],
         out: &mut [u8],
@@ -213,7 +188,8 @@ impl<'a> Table<'a> {
             self.store,
             client,
             time,
-            addresses,
+            source,
+            destination,
             strictness.number(),
             payload,
             out,

@@ -43,15 +43,14 @@ pub struct Walk<'a> {
 /// as it has the form of an option.
 ///
 /// ```
-/// use std::net::Ipv4Addr;
 /// use wuraketozo::{read, walk, Located, PacketOffset, Strictness};
 /// // Ports 4660 and 53, UDP length 8, checksum; option checksum, REQ 300 at 10.
 /// let payload = [
 ///     0x12, 0x34, 0x00, 0x35, 0x00, 0x08, 0x01, 0x39, //
 ///     0xF8, 0xC5, 0x06, 0x06, 0x00, 0x00, 0x01, 0x2C,
 /// ];
-/// let addresses = (Ipv4Addr::new(192, 0, 2, 1), Ipv4Addr::new(198, 51, 100, 7)).into();
-/// let reading = read(&payload, addresses, Strictness::Plain)?;
+/// let (source, destination) = ([192, 0, 2, 1], [198, 51, 100, 7]);
+/// let reading = read(&payload, source, destination, Strictness::Plain)?;
 /// let mut options = walk(&payload, &reading);
 /// let token = Located { kind: 6, offset: PacketOffset(10), body: &[0, 0, 1, 0x2C] };
 /// assert_eq!(options.next(), Some(token));

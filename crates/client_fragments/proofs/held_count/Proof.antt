@@ -3,7 +3,6 @@
 use Rattle.client_record.specs.Record.{held_fragments}
 use Rattle.client_record.specs.Limits.{fragment_limit}
 use native.Mathlib.Omega.{arith}
-use borrow.Author.Rules.{rules}
 use lib.Seq.{length-take-le, take_all}
 use lib.ListN.{length}
 use Rattle.client_record.proofs.Shapes.{slots}
@@ -11,22 +10,19 @@ use mathlib.Core.Path.{◌≡◌, sym, ◌∙◌, ap}
 use Rattle.client_fragments.proofs.held_count.Statement.{statement}
 use Rattle.client_fragments.proofs.held_count.Tie as tie
 
-cast-n : tie.Need-overflow-cast-n
-cast-n c = search rules
-
 returns : tie.Need-returns
 unfolding held_fragments fragment_limit
 returns c =
-    let a = c.before.before.args.a in
-    let h : length a.fragments ≡ fragment_limit = slots a _ c.before.before.well-formed.0 in
+    let a = c.before.args.a in
+    let h : length a.fragments ≡ fragment_limit = slots a _ c.before.well-formed.0 in
     record { count = sym (length-take-le a.count a.fragments (omega arith)); within = omega arith }
 
 returns-2 : tie.Need-returns-2
 unfolding held_fragments fragment_limit
 returns-2 c =
-    let a = c.before.before.args.a in
-    let h : length a.fragments ≡ fragment_limit = slots a _ c.before.before.well-formed.0 in
+    let a = c.before.args.a in
+    let h : length a.fragments ≡ fragment_limit = slots a _ c.before.well-formed.0 in
     record { count = sym (ap length (take_all a.count a.fragments (omega arith)) ∙ h); within = omega arith }
 
 pub held-count-spec : {M : Type 1} → statement M
-held-count-spec = tie.close (tie.spec cast-n returns returns-2)
+held-count-spec = tie.close (tie.spec returns returns-2)

@@ -20,7 +20,7 @@ use Rattle.client_offer.proofs.place.Tie as tie
 
 -- the function's entry, from the place where the fragment is to be stored
 start-of : tie.Else3 → tie.Start
-start-of c = c.before.before.before.before.before.before.before.before.before.before.before.before.before.before
+start-of c = c.before.before.before.before.before.before.before.before.before.before.before.before.before
 
 -- the test of a repeat is the definition's
 repeat-is : (c : tie.After-repeats) → let x = c.before.before.before.before.before.before.before.before.before.args in
@@ -99,9 +99,6 @@ returns-2 c =
     (sym c.before.before.conflicts-any.ensures ∙ c.before.if2.true))
     (record { client = c.conflicting.ensures; reply = refl; share_left = refl; out_left = refl })
 
-cast-count : tie.Need-overflow-cast-count
-cast-count c = search rules
-
 rejecting-requires : tie.Need-rejecting-requires
 rejecting-requires c κs = search rules
 
@@ -111,7 +108,7 @@ same-length-3 c = search rules
 returns-3 : tie.Need-returns-3
 unfolding is_conflict is_full fragment_limit
 returns-3 c =
-    let k = c.before.before.before in
+    let k = c.before.before in
     let t = k.before.before in
     let r = t.before in
     let x = r.before.before.before.before.before.before.before.before.before.args in
@@ -133,7 +130,7 @@ join-requires c κs =
     let x = (start-of free).args in
     let all_slots : length x.a.fragments ≡ fragment_limit = slots x.a _ (start-of free).well-formed.1.1.1.1.0 in
     let room : x.a.count < fragment_limit = omega (arith, free.if3.false, k.slots) in
-    let apart : is_conflict x.a x.f ≡ false = sym free.before.before.before.conflicts-any.ensures ∙ free.before.before.if2.false in
+    let apart : is_conflict x.a x.f ≡ false = sym free.before.before.conflicts-any.ensures ∙ free.before.if2.false in
     record {
       ending = k.ending;
       free = room;
@@ -156,7 +153,7 @@ unfolding is_conflict is_full fragment_limit start_of base datagram_limit
 returns-4 c =
     let copied = c.before.before.before.before.before.before.before in
     let free = copied.before.before in
-    let k = free.before.before in
+    let k = free.before in
     let t = k.before.before in
     let r = t.before in
     let x = r.before.before.before.before.before.before.before.before.before.args in
@@ -187,7 +184,6 @@ place-spec =
     conflicting-requires
     same-length-2
     returns-2
-    cast-count
     rejecting-requires
     same-length-3
     returns-3

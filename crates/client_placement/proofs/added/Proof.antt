@@ -3,13 +3,9 @@
 use Rattle.client_reassembly.specs.Offer.{added}
 use Rattle.client_record.specs.Limits.{fragment_limit}
 use mathlib.Core.Path.{refl}
-use borrow.Author.Rules.{rules}
 use native.Mathlib.Omega.{arith}
 use Rattle.client_placement.proofs.added.Statement.{statement}
 use Rattle.client_placement.proofs.added.Tie as tie
-
-cast-at : tie.Need-overflow-cast-at
-cast-at c = search rules
 
 mul-f : tie.Need-overflow-mul-f
 unfolding fragment_limit
@@ -28,4 +24,4 @@ unfolding added
 returns c = refl
 
 pub added-spec : {M : Type 1} → statement M
-added-spec = tie.close (tie.spec cast-at mul-f element-set-from-f add-b returns)
+added-spec = tie.close (tie.spec mul-f element-set-from-f add-b returns)

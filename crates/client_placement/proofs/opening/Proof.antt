@@ -9,7 +9,7 @@ use Rattle.client_placement.proofs.opening.Statement.{statement}
 use Rattle.client_placement.proofs.opening.Tie as tie
 
 around : Arrival → Assembly → Assembly
-around o a = record { flow = o.flow; identification = o.identification; count = 0; opened = o.time; fragments = a.fragments }
+around o a = record { flow = o.flow; identification = o.identification; opened = o.time; count = 0; fragments = a.fragments }
 
 fresh-assembly-requires : tie.Need-fresh-assembly-requires
 fresh-assembly-requires c κs = search rules

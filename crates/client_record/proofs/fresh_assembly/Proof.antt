@@ -12,7 +12,7 @@ use Rattle.client_record.proofs.fresh_assembly.Statement.{statement}
 use Rattle.client_record.proofs.fresh_assembly.Tie as tie
 
 holding : Flow → Fragment → Assembly
-holding x f = record { flow = x; identification = 0; count = 0; opened = 0; fragments = replicate fragment_limit f }
+holding x f = record { flow = x; identification = 0; opened = 0; count = 0; fragments = replicate fragment_limit f }
 
 fresh-flow-requires : tie.Need-fresh-flow-requires
 fresh-flow-requires c κs = search rules

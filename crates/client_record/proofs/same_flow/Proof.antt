@@ -1,9 +1,6 @@
 -- `client_record::same_flow` meets its contract: the comparisons are the definition's.
 -- Assumes nothing.
 use Rattle.client_record.specs.Record.{same_flow}
-use mathlib.Core.Bool.{Bool, ◌&&◌}
-use mathlib.Core.Path.{ap, ap₂, ◌∙◌}
-use lib.Dec.{eqb}
 use borrow.Author.Rules.{rules}
 use Rattle.client_record.proofs.same_flow.Statement.{statement}
 use Rattle.client_record.proofs.same_flow.Tie as tie
@@ -23,27 +20,17 @@ both-requires-2 c κs = search rules
 both-requires-3 : tie.Need-both-requires-3
 both-requires-3 c κs = search rules
 
-both-requires-4 : tie.Need-both-requires-4
-both-requires-4 c κs = search rules
-
--- the entry and the comparison of the addresses, from the end
-entry : tie.After-both4 → tie.Start
-entry c = search rules
-
-addresses : tie.After-both4 → tie.After-same-address2
-addresses c = search rules
-
 returns : tie.Need-returns
-unfolding same_flow entry addresses
+unfolding same_flow
 returns c =
-    let s = (entry c).args in
-    let d = addresses c in
-    let ports = c.before.before in
-    c.both4.ensures
-    ∙ ap₂ ◌&&◌ d.before.same_address.ensures
-    (c.before.both3.ensures
-    ∙ ap₂ ◌&&◌ d.same-address2.ensures (ports.both2.ensures
-    ∙ ap (λ (b : Bool). eqb s.x.source_port s.y.source_port && b) ports.before.both.ensures))
+    let d = c.before.before.before.before.before.before.before in
+    rw (
+      c.both3.ensures,
+      c.before.both2.ensures,
+      c.before.before.both.ensures,
+      d.same-address2.ensures,
+      d.before.same_address.ensures,
+    )
 
 pub same-flow-spec : {M : Type 1} → statement M
 same-flow-spec =
@@ -54,5 +41,4 @@ same-flow-spec =
     both-requires
     both-requires-2
     both-requires-3
-    both-requires-4
     returns)

@@ -14,9 +14,6 @@ use Rattle.client_record_test.specs.Parts.{sound_fields}
 use Rattle.client_record_test.proofs.live_tested.Statement.{statement}
 use Rattle.client_record_test.proofs.live_tested.Tie as tie
 
-cast-count : tie.Need-overflow-cast-count
-cast-count c = search rules
-
 refused-requires : tie.Need-refused-requires
 refused-requires c κs = search rules
 
@@ -30,9 +27,9 @@ returns c = record {
 held-tested-requires : tie.Need-held-tested-requires
 unfolding held_fragments fragment_limit
 held-tested-requires c κs =
-    let a = c.before.before.args.a in
+    let a = c.before.args.a in
     let front = length-take a.count a.fragments in
-    let all_slots = slots a _ c.before.before.well-formed.0 in
+    let all_slots = slots a _ c.before.well-formed.0 in
     record { count = omega arith; within = omega arith }
 
 opened-within-requires : tie.Need-opened-within-requires
@@ -52,4 +49,4 @@ returns-2 c =
     }
 
 pub live-tested-spec : {M : Type 1} → statement M
-live-tested-spec = tie.close (tie.spec cast-count refused-requires returns held-tested-requires opened-within-requires both-requires returns-2)
+live-tested-spec = tie.close (tie.spec refused-requires returns held-tested-requires opened-within-requires both-requires returns-2)

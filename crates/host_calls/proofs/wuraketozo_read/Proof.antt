@@ -1,21 +1,14 @@
--- `host_calls::wuraketozo_read` meets its contract: it is that of `host_wire::read`, between the addresses that were handed in.
+-- `host_calls::wuraketozo_read` meets its contract: it is that of `host_wire::read`.
 -- Assumes nothing.
-use mathlib.Core.Path.{refl}
-use Rattle.wire_addresses.specs.Addresses.{ipv4}
 use borrow.Author.Rules.{rules}
 use Rattle.host_calls.proofs.wuraketozo_read.Statement.{statement}
 use Rattle.host_calls.proofs.wuraketozo_read.Tie as tie
 
-words-between-requires : tie.Need-words-between-requires
-words-between-requires c κs = search rules
-
 read-requires : tie.Need-read-requires
-read-requires c κs = c.words-between.ensures.small
+read-requires c κs = search rules
 
 returns : tie.Need-returns
-returns c =
-    let a = c.before.before.before.args in
-    c.read.ensures.reads (ipv4 a.source.octets a.destination.octets) refl c.before.words-between.ensures
+returns c = c.read.ensures
 
 pub wuraketozo-read-spec : {M : Type 1} → statement M
-wuraketozo-read-spec = tie.close (tie.spec words-between-requires read-requires returns)
+wuraketozo-read-spec = tie.close (tie.spec read-requires returns)

@@ -1,7 +1,6 @@
 -- `host_calls::wuraketozo_receive` meets its contract: the value of what became of the datagram. `tools/lent/transplant.py` makes the modules below.
 -- Assumes nothing.
-use mathlib.Core.Path.{ap₂}
-use Rattle.wire_addresses.specs.declared.Addresses.{Addresses}
+use mathlib.Core.Path.{ap}
 use Rattle.wire_nops.specs.declared.Strictness.{Strictness}
 use Rattle.table_rules.specs.Table.{table_of}
 use Rattle.table_receiver.specs.Receive.{Packet, receive_on}
@@ -11,9 +10,6 @@ use Rattle.host_calls.proofs.wuraketozo_receive.Statement.{statement}
 use Rattle.host_calls.proofs.wuraketozo_receive.Proof.Tie as tie
 mod Lts
 mod Tie
-
-between-requires : tie.Need-between-requires
-between-requires c κs = search rules
 
 strictness-for-requires : tie.Need-strictness-for-requires
 strictness-for-requires c κs = search rules
@@ -37,16 +33,17 @@ returns : tie.Need-returns
 returns c =
     let p = c.before.before.before.before.before.before in
     let asked = p.before.before.before.before in
-    let made = asked.before in
-    let a = made.before.before.before.before.args in
-    let as-asked : Addresses → Strictness → Packet =
-    λ addresses how. record { time = a.time; addresses = addresses; strictness = how; payload = a.payload.now } in
+    let a = asked.before.before.before.before.before.before.args in
+    let as-asked : Strictness → Packet = λ how. record {
+      time = a.time;
+      source = a.source.octets;
+      destination = a.destination.octets;
+      strictness = how;
+      payload = a.payload.now;
+    } in
     receives
-    (ap₂ (λ (addresses : Addresses) (how : Strictness). receive_on a.k (as-asked addresses how) a.out.now (table_of a.records.now a.store.now))
-    made.between.ensures asked.strictness-for.ensures)
+    (ap (λ (how : Strictness). receive_on a.k (as-asked how) a.out.now (table_of a.records.now a.store.now)) asked.strictness-for.ensures)
     p.receive.ensures c.received-of.ensures
 
 pub wuraketozo-receive-spec : {M : Type 1} → statement M
-wuraketozo-receive-spec =
-    tie.close
-    (tie.spec between-requires strictness-for-requires receive-requires received-of-requires same_length same-length-2 same-length-3 returns)
+wuraketozo-receive-spec = tie.close (tie.spec strictness-for-requires receive-requires received-of-requires same_length same-length-2 same-length-3 returns)

@@ -16,9 +16,6 @@ enum-told-3 c = search rules
 enum-told-4 : tie.Need-enum-told-4
 enum-told-4 c = search rules
 
-enum-told-5 : tie.Need-enum-told-5
-enum-told-5 c = search rules
-
 returns : tie.Need-returns
 returns c = search rules
 
@@ -31,10 +28,7 @@ returns-3 c = search rules
 returns-4 : tie.Need-returns-4
 returns-4 c = search rules
 
-returns-5 : tie.Need-returns-5
-returns-5 c = search rules
-
 pub refusal-number-spec : {M : Type 1} → statement M
 refusal-number-spec =
     tie.close
-    (tie.spec enum_told enum-told-2 enum-told-3 enum-told-4 enum-told-5 returns returns-2 returns-3 returns-4 returns-5)
+    (tie.spec enum_told enum-told-2 enum-told-3 enum-told-4 returns returns-2 returns-3 returns-4)

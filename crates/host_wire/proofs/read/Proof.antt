@@ -23,13 +23,10 @@ reading-of-requires c κs = search rules
 
 returns : tie.Need-returns
 returns c =
-    let a = c.before.before.before.before.before.args in
-    record {
-      reads = λ addresses v stands.
-          c.reading-of.ensures ∙ ap (λ (o : Outcome). host_reading (answer_of o)) c.before.outcome-of.ensures
-          ∙ ap host_reading (c.before.before.examine.ensures.reads addresses v stands
-          ∙ ap (λ (how : Strictness). reading how a.payload.now addresses) c.before.before.before.strictness-for.ensures);
-    }
+    let a = c.before.before.before.before.before.before.before.args in
+    c.reading-of.ensures ∙ ap (λ (o : Outcome). host_reading (answer_of o)) c.before.outcome-of.ensures
+    ∙ ap host_reading (c.before.before.examine.ensures
+    ∙ ap (λ (how : Strictness). reading how a.payload.now a.source.octets a.destination.octets) c.before.before.before.strictness-for.ensures)
 
 pub read_spec : {M : Type 1} → statement M
 read_spec = tie.close (tie.spec strictness-for-requires examine-requires outcome-of-requires reading-of-requires returns)

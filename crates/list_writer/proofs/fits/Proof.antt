@@ -7,10 +7,10 @@ use Rattle.list_writer.proofs.fits.Statement.{statement}
 use Rattle.list_writer.proofs.fits.Tie as tie
 
 returns : tie.Need-returns
-returns c = over-limit _ _ _ (omega arith)
+returns c = over-limit _ _ (omega arith)
 
 returns-2 : tie.Need-returns-2
-returns-2 c = over-limit _ _ _ (omega arith)
+returns-2 c = over-limit _ _ (omega arith)
 
 add_total : tie.Need-overflow-add-total
 add_total c = search rules
@@ -28,10 +28,10 @@ add-total-5 : tie.Need-overflow-add-total-5
 add-total-5 c = search rules
 
 returns-3 : tie.Need-returns-3
-returns-3 c = over-limit _ _ _ (omega arith)
+returns-3 c = over-limit _ _ (omega arith)
 
 returns-4 : tie.Need-returns-4
-returns-4 c = within-limit _ _ _ (omega arith)
+returns-4 c = within-limit _ _ (omega arith)
 
 pub fits-spec : {M : Type 1} → statement M
 fits-spec =

@@ -1,18 +1,12 @@
 -- `list_writer::write` meets its contract: the check gives the options or the refusal, and the size decides the rest.
 -- Assumes nothing.
 use mathlib.Core.Path.{◌≡◌, sym, ap, ◌∙◌}
-use mathlib.Core.Bool.{Bool, true, false}
 use mathlib.Core.List.{List}
-use Prim.Native.Nat.{ℕ}
-use native.Mathlib.Omega.{arith}
-use lib.ListN.{length}
-use Rattle.wire_addresses.specs.Addresses.{payload_limit}
-use Rattle.wire_addresses.proofs.Headers.{limit-small}
 use Rattle.wire_options.specs.Walk.{Item}
 use Rattle.list_encoding.specs.Encoding.{given, decoded_list}
 use Rattle.list_encoding.specs.Wire.{wire_size, checked_answer}
-use Rattle.list_writer.specs.Answer.{Outcome, fits, datagram_for}
-use Rattle.list_writer.proofs.Outcomes.{total, sound-list, refused-list, room, put-there, put-large, put_refused}
+use Rattle.list_writer.specs.Answer.{Outcome, datagram_for}
+use Rattle.list_writer.proofs.Outcomes.{sound-list, refused-list, room, put-there, put-large, put_refused}
 use borrow.Author.Rules.{rules}
 use Rattle.list_writer.proofs.write.Statement.{statement}
 use Rattle.list_writer.proofs.write.Tie as tie
@@ -33,36 +27,20 @@ check-requires c κs = search rules
 enum-known-checked : tie.Need-enum-known-checked
 enum-known-checked c = search rules
 
-payload-limit-requires : tie.Need-payload-limit-requires
-payload-limit-requires c κs = search rules
-
 fits-requires : tie.Need-fits-requires
-fits-requires c κs =
-    let limit = c.payload-limit.ensures in
-    let s = c.before.before.before.before.before.before.before.before in
-    omega (arith, limit, limit-small s.args.addresses.version)
-
--- the code's test of the size is the definition's
-tested : (c : tie.After-fits2) (t : Bool) → c.fits2.result ≡ t
-    → let a = c.before.before.before.before.before.before.before.before.before.args in
-    fits (payload_limit a.addresses.version) (total (length a.«data».now) c.before.before.before.checked.given.0.1.0 a.fill) (length a.buffer.now) ≡ t
-tested c t e =
-    let a = c.before.before.before.before.before.before.before.before.before.args in
-    let size = c.before.before.before.checked.given.0.1.0 in
-    ap (λ (n : ℕ). fits n (total (length a.«data».now) size a.fill) (length a.buffer.now)) (sym c.before.payload-limit.ensures)
-    ∙ sym c.fits2.ensures ∙ e
+fits-requires c κs = search rules
 
 put-payload-requires : tie.Need-put-payload-requires
 put-payload-requires c κs =
-    let p4 = c.before.before.before.before in
-    let on-checked = p4.before in
+    let p3 = c.before.before.before in
+    let on-checked = p3.before in
     let s = on-checked.before.before.before.before.before.before in
     let a = s.args in
     let t = a.«data».now in
     let z = on-checked.checked.given.0.1.0 in
-    let i = sound (p4) in
-    room a.addresses a.source-port a.destination-port t a.list.now a.fill a.buffer.now z i.0 i.1 i.2
-    (tested c.before.before true c.before.if1.true)
+    let i = sound (p3) in
+    room a.source a.destination a.source-port a.destination-port t a.list.now a.fill a.buffer.now z i.0 i.1 i.2
+    (sym c.before.before.fits2.ensures ∙ c.before.if1.true)
 
 same_length : tie.Need-same-length
 same_length c = search rules
@@ -72,7 +50,7 @@ returns c =
     let p4 = c.before.before.before.before in
     let on-if1 = p4 in
     let on-fits2 = on-if1.before in
-    let p6 = on-fits2.before.before in
+    let p6 = on-fits2.before in
     let on-checked = p6.before in
     let s = on-checked.before.before.before.before.before.before in
     let a = s.args in
@@ -80,8 +58,8 @@ returns c =
     let z = on-checked.checked.given.0.1.0 in
     let i = sound (p6) in
     let p =
-    put-there a.addresses a.source-port a.destination-port t a.list.now a.fill a.buffer.now z i.0 i.1 i.2
-    (tested on-fits2 true on-if1.if1.true) c.before.before.put_payload.ensures in
+    put-there a.source a.destination a.source-port a.destination-port t a.list.now a.fill a.buffer.now z i.0 i.1 i.2
+    (sym on-fits2.fits2.ensures ∙ on-if1.if1.true) c.before.before.put_payload.ensures in
     record { answered = p.0; left = p.1 }
 
 enum_told : tie.Need-enum-told
@@ -92,15 +70,16 @@ enum-told-2 c = search rules
 
 returns-2 : tie.Need-returns-2
 returns-2 c =
-    let on-checked = c.before.before.before.before in
+    let p3 = c.before.before.before in
+    let on-checked = p3 in
     let s = on-checked.before.before.before.before.before.before in
     let a = s.args in
     let t = a.«data».now in
     let z = on-checked.checked.given.0.1.0 in
-    let i = sound c.before.before.before in
+    let i = sound c.before.before in
     let o =
-    put-large a.addresses a.source-port a.destination-port t a.list.now a.fill a.buffer.now z i.0 i.1 i.2
-    (tested c.before false c.if1.false) in
+    put-large a.source a.destination a.source-port a.destination-port t a.list.now a.fill a.buffer.now z i.0 i.1 i.2
+    (sym c.before.fits2.ensures ∙ c.if1.false) in
     record { answered = sym (ap (λ (x : Outcome). x.answer) o); left = sym (ap (λ (x : Outcome). x.buffer) o) }
 
 returns-3 : tie.Need-returns-3
@@ -108,7 +87,7 @@ returns-3 c =
     let s = c.before.before.before.before.before.before in
     let a = s.args in
     let e = refused-list a.list.now _ (sym (ap checked_answer c.enum_told.given.1) ∙ c.before.before.check.ensures) in
-    let d = datagram_for a.addresses a.source-port a.destination-port a.«data».now a.fill in
+    let d = datagram_for a.source a.destination a.source-port a.destination-port a.«data».now a.fill in
     let o = put_refused d a.list.now a.buffer.now _ e in
     record { answered = sym (ap (λ (x : Outcome). x.answer) o); left = sym (ap (λ (x : Outcome). x.buffer) o) }
 
@@ -117,7 +96,7 @@ returns-4 c =
     let s = c.before.before.before.before.before.before in
     let a = s.args in
     let e = refused-list a.list.now _ (sym (ap checked_answer c.enum-told2.given.1) ∙ c.before.before.check.ensures) in
-    let d = datagram_for a.addresses a.source-port a.destination-port a.«data».now a.fill in
+    let d = datagram_for a.source a.destination a.source-port a.destination-port a.«data».now a.fill in
     let o = put_refused d a.list.now a.buffer.now _ e in
     record { answered = sym (ap (λ (x : Outcome). x.answer) o); left = sym (ap (λ (x : Outcome). x.buffer) o) }
 
@@ -127,7 +106,6 @@ write_spec =
     (tie.spec
     check-requires
     enum-known-checked
-    payload-limit-requires
     fits-requires
     put-payload-requires
     same_length

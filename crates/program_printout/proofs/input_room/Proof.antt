@@ -2,7 +2,7 @@
 -- Assumes nothing.
 use Prim.Native.Nat.{zero}
 use lib.ListN.{length-replicate}
-use Rattle.wire_addresses.specs.Addresses.{payload_limit}
+use Rattle.wire_reading.specs.Reading.{payload_limit}
 use Rattle.program_printout.specs.Input.{input_limit}
 use Rattle.program_printout.proofs.input_room.Statement.{statement}
 use Rattle.program_printout.proofs.input_room.Tie as tie

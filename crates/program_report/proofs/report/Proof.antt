@@ -1,9 +1,8 @@
 -- `program_report::report` meets its contract: the arm knows the answer of the reading, at which the text computes.
 -- Assumes nothing.
-use mathlib.Core.Path.{◌≡◌, sym, ap, ◌∙◌}
-use Rattle.wire_addresses.specs.Addresses.{ipv4}
+use mathlib.Core.Path.{sym, ap, ◌∙◌}
 use Rattle.wire_nops.specs.declared.Strictness.TheVariants.{Plain}
-use Rattle.wire_datagram.specs.Reading.{reading, answer_of}
+use Rattle.wire_datagram.specs.Reading.{answer_of}
 use Rattle.program_report.specs.Words.{refused_word}
 use Rattle.program_report.specs.Report.{number_line, answer_text, report_of}
 use Rattle.program_text.proofs.Puts.{put_as}
@@ -11,16 +10,6 @@ use Rattle.program_report.proofs.Sounds.{reading-sound}
 use borrow.Author.Rules.{rules}
 use Rattle.program_report.proofs.report.Statement.{statement}
 use Rattle.program_report.proofs.report.Tie as tie
-
--- what the reader answers of the payload over IPv4
-answered : (c : tie.After-read) → let a = c.before.before.before.before.args in
-    answer_of c.read.result ≡ reading Plain a.payload.now (ipv4 a.source a.destination)
-answered c =
-    let a = c.before.before.before.before.args in
-    c.read.ensures ∙ ap (reading Plain a.payload.now) c.before.ipv4.ensures
-
-ipv4-requires : tie.Need-ipv4-requires
-ipv4-requires c κs = search rules
 
 read-requires : tie.Need-read-requires
 read-requires c κs = search rules
@@ -43,9 +32,9 @@ enum-known-outcome-2 c = search rules
 put-reading-requires : tie.Need-put-reading-requires
 put-reading-requires c κs =
     let read = c.before.before.before.before in
-    let a = read.before.before.before.before.args in
-    let answer = sym (answered read) ∙ ap answer_of c.before.before.outcome2.given.1 in
-    reading-sound Plain a.payload.now (ipv4 a.source a.destination) _ answer
+    let a = read.before.before.before.args in
+    let answer = sym read.read.ensures ∙ ap answer_of c.before.before.outcome2.given.1 in
+    reading-sound Plain a.payload.now a.source a.destination _ answer
 
 same_length : tie.Need-same-length
 same_length c = search rules
@@ -56,8 +45,8 @@ returns c =
     let number = c.before.before.before.before in
     let arm = number.before.before.before in
     let read = arm.before.before in
-    let answer = sym (ap answer_of arm.outcome.given.1) ∙ answered read in
-    put_as (ap (number_line refused_word) number.number_of_lem.ensures ∙ ap (answer_text read.before.before.before.before.args.payload.now) answer)
+    let answer = sym (ap answer_of arm.outcome.given.1) ∙ read.read.ensures in
+    put_as (ap (number_line refused_word) number.number_of_lem.ensures ∙ ap (answer_text read.before.before.before.args.payload.now) answer)
     c.before.before.put-line.ensures
 
 same-length-2 : tie.Need-same-length-2
@@ -68,14 +57,13 @@ unfolding report_of
 returns-2 c =
     let arm = c.before.before.before.before.before in
     let read = arm.before.before in
-    let answer = sym (ap answer_of arm.outcome2.given.1) ∙ answered read in
-    put_as (ap (answer_text read.before.before.before.before.args.payload.now) answer) c.before.before.put-reading.ensures
+    let answer = sym (ap answer_of arm.outcome2.given.1) ∙ read.read.ensures in
+    put_as (ap (answer_text read.before.before.before.args.payload.now) answer) c.before.before.put-reading.ensures
 
 pub report-spec : {M : Type 1} → statement M
 report-spec =
     tie.close
     (tie.spec
-    ipv4-requires
     read-requires
     enum-known-outcome
     slice-aggregate-put-line

@@ -22,12 +22,12 @@ start : tie.After-read → tie.Start
 start c = c.before.before.before.before
 
 packet : tie.After-read → Packet
-packet c = let a = (start c).args in record { time = a.time; addresses = a.addresses; strictness = a.strictness; payload = a.payload.now }
+packet c = let a = (start c).args in record { time = a.time; source = a.source; destination = a.destination; strictness = a.strictness; payload = a.payload.now }
 
 found : (c : tie.After-piece)
-    → let a = (start c.before.before.before).args in Met a.strictness a.payload.now a.addresses c.piece.given.0.0
+    → let a = (start c.before.before.before).args in Met a.strictness a.payload.now a.source a.destination c.piece.given.0.0
 unfolding start
-found c = met _ _ _ c.before.before.before.read.result _ c.before.before.before.read.ensures (sym c.before.before.look.ensures ∙ c.piece.given.1)
+found c = met _ _ _ _ c.before.before.before.read.result _ c.before.before.before.read.ensures (sym c.before.before.look.ensures ∙ c.piece.given.1)
 
 read-requires : tie.Need-read-requires
 read-requires c κs = search rules

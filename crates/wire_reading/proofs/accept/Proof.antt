@@ -7,7 +7,7 @@ use lib.ListN.{length, drop, length-take, length-drop}
 use Rattle.number_octets.proofs.Laws.{part-rest}
 use Rattle.number_offsets.specs.Offsets.{udp_header}
 use Rattle.wire_surplus.specs.Surplus.{start_of}
-use Rattle.wire_reading.specs.Reading.{longest_payload, is_odd, started}
+use Rattle.wire_reading.specs.Reading.{payload_limit, is_odd, started}
 use Rattle.wire_surplus.proofs.Starts.{start-empty, start-list}
 use borrow.Author.Rules.{rules}
 use Rattle.wire_reading.proofs.accept.Statement.{statement}
@@ -49,7 +49,7 @@ part-start-of-end : tie.Need-slice-bounds-start-of-end
 part-start-of-end c = search rules
 
 start-of-requires : tie.Need-start-of-requires
-unfolding longest_payload udp_header
+unfolding payload_limit udp_header
 start-of-requires c κs = simp (length-take, length-drop) (omega (arith, c.before.before.before.requires, c.before.if1.false))
 
 enum_told : tie.Need-enum-told

@@ -35,7 +35,7 @@ returns c =
     let on-field = c.before.before.before.before in
     let on-sum = on-field.before in
     let s = on-sum.before.before.before in
-    let d : Datagram = plainly s.args.addresses s.args.source-port s.args.destination-port s.args.«data».now in
+    let d : Datagram = plainly s.args.source s.args.destination s.args.source-port s.args.destination-port s.args.«data».now in
     let is : on-field.field.result ≡ udp_checksum_of d = on-field.field.ensures ∙ ap sent on-sum.datagram-sum.ensures in
     laid_as (ap (λ (w : ℕ). datagram_with d (octets 2 w)) is) c.before.before.put-fields.ensures
 

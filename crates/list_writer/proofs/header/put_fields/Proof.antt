@@ -1,7 +1,6 @@
 -- `list_writer::header::put_fields` meets its contract: the fields and the data are laid one behind the other.
 -- Assumes nothing.
 use mathlib.Core.List.{[]}
-use Rattle.wire_addresses.specs.Addresses.{ipv4}
 use Rattle.list_wire.specs.Parts.{plainly}
 use Rattle.list_writer.proofs.Datagrams.{datagram-laid}
 use borrow.Author.Rules.{rules}
@@ -41,7 +40,7 @@ returns c =
     let on-put-u16 = on-put-u162.before.before.before.before in
     let s = on-put-u16.before.before.before.before in
     let a = s.args in
-    datagram-laid a.buffer.now _ _ _ _ _ (plainly (ipv4 [] []) a.source-port a.destination-port a.«data».now) a.checksum s.requires.1
+    datagram-laid a.buffer.now _ _ _ _ _ (plainly [] [] a.source-port a.destination-port a.«data».now) a.checksum s.requires.1
     on-put-u16.put-u16.ensures on-put-u162.put-u162.ensures on-put-u163.put-u163.ensures on-put-u164.put-u164.ensures
     c.before.before.copy.ensures
 

@@ -157,7 +157,7 @@ abbrev b15 : Syntax.Body
 b15 = Syntax.cond (Syntax.copy (Syntax.place 13 List.[])) b13 b14
 
 abbrev b16 : Syntax.Body
-b16 = Syntax.assign (Syntax.place 12 List.[]) (Syntax.op2 (Syntax.mul Syntax.unsigned) (Syntax.copy (Syntax.place 6 List.[])) (Syntax.int_big Syntax.w64 4616))
+b16 = Syntax.assign (Syntax.place 12 List.[]) (Syntax.op2 (Syntax.mul Syntax.unsigned) (Syntax.copy (Syntax.place 6 List.[])) (Syntax.int_big Syntax.w64 4424))
 
 abbrev b17 : Syntax.Body
 b17 = Syntax.assign (Syntax.place 14 List.[]) (Syntax.op2 Syntax.offset (Syntax.copy (Syntax.place 1 (List.◌∷◌ (Syntax.field 0) List.[]))) (Syntax.copy (Syntax.place 12 List.[])))
@@ -683,13 +683,13 @@ module _ (claims· : Claims) where
   s17 = Scalar.n_room T20 13 Syntax.ty_bool
 
   abbrev s18 : Typed.Asks T19 T23
-  s18 = Scalar.k_op2 T19 (Syntax.mul Syntax.unsigned) (Scalar.o_at 6 (Syntax.ty_int Syntax.w64) (Row.val_s (Row.s_int Syntax.w64))) (Scalar.o_big Syntax.w64 4616) 12 (Rows'.sc_here (Row.s_int Syntax.w64)) (Row.s_int Syntax.w64).of
+  s18 = Scalar.k_op2 T19 (Syntax.mul Syntax.unsigned) (Scalar.o_at 6 (Syntax.ty_int Syntax.w64) (Row.val_s (Row.s_int Syntax.w64))) (Scalar.o_big Syntax.w64 4424) 12 (Rows'.sc_here (Row.s_int Syntax.w64)) (Row.s_int Syntax.w64).of
 
   abbrev s19 : Typed.Asks T23 T24
   s19 = Scalar.k_op2 T23 Syntax.offset (Scalar.o_fld 1 (List.◌∷◌ (Syntax.field 0) List.[]) (Syntax.ty_ref (Syntax.named 0) Syntax.imm (Memory-as-T.pointee (Client-as-T.the_row).written)) 0 Reads.ptr_val) (Scalar.o_at 12 (Syntax.ty_int Syntax.w64) (Row.val_s (Row.s_int Syntax.w64))) 14 (Rows'.sc_here Row.s_ptr) (Row.s_ptr).of
 
   abbrev s20 : Typed.Both T24 T25
-  s20 = Move.k_shs_copy_out Client-as-T.the_row T24 1 14 15 0 (Syntax.ty_ref (Syntax.named 0) Syntax.imm (Memory-as-T.pointee (Client-as-T.the_row).written)) Row.off (Rows'.whole Client-as-T.the_row) (Shared.by_size 4616) (λ u. u.1.1.1.1.1.1.0) (λ x. x) Client-as-D.blank_client (λ x. Unit) (λ x. x) λ x. x
+  s20 = Move.k_shs_copy_out Client-as-T.the_row T24 1 14 15 0 (Syntax.ty_ref (Syntax.named 0) Syntax.imm (Memory-as-T.pointee (Client-as-T.the_row).written)) Row.off (Rows'.whole Client-as-T.the_row) (Shared.by_size 4424) (λ u. u.1.1.1.1.1.1.0) (λ x. x) Client-as-D.blank_client (λ x. Unit) (λ x. x) λ x. x
 
   abbrev s21 : Typed.Mo T25 → Typed.Mo T26
   s21 = Scalar.n_room T25 12 (Syntax.ty_int Syntax.w64)
@@ -1363,13 +1363,13 @@ module _ (claims· : Claims) where
           d43 = Typed.g_pre_lem 𝓛 𝓣 E G25 G26 b41 Δ4 (Typed.pass T25 T26 s21) at42 (Scalar.g_room 𝓛 E G25 12 (Syntax.ty_int Syntax.w64) (Scalar.room_sc 𝓛 (Row.s_int Syntax.w64))) d42
 
           d44 : Typed.Typed 𝓛 𝓣 E G24 b42 Δ4 at44
-          d44 = Typed.s_seq 𝓛 𝓣 E G24 G25 b18 b41 Δ4 (Typed.both s20) at43 (Move.t_shs_copy_out 𝓛 E Client-as-T.the_row 𝓣 Path'.refl ((Copies.c_struct Client-as-T.the_type Client-as-L.the_laws Client-as-L.the_copy).copy 𝓛) (Copies.halved 𝓛 (Copies.c_struct Client-as-T.the_type Client-as-L.the_laws Client-as-L.the_copy)) (λ ρ. Unit) G24 1 14 15 0 (Syntax.ty_ref (Syntax.named 0) Syntax.imm (Memory-as-T.pointee (Client-as-T.the_row).written)) (Row.lease κs.0 qs.0) Client-as-L.mir Client-as-L.mir (Rows'.whole Client-as-T.the_row) (Shared.by_size 4616) (λ u. u.1.1.1.1.1.1.0) (λ x. x) Client-as-D.blank_client (λ x. Unit) (λ x. x) (λ x. x) (λ i o. Elements.at_mul o 4616 i) Path'.refl Path'.refl (Own.Told-none 𝓛 G24.slots) (DerefMove.Learns-nothing 𝓛 Client-as-T.the_row) (Reads.as_is 𝓛 (Rows'.sslice Client-as-T.the_row (Syntax.ty_ref (Syntax.named 0) Syntax.imm (Memory-as-T.pointee (Client-as-T.the_row).written)) 0)) (Reads.as_is 𝓛 (Rows'.sc_here Row.s_ptr)) (Reads.room_gone 𝓛 Client-as-L.mir) (Yields.Makes-mem 𝓛 (λ ρ. Unit) Client-as-T.the_row Path'.refl (Rows'.whole Client-as-T.the_row) (λ x. x) λ ρ told. Local.whole_mem 𝓛 Client-as-T.the_row ρ) Path'.refl tt Path'.refl Path'.refl) d43
+          d44 = Typed.s_seq 𝓛 𝓣 E G24 G25 b18 b41 Δ4 (Typed.both s20) at43 (Move.t_shs_copy_out 𝓛 E Client-as-T.the_row 𝓣 Path'.refl ((Copies.c_struct Client-as-T.the_type Client-as-L.the_laws Client-as-L.the_copy).copy 𝓛) (Copies.halved 𝓛 (Copies.c_struct Client-as-T.the_type Client-as-L.the_laws Client-as-L.the_copy)) (λ ρ. Unit) G24 1 14 15 0 (Syntax.ty_ref (Syntax.named 0) Syntax.imm (Memory-as-T.pointee (Client-as-T.the_row).written)) (Row.lease κs.0 qs.0) Client-as-L.mir Client-as-L.mir (Rows'.whole Client-as-T.the_row) (Shared.by_size 4424) (λ u. u.1.1.1.1.1.1.0) (λ x. x) Client-as-D.blank_client (λ x. Unit) (λ x. x) (λ x. x) (λ i o. Elements.at_mul o 4424 i) Path'.refl Path'.refl (Own.Told-none 𝓛 G24.slots) (DerefMove.Learns-nothing 𝓛 Client-as-T.the_row) (Reads.as_is 𝓛 (Rows'.sslice Client-as-T.the_row (Syntax.ty_ref (Syntax.named 0) Syntax.imm (Memory-as-T.pointee (Client-as-T.the_row).written)) 0)) (Reads.as_is 𝓛 (Rows'.sc_here Row.s_ptr)) (Reads.room_gone 𝓛 Client-as-L.mir) (Yields.Makes-mem 𝓛 (λ ρ. Unit) Client-as-T.the_row Path'.refl (Rows'.whole Client-as-T.the_row) (λ x. x) λ ρ told. Local.whole_mem 𝓛 Client-as-T.the_row ρ) Path'.refl tt Path'.refl Path'.refl) d43
 
           d45 : Typed.Typed 𝓛 𝓣 E G23 b43 Δ4 at45
           d45 = Typed.s_seq 𝓛 𝓣 E G23 G24 b17 b42 Δ4 (Typed.ask s19) at44 (Scalar.t_op2 𝓛 E 𝓣 G23 Syntax.offset (Scalar.o_fld 1 (List.◌∷◌ (Syntax.field 0) List.[]) (Syntax.ty_ref (Syntax.named 0) Syntax.imm (Memory-as-T.pointee (Client-as-T.the_row).written)) 0 Reads.ptr_val) (Scalar.o_at 12 (Syntax.ty_int Syntax.w64) (Row.val_s (Row.s_int Syntax.w64))) 14 (Rows'.sc_here Row.s_ptr) Syntax.ty_ptr (Row.val_s Row.s_ptr) (Row.s_ptr).of (Shared.reads_sslice_ptr 𝓛 Client-as-T.the_row (Syntax.ty_ref (Syntax.named 0) Syntax.imm (Memory-as-T.pointee (Client-as-T.the_row).written)) 0 0 Path'.refl, Path'.refl) (Scalar.reads_sc 𝓛 (Row.s_int Syntax.w64), Path'.refl) (Reads.room_gone 𝓛 Syntax.ty_ptr) (Scalar.Holds-Sc 𝓛 Row.s_ptr) Path'.refl (λ u. Path'.refl) λ u. tt) d44
 
           d46 : Typed.Typed 𝓛 𝓣 E G19 b44 Δ4 at46
-          d46 = Typed.s_seq 𝓛 𝓣 E G19 G23 b16 b43 Δ4 (Typed.ask s18) at45 (Scalar.t_op2 𝓛 E 𝓣 G19 (Syntax.mul Syntax.unsigned) (Scalar.o_at 6 (Syntax.ty_int Syntax.w64) (Row.val_s (Row.s_int Syntax.w64))) (Scalar.o_big Syntax.w64 4616) 12 (Rows'.sc_here (Row.s_int Syntax.w64)) (Syntax.ty_int Syntax.w64) (Row.val_s (Row.s_int Syntax.w64)) (Row.s_int Syntax.w64).of (Scalar.reads_sc 𝓛 (Row.s_int Syntax.w64), Path'.refl) record { lower = record { fits = Dec'.lit< tt } } (Reads.room_gone 𝓛 (Syntax.ty_int Syntax.w64)) (Scalar.Holds-Sc 𝓛 (Row.s_int Syntax.w64)) Path'.refl (λ u. Path'.refl) λ u. tt) d45
+          d46 = Typed.s_seq 𝓛 𝓣 E G19 G23 b16 b43 Δ4 (Typed.ask s18) at45 (Scalar.t_op2 𝓛 E 𝓣 G19 (Syntax.mul Syntax.unsigned) (Scalar.o_at 6 (Syntax.ty_int Syntax.w64) (Row.val_s (Row.s_int Syntax.w64))) (Scalar.o_big Syntax.w64 4424) 12 (Rows'.sc_here (Row.s_int Syntax.w64)) (Syntax.ty_int Syntax.w64) (Row.val_s (Row.s_int Syntax.w64)) (Row.s_int Syntax.w64).of (Scalar.reads_sc 𝓛 (Row.s_int Syntax.w64), Path'.refl) record { lower = record { fits = Dec'.lit< tt } } (Reads.room_gone 𝓛 (Syntax.ty_int Syntax.w64)) (Scalar.Holds-Sc 𝓛 (Row.s_int Syntax.w64)) Path'.refl (λ u. Path'.refl) λ u. tt) d45
 
           d47 : Typed.Typed 𝓛 𝓣 E G18 b45 Δ4 at47
           d47 = Typed.t_seq 𝓛 𝓣 E G18 G19 b15 b44 Δ4 at14 at46 d14 d46

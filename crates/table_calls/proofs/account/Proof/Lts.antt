@@ -131,7 +131,7 @@ abbrev b8 : Syntax.Body
 b8 = Syntax.cond (Syntax.copy (Syntax.place 8 List.[])) b6 b7
 
 abbrev b9 : Syntax.Body
-b9 = Syntax.assign (Syntax.place 6 List.[]) (Syntax.op2 (Syntax.mul Syntax.unsigned) (Syntax.copy (Syntax.place 3 List.[])) (Syntax.int_big Syntax.w64 4616))
+b9 = Syntax.assign (Syntax.place 6 List.[]) (Syntax.op2 (Syntax.mul Syntax.unsigned) (Syntax.copy (Syntax.place 3 List.[])) (Syntax.int_big Syntax.w64 4424))
 
 abbrev b10 : Syntax.Body
 b10 = Syntax.assign (Syntax.place 9 List.[]) (Syntax.op2 Syntax.offset (Syntax.copy (Syntax.place 1 (List.◌∷◌ (Syntax.field 0) List.[]))) (Syntax.copy (Syntax.place 6 List.[])))
@@ -381,13 +381,13 @@ module _ (claims· : Claims) where
   s12 = Scalar.n_room T14 8 Syntax.ty_bool
 
   abbrev s13 : Typed.Asks T8 T16
-  s13 = Scalar.k_op2 T8 (Syntax.mul Syntax.unsigned) (Scalar.o_at 3 (Syntax.ty_int Syntax.w64) (Row.val_s (Row.s_int Syntax.w64))) (Scalar.o_big Syntax.w64 4616) 6 (Rows'.sc_here (Row.s_int Syntax.w64)) (Row.s_int Syntax.w64).of
+  s13 = Scalar.k_op2 T8 (Syntax.mul Syntax.unsigned) (Scalar.o_at 3 (Syntax.ty_int Syntax.w64) (Row.val_s (Row.s_int Syntax.w64))) (Scalar.o_big Syntax.w64 4424) 6 (Rows'.sc_here (Row.s_int Syntax.w64)) (Row.s_int Syntax.w64).of
 
   abbrev s14 : Typed.Asks T16 T17
   s14 = Scalar.k_op2 T16 Syntax.offset (Scalar.o_fld 1 (List.◌∷◌ (Syntax.field 0) List.[]) (Syntax.ty_ref (Syntax.named 0) Syntax.imm (Memory-as-T.pointee (Client-as-T.the_row).written)) 0 Reads.ptr_val) (Scalar.o_at 6 (Syntax.ty_int Syntax.w64) (Row.val_s (Row.s_int Syntax.w64))) 9 (Rows'.sc_here Row.s_ptr) (Row.s_ptr).of
 
   abbrev s15 : Typed.Both T17 T18
-  s15 = Move.k_shs_copy_out Client-as-T.the_row T17 1 9 10 0 (Syntax.ty_ref (Syntax.named 0) Syntax.imm (Memory-as-T.pointee (Client-as-T.the_row).written)) Row.off (Rows'.whole Client-as-T.the_row) (Shared.by_size 4616) (λ u. u.1.1.1.0) (λ x. x) Client-as-D.blank_client (λ x. Unit) (λ x. x) λ x. x
+  s15 = Move.k_shs_copy_out Client-as-T.the_row T17 1 9 10 0 (Syntax.ty_ref (Syntax.named 0) Syntax.imm (Memory-as-T.pointee (Client-as-T.the_row).written)) Row.off (Rows'.whole Client-as-T.the_row) (Shared.by_size 4424) (λ u. u.1.1.1.0) (λ x. x) Client-as-D.blank_client (λ x. Unit) (λ x. x) λ x. x
 
   abbrev s16 : Typed.Mo T18 → Typed.Mo T19
   s16 = Scalar.n_room T18 6 (Syntax.ty_int Syntax.w64)
@@ -677,13 +677,13 @@ module _ (claims· : Claims) where
           d19 = Typed.g_pre_lem 𝓛 𝓣 E G18 G19 b18 Δ0 (Typed.pass T18 T19 s16) at18 (Scalar.g_room 𝓛 E G18 6 (Syntax.ty_int Syntax.w64) (Scalar.room_sc 𝓛 (Row.s_int Syntax.w64))) d18
 
           d20 : Typed.Typed 𝓛 𝓣 E G17 b19 Δ0 at20
-          d20 = Typed.s_seq 𝓛 𝓣 E G17 G18 b11 b18 Δ0 (Typed.both s15) at19 (Move.t_shs_copy_out 𝓛 E Client-as-T.the_row 𝓣 Path'.refl ((Copies.c_struct Client-as-T.the_type Client-as-L.the_laws Client-as-L.the_copy).copy 𝓛) (Copies.halved 𝓛 (Copies.c_struct Client-as-T.the_type Client-as-L.the_laws Client-as-L.the_copy)) (λ ρ. Unit) G17 1 9 10 0 (Syntax.ty_ref (Syntax.named 0) Syntax.imm (Memory-as-T.pointee (Client-as-T.the_row).written)) (Row.lease κs.0 qs.0) Client-as-L.mir Client-as-L.mir (Rows'.whole Client-as-T.the_row) (Shared.by_size 4616) (λ u. u.1.1.1.0) (λ x. x) Client-as-D.blank_client (λ x. Unit) (λ x. x) (λ x. x) (λ i o. Elements.at_mul o 4616 i) Path'.refl Path'.refl (Own.Told-none 𝓛 G17.slots) (DerefMove.Learns-nothing 𝓛 Client-as-T.the_row) (Reads.as_is 𝓛 (Rows'.sslice Client-as-T.the_row (Syntax.ty_ref (Syntax.named 0) Syntax.imm (Memory-as-T.pointee (Client-as-T.the_row).written)) 0)) (Reads.as_is 𝓛 (Rows'.sc_here Row.s_ptr)) (Reads.room_gone 𝓛 Client-as-L.mir) (Yields.Makes-mem 𝓛 (λ ρ. Unit) Client-as-T.the_row Path'.refl (Rows'.whole Client-as-T.the_row) (λ x. x) λ ρ told. Local.whole_mem 𝓛 Client-as-T.the_row ρ) Path'.refl tt Path'.refl Path'.refl) d19
+          d20 = Typed.s_seq 𝓛 𝓣 E G17 G18 b11 b18 Δ0 (Typed.both s15) at19 (Move.t_shs_copy_out 𝓛 E Client-as-T.the_row 𝓣 Path'.refl ((Copies.c_struct Client-as-T.the_type Client-as-L.the_laws Client-as-L.the_copy).copy 𝓛) (Copies.halved 𝓛 (Copies.c_struct Client-as-T.the_type Client-as-L.the_laws Client-as-L.the_copy)) (λ ρ. Unit) G17 1 9 10 0 (Syntax.ty_ref (Syntax.named 0) Syntax.imm (Memory-as-T.pointee (Client-as-T.the_row).written)) (Row.lease κs.0 qs.0) Client-as-L.mir Client-as-L.mir (Rows'.whole Client-as-T.the_row) (Shared.by_size 4424) (λ u. u.1.1.1.0) (λ x. x) Client-as-D.blank_client (λ x. Unit) (λ x. x) (λ x. x) (λ i o. Elements.at_mul o 4424 i) Path'.refl Path'.refl (Own.Told-none 𝓛 G17.slots) (DerefMove.Learns-nothing 𝓛 Client-as-T.the_row) (Reads.as_is 𝓛 (Rows'.sslice Client-as-T.the_row (Syntax.ty_ref (Syntax.named 0) Syntax.imm (Memory-as-T.pointee (Client-as-T.the_row).written)) 0)) (Reads.as_is 𝓛 (Rows'.sc_here Row.s_ptr)) (Reads.room_gone 𝓛 Client-as-L.mir) (Yields.Makes-mem 𝓛 (λ ρ. Unit) Client-as-T.the_row Path'.refl (Rows'.whole Client-as-T.the_row) (λ x. x) λ ρ told. Local.whole_mem 𝓛 Client-as-T.the_row ρ) Path'.refl tt Path'.refl Path'.refl) d19
 
           d21 : Typed.Typed 𝓛 𝓣 E G16 b20 Δ0 at21
           d21 = Typed.s_seq 𝓛 𝓣 E G16 G17 b10 b19 Δ0 (Typed.ask s14) at20 (Scalar.t_op2 𝓛 E 𝓣 G16 Syntax.offset (Scalar.o_fld 1 (List.◌∷◌ (Syntax.field 0) List.[]) (Syntax.ty_ref (Syntax.named 0) Syntax.imm (Memory-as-T.pointee (Client-as-T.the_row).written)) 0 Reads.ptr_val) (Scalar.o_at 6 (Syntax.ty_int Syntax.w64) (Row.val_s (Row.s_int Syntax.w64))) 9 (Rows'.sc_here Row.s_ptr) Syntax.ty_ptr (Row.val_s Row.s_ptr) (Row.s_ptr).of (Shared.reads_sslice_ptr 𝓛 Client-as-T.the_row (Syntax.ty_ref (Syntax.named 0) Syntax.imm (Memory-as-T.pointee (Client-as-T.the_row).written)) 0 0 Path'.refl, Path'.refl) (Scalar.reads_sc 𝓛 (Row.s_int Syntax.w64), Path'.refl) (Reads.room_gone 𝓛 Syntax.ty_ptr) (Scalar.Holds-Sc 𝓛 Row.s_ptr) Path'.refl (λ u. Path'.refl) λ u. tt) d20
 
           d22 : Typed.Typed 𝓛 𝓣 E G8 b21 Δ0 at22
-          d22 = Typed.s_seq 𝓛 𝓣 E G8 G16 b9 b20 Δ0 (Typed.ask s13) at21 (Scalar.t_op2 𝓛 E 𝓣 G8 (Syntax.mul Syntax.unsigned) (Scalar.o_at 3 (Syntax.ty_int Syntax.w64) (Row.val_s (Row.s_int Syntax.w64))) (Scalar.o_big Syntax.w64 4616) 6 (Rows'.sc_here (Row.s_int Syntax.w64)) (Syntax.ty_int Syntax.w64) (Row.val_s (Row.s_int Syntax.w64)) (Row.s_int Syntax.w64).of (Scalar.reads_sc 𝓛 (Row.s_int Syntax.w64), Path'.refl) record { lower = record { fits = Dec'.lit< tt } } (Reads.room_gone 𝓛 (Syntax.ty_int Syntax.w64)) (Scalar.Holds-Sc 𝓛 (Row.s_int Syntax.w64)) Path'.refl (λ u. Path'.refl) λ u. tt) d21
+          d22 = Typed.s_seq 𝓛 𝓣 E G8 G16 b9 b20 Δ0 (Typed.ask s13) at21 (Scalar.t_op2 𝓛 E 𝓣 G8 (Syntax.mul Syntax.unsigned) (Scalar.o_at 3 (Syntax.ty_int Syntax.w64) (Row.val_s (Row.s_int Syntax.w64))) (Scalar.o_big Syntax.w64 4424) 6 (Rows'.sc_here (Row.s_int Syntax.w64)) (Syntax.ty_int Syntax.w64) (Row.val_s (Row.s_int Syntax.w64)) (Row.s_int Syntax.w64).of (Scalar.reads_sc 𝓛 (Row.s_int Syntax.w64), Path'.refl) record { lower = record { fits = Dec'.lit< tt } } (Reads.room_gone 𝓛 (Syntax.ty_int Syntax.w64)) (Scalar.Holds-Sc 𝓛 (Row.s_int Syntax.w64)) Path'.refl (λ u. Path'.refl) λ u. tt) d21
 
           d23 : Typed.Typed 𝓛 𝓣 E G7 b22 Δ0 at23
           d23 = Typed.t_seq 𝓛 𝓣 E G7 G8 b8 b21 Δ0 at9 at22 d9 d22

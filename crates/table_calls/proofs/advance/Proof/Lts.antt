@@ -148,7 +148,7 @@ abbrev b10 : Syntax.Body
 b10 = Syntax.cond (Syntax.copy (Syntax.place 13 List.[])) b8 b9
 
 abbrev b11 : Syntax.Body
-b11 = Syntax.assign (Syntax.place 11 List.[]) (Syntax.op2 (Syntax.mul Syntax.unsigned) (Syntax.copy (Syntax.place 3 List.[])) (Syntax.int_big Syntax.w64 4616))
+b11 = Syntax.assign (Syntax.place 11 List.[]) (Syntax.op2 (Syntax.mul Syntax.unsigned) (Syntax.copy (Syntax.place 3 List.[])) (Syntax.int_big Syntax.w64 4424))
 
 abbrev b12 : Syntax.Body
 b12 = Syntax.assign (Syntax.place 14 List.[]) (Syntax.op2 Syntax.offset (Syntax.copy (Syntax.place 1 (List.◌∷◌ (Syntax.field 0) List.[]))) (Syntax.copy (Syntax.place 11 List.[])))
@@ -166,7 +166,7 @@ abbrev b16 : Syntax.Body
 b16 = Syntax.call "table_calls::client_of" (List.◌∷◌ (Syntax.copy (Syntax.place 7 List.[])) List.[]) (Syntax.place 8 List.[])
 
 abbrev b17 : Syntax.Body
-b17 = Syntax.assign (Syntax.place 11 List.[]) (Syntax.op2 (Syntax.mul Syntax.unsigned) (Syntax.copy (Syntax.place 3 List.[])) (Syntax.int_big Syntax.w64 4616))
+b17 = Syntax.assign (Syntax.place 11 List.[]) (Syntax.op2 (Syntax.mul Syntax.unsigned) (Syntax.copy (Syntax.place 3 List.[])) (Syntax.int_big Syntax.w64 4424))
 
 abbrev b18 : Syntax.Body
 b18 = Syntax.assign (Syntax.place 16 List.[]) (Syntax.op2 Syntax.offset (Syntax.copy (Syntax.place 1 (List.◌∷◌ (Syntax.field 0) List.[]))) (Syntax.copy (Syntax.place 11 List.[])))
@@ -515,13 +515,13 @@ module _ (claims· : Claims) where
   s20 = Scalar.n_room T22 13 Syntax.ty_bool
 
   abbrev s21 : Typed.Asks T15 T24
-  s21 = Scalar.k_op2 T15 (Syntax.mul Syntax.unsigned) (Scalar.o_at 3 (Syntax.ty_int Syntax.w64) (Row.val_s (Row.s_int Syntax.w64))) (Scalar.o_big Syntax.w64 4616) 11 (Rows'.sc_here (Row.s_int Syntax.w64)) (Row.s_int Syntax.w64).of
+  s21 = Scalar.k_op2 T15 (Syntax.mul Syntax.unsigned) (Scalar.o_at 3 (Syntax.ty_int Syntax.w64) (Row.val_s (Row.s_int Syntax.w64))) (Scalar.o_big Syntax.w64 4424) 11 (Rows'.sc_here (Row.s_int Syntax.w64)) (Row.s_int Syntax.w64).of
 
   abbrev s22 : Typed.Asks T24 T25
   s22 = Scalar.k_op2 T24 Syntax.offset (Scalar.o_fld 1 (List.◌∷◌ (Syntax.field 0) List.[]) (Syntax.ty_ref (Syntax.named 0) Syntax.mut (Memory-as-T.pointee (Client-as-T.the_row).written)) 0 Reads.ptr_val) (Scalar.o_at 11 (Syntax.ty_int Syntax.w64) (Row.val_s (Row.s_int Syntax.w64))) 14 (Rows'.sc_here Row.s_ptr) (Row.s_ptr).of
 
   abbrev s23 : Typed.Both T25 T26
-  s23 = Move.k_sl_copy_out Client-as-T.the_row T25 1 14 15 0 (Syntax.ty_ref (Syntax.named 0) Syntax.mut (Memory-as-T.pointee (Client-as-T.the_row).written)) Row.off (Rows'.whole Client-as-T.the_row) (Shared.by_size 4616) (λ u. u.1.1.1.0) (λ x. x) Client-as-D.blank_client (λ x. Unit) (λ x. x) λ x. x
+  s23 = Move.k_sl_copy_out Client-as-T.the_row T25 1 14 15 0 (Syntax.ty_ref (Syntax.named 0) Syntax.mut (Memory-as-T.pointee (Client-as-T.the_row).written)) Row.off (Rows'.whole Client-as-T.the_row) (Shared.by_size 4424) (λ u. u.1.1.1.0) (λ x. x) Client-as-D.blank_client (λ x. Unit) (λ x. x) λ x. x
 
   abbrev s24 : Typed.Mo T26 → Typed.Mo T27
   s24 = Scalar.n_room T26 11 (Syntax.ty_int Syntax.w64)
@@ -545,13 +545,13 @@ module _ (claims· : Claims) where
   s30 = Call.call_b ps·4 r·4 claims·.8 claims·.9 T32 (record { pos = 7; st = List.[]; d = 0; at = λ x. x }, tt) 8 List.[] Client-as-L.mir
 
   abbrev s31 : Typed.Asks T33 T34
-  s31 = Scalar.k_op2 T33 (Syntax.mul Syntax.unsigned) (Scalar.o_at 3 (Syntax.ty_int Syntax.w64) (Row.val_s (Row.s_int Syntax.w64))) (Scalar.o_big Syntax.w64 4616) 11 (Rows'.sc_here (Row.s_int Syntax.w64)) (Row.s_int Syntax.w64).of
+  s31 = Scalar.k_op2 T33 (Syntax.mul Syntax.unsigned) (Scalar.o_at 3 (Syntax.ty_int Syntax.w64) (Row.val_s (Row.s_int Syntax.w64))) (Scalar.o_big Syntax.w64 4424) 11 (Rows'.sc_here (Row.s_int Syntax.w64)) (Row.s_int Syntax.w64).of
 
   abbrev s32 : Typed.Asks T34 T35
   s32 = Scalar.k_op2 T34 Syntax.offset (Scalar.o_fld 1 (List.◌∷◌ (Syntax.field 0) List.[]) (Syntax.ty_ref (Syntax.named 0) Syntax.mut (Memory-as-T.pointee (Client-as-T.the_row).written)) 0 Reads.ptr_val) (Scalar.o_at 11 (Syntax.ty_int Syntax.w64) (Row.val_s (Row.s_int Syntax.w64))) 16 (Rows'.sc_here Row.s_ptr) (Row.s_ptr).of
 
   abbrev s33 : Typed.Asks T35 T36
-  s33 = Move.k_sl_set_from Client-as-T.the_row T35 1 16 8 0 (Syntax.ty_ref (Syntax.named 0) Syntax.mut (Memory-as-T.pointee (Client-as-T.the_row).written)) Row.off (Rows'.whole Client-as-T.the_row) (Shared.by_size 4616) (λ u. u.1.1.1.0) (λ x. x) (λ x. x) (λ x. x) λ x. x
+  s33 = Move.k_sl_set_from Client-as-T.the_row T35 1 16 8 0 (Syntax.ty_ref (Syntax.named 0) Syntax.mut (Memory-as-T.pointee (Client-as-T.the_row).written)) Row.off (Rows'.whole Client-as-T.the_row) (Shared.by_size 4424) (λ u. u.1.1.1.0) (λ x. x) (λ x. x) (λ x. x) λ x. x
 
   abbrev s34 : Typed.Mo T36 → Typed.Mo T37
   s34 = Scalar.n_room T36 8 Client-as-L.mir
@@ -946,13 +946,13 @@ module _ (claims· : Claims) where
           d18 = Typed.g_pre_lem 𝓛 𝓣 E G36 G37 b22 Δ0 (Typed.pass T36 T37 s34) at17 (Scalar.g_room 𝓛 E G36 8 Client-as-L.mir (Local.room_whole 𝓛 Client-as-T.the_row Client-as-L.mir Path'.refl)) d17
 
           d19 : Typed.Typed 𝓛 𝓣 E G35 b23 Δ0 at19
-          d19 = Typed.s_seq 𝓛 𝓣 E G35 G36 b19 b22 Δ0 (Typed.ask s33) at18 (Move.t_sl_set_from 𝓛 E Client-as-T.the_row 𝓣 Path'.refl (λ ρ. Unit) G35 1 16 8 0 (Syntax.ty_ref (Syntax.named 0) Syntax.mut (Memory-as-T.pointee (Client-as-T.the_row).written)) (Row.lease κs.0 qs.0) Client-as-L.mir Client-as-L.mir (Rows'.whole Client-as-T.the_row) (Shared.by_size 4616) (λ u. u.1.1.1.0) (λ x. x) (λ x. x) (λ x. x) (λ x. x) (λ i o. Elements.at_mul o 4616 i) Path'.refl Path'.refl (Own.Told-none 𝓛 G35.slots) (Reads.as_is 𝓛 (Mut.mslice Client-as-T.the_row (Syntax.ty_ref (Syntax.named 0) Syntax.mut (Memory-as-T.pointee (Client-as-T.the_row).written)) 0)) (Reads.as_is 𝓛 (Rows'.sc_here Row.s_ptr)) (Yields.Yields-copy 𝓛 (λ ρ. Unit) Client-as-T.the_row Path'.refl ((Copies.c_struct Client-as-T.the_type Client-as-L.the_laws Client-as-L.the_copy).copy 𝓛) (Rows'.whole Client-as-T.the_row) (λ x. x) (λ x. x) (λ ρ told. Local.mem_whole 𝓛 Client-as-T.the_row ρ) λ ρ told. Local.whole_mem 𝓛 Client-as-T.the_row ρ) Path'.refl tt Path'.refl Path'.refl) d18
+          d19 = Typed.s_seq 𝓛 𝓣 E G35 G36 b19 b22 Δ0 (Typed.ask s33) at18 (Move.t_sl_set_from 𝓛 E Client-as-T.the_row 𝓣 Path'.refl (λ ρ. Unit) G35 1 16 8 0 (Syntax.ty_ref (Syntax.named 0) Syntax.mut (Memory-as-T.pointee (Client-as-T.the_row).written)) (Row.lease κs.0 qs.0) Client-as-L.mir Client-as-L.mir (Rows'.whole Client-as-T.the_row) (Shared.by_size 4424) (λ u. u.1.1.1.0) (λ x. x) (λ x. x) (λ x. x) (λ x. x) (λ i o. Elements.at_mul o 4424 i) Path'.refl Path'.refl (Own.Told-none 𝓛 G35.slots) (Reads.as_is 𝓛 (Mut.mslice Client-as-T.the_row (Syntax.ty_ref (Syntax.named 0) Syntax.mut (Memory-as-T.pointee (Client-as-T.the_row).written)) 0)) (Reads.as_is 𝓛 (Rows'.sc_here Row.s_ptr)) (Yields.Yields-copy 𝓛 (λ ρ. Unit) Client-as-T.the_row Path'.refl ((Copies.c_struct Client-as-T.the_type Client-as-L.the_laws Client-as-L.the_copy).copy 𝓛) (Rows'.whole Client-as-T.the_row) (λ x. x) (λ x. x) (λ ρ told. Local.mem_whole 𝓛 Client-as-T.the_row ρ) λ ρ told. Local.whole_mem 𝓛 Client-as-T.the_row ρ) Path'.refl tt Path'.refl Path'.refl) d18
 
           d20 : Typed.Typed 𝓛 𝓣 E G34 b24 Δ0 at20
           d20 = Typed.s_seq 𝓛 𝓣 E G34 G35 b18 b23 Δ0 (Typed.ask s32) at19 (Scalar.t_op2 𝓛 E 𝓣 G34 Syntax.offset (Scalar.o_fld 1 (List.◌∷◌ (Syntax.field 0) List.[]) (Syntax.ty_ref (Syntax.named 0) Syntax.mut (Memory-as-T.pointee (Client-as-T.the_row).written)) 0 Reads.ptr_val) (Scalar.o_at 11 (Syntax.ty_int Syntax.w64) (Row.val_s (Row.s_int Syntax.w64))) 16 (Rows'.sc_here Row.s_ptr) Syntax.ty_ptr (Row.val_s Row.s_ptr) (Row.s_ptr).of (Mut.reads_mslice_ptr 𝓛 Client-as-T.the_row (Syntax.ty_ref (Syntax.named 0) Syntax.mut (Memory-as-T.pointee (Client-as-T.the_row).written)) 0 0 Path'.refl, Path'.refl) (Scalar.reads_sc 𝓛 (Row.s_int Syntax.w64), Path'.refl) (Reads.room_gone 𝓛 Syntax.ty_ptr) (Scalar.Holds-Sc 𝓛 Row.s_ptr) Path'.refl (λ u. Path'.refl) λ u. tt) d19
 
           d21 : Typed.Typed 𝓛 𝓣 E G33 b25 Δ0 at21
-          d21 = Typed.s_seq 𝓛 𝓣 E G33 G34 b17 b24 Δ0 (Typed.ask s31) at20 (Scalar.t_op2 𝓛 E 𝓣 G33 (Syntax.mul Syntax.unsigned) (Scalar.o_at 3 (Syntax.ty_int Syntax.w64) (Row.val_s (Row.s_int Syntax.w64))) (Scalar.o_big Syntax.w64 4616) 11 (Rows'.sc_here (Row.s_int Syntax.w64)) (Syntax.ty_int Syntax.w64) (Row.val_s (Row.s_int Syntax.w64)) (Row.s_int Syntax.w64).of (Scalar.reads_sc 𝓛 (Row.s_int Syntax.w64), Path'.refl) record { lower = record { fits = Dec'.lit< tt } } (Reads.room_gone 𝓛 (Syntax.ty_int Syntax.w64)) (Scalar.Holds-Sc 𝓛 (Row.s_int Syntax.w64)) Path'.refl (λ u. Path'.refl) λ u. tt) d20
+          d21 = Typed.s_seq 𝓛 𝓣 E G33 G34 b17 b24 Δ0 (Typed.ask s31) at20 (Scalar.t_op2 𝓛 E 𝓣 G33 (Syntax.mul Syntax.unsigned) (Scalar.o_at 3 (Syntax.ty_int Syntax.w64) (Row.val_s (Row.s_int Syntax.w64))) (Scalar.o_big Syntax.w64 4424) 11 (Rows'.sc_here (Row.s_int Syntax.w64)) (Syntax.ty_int Syntax.w64) (Row.val_s (Row.s_int Syntax.w64)) (Row.s_int Syntax.w64).of (Scalar.reads_sc 𝓛 (Row.s_int Syntax.w64), Path'.refl) record { lower = record { fits = Dec'.lit< tt } } (Reads.room_gone 𝓛 (Syntax.ty_int Syntax.w64)) (Scalar.Holds-Sc 𝓛 (Row.s_int Syntax.w64)) Path'.refl (λ u. Path'.refl) λ u. tt) d20
 
           d22 : Typed.Typed 𝓛 𝓣 E G32 b26 Δ0 at22
           d22 = Typed.s_seq 𝓛 𝓣 E G32 G33 b16 b25 Δ0 (Typed.both s30) at21 (Plain.t_call_plain 𝓛 𝓣 0 ps·4 r·4 claims·.8 claims·.9 "table_calls::client_of" known.4 E (λ pos β. β) G32 (record { pos = 7; st = List.[]; d = 0; at = λ x. x }, tt) 8 List.[] (Call.sub_id 𝓛 G32.slots) ((Yields.Yields-copy 𝓛 (λ ρ. Unit) (Declared'.row Step.the_type) Path'.refl ((Copies.c_struct Step.the_type Laws'.the_laws Laws'.the_copy).copy 𝓛) (Rows'.whole (Declared'.row Step.the_type)) (λ x. x) (λ x. x) (λ ρ told. Local.mem_whole 𝓛 (Declared'.row Step.the_type) ρ) λ ρ told. Local.whole_mem 𝓛 (Declared'.row Step.the_type) ρ, Path'.refl), tt) (Reads.room_gone 𝓛 Client-as-L.mir) tt Path'.refl) d21
@@ -976,13 +976,13 @@ module _ (claims· : Claims) where
           d28 = Typed.g_pre_lem 𝓛 𝓣 E G26 G27 b28 Δ0 (Typed.pass T26 T27 s24) at27 (Scalar.g_room 𝓛 E G26 11 (Syntax.ty_int Syntax.w64) (Scalar.room_sc 𝓛 (Row.s_int Syntax.w64))) d27
 
           d29 : Typed.Typed 𝓛 𝓣 E G25 b29 Δ0 at29
-          d29 = Typed.s_seq 𝓛 𝓣 E G25 G26 b13 b28 Δ0 (Typed.both s23) at28 (Move.t_sl_copy_out 𝓛 E Client-as-T.the_row 𝓣 Path'.refl ((Copies.c_struct Client-as-T.the_type Client-as-L.the_laws Client-as-L.the_copy).copy 𝓛) (λ ρ. Unit) G25 1 14 15 0 (Syntax.ty_ref (Syntax.named 0) Syntax.mut (Memory-as-T.pointee (Client-as-T.the_row).written)) (Row.lease κs.0 qs.0) Client-as-L.mir Client-as-L.mir (Rows'.whole Client-as-T.the_row) (Shared.by_size 4616) (λ u. u.1.1.1.0) (λ x. x) Client-as-D.blank_client (λ x. Unit) (λ x. x) (λ x. x) (λ i o. Elements.at_mul o 4616 i) Path'.refl Path'.refl (Own.Told-none 𝓛 G25.slots) (DerefMove.Learns-nothing 𝓛 Client-as-T.the_row) (Reads.as_is 𝓛 (Mut.mslice Client-as-T.the_row (Syntax.ty_ref (Syntax.named 0) Syntax.mut (Memory-as-T.pointee (Client-as-T.the_row).written)) 0)) (Reads.as_is 𝓛 (Rows'.sc_here Row.s_ptr)) (Reads.room_gone 𝓛 Client-as-L.mir) (Yields.Makes-mem 𝓛 (λ ρ. Unit) Client-as-T.the_row Path'.refl (Rows'.whole Client-as-T.the_row) (λ x. x) λ ρ told. Local.whole_mem 𝓛 Client-as-T.the_row ρ) Path'.refl tt Path'.refl Path'.refl) d28
+          d29 = Typed.s_seq 𝓛 𝓣 E G25 G26 b13 b28 Δ0 (Typed.both s23) at28 (Move.t_sl_copy_out 𝓛 E Client-as-T.the_row 𝓣 Path'.refl ((Copies.c_struct Client-as-T.the_type Client-as-L.the_laws Client-as-L.the_copy).copy 𝓛) (λ ρ. Unit) G25 1 14 15 0 (Syntax.ty_ref (Syntax.named 0) Syntax.mut (Memory-as-T.pointee (Client-as-T.the_row).written)) (Row.lease κs.0 qs.0) Client-as-L.mir Client-as-L.mir (Rows'.whole Client-as-T.the_row) (Shared.by_size 4424) (λ u. u.1.1.1.0) (λ x. x) Client-as-D.blank_client (λ x. Unit) (λ x. x) (λ x. x) (λ i o. Elements.at_mul o 4424 i) Path'.refl Path'.refl (Own.Told-none 𝓛 G25.slots) (DerefMove.Learns-nothing 𝓛 Client-as-T.the_row) (Reads.as_is 𝓛 (Mut.mslice Client-as-T.the_row (Syntax.ty_ref (Syntax.named 0) Syntax.mut (Memory-as-T.pointee (Client-as-T.the_row).written)) 0)) (Reads.as_is 𝓛 (Rows'.sc_here Row.s_ptr)) (Reads.room_gone 𝓛 Client-as-L.mir) (Yields.Makes-mem 𝓛 (λ ρ. Unit) Client-as-T.the_row Path'.refl (Rows'.whole Client-as-T.the_row) (λ x. x) λ ρ told. Local.whole_mem 𝓛 Client-as-T.the_row ρ) Path'.refl tt Path'.refl Path'.refl) d28
 
           d30 : Typed.Typed 𝓛 𝓣 E G24 b30 Δ0 at30
           d30 = Typed.s_seq 𝓛 𝓣 E G24 G25 b12 b29 Δ0 (Typed.ask s22) at29 (Scalar.t_op2 𝓛 E 𝓣 G24 Syntax.offset (Scalar.o_fld 1 (List.◌∷◌ (Syntax.field 0) List.[]) (Syntax.ty_ref (Syntax.named 0) Syntax.mut (Memory-as-T.pointee (Client-as-T.the_row).written)) 0 Reads.ptr_val) (Scalar.o_at 11 (Syntax.ty_int Syntax.w64) (Row.val_s (Row.s_int Syntax.w64))) 14 (Rows'.sc_here Row.s_ptr) Syntax.ty_ptr (Row.val_s Row.s_ptr) (Row.s_ptr).of (Mut.reads_mslice_ptr 𝓛 Client-as-T.the_row (Syntax.ty_ref (Syntax.named 0) Syntax.mut (Memory-as-T.pointee (Client-as-T.the_row).written)) 0 0 Path'.refl, Path'.refl) (Scalar.reads_sc 𝓛 (Row.s_int Syntax.w64), Path'.refl) (Reads.room_gone 𝓛 Syntax.ty_ptr) (Scalar.Holds-Sc 𝓛 Row.s_ptr) Path'.refl (λ u. Path'.refl) λ u. tt) d29
 
           d31 : Typed.Typed 𝓛 𝓣 E G15 b31 Δ0 at31
-          d31 = Typed.s_seq 𝓛 𝓣 E G15 G24 b11 b30 Δ0 (Typed.ask s21) at30 (Scalar.t_op2 𝓛 E 𝓣 G15 (Syntax.mul Syntax.unsigned) (Scalar.o_at 3 (Syntax.ty_int Syntax.w64) (Row.val_s (Row.s_int Syntax.w64))) (Scalar.o_big Syntax.w64 4616) 11 (Rows'.sc_here (Row.s_int Syntax.w64)) (Syntax.ty_int Syntax.w64) (Row.val_s (Row.s_int Syntax.w64)) (Row.s_int Syntax.w64).of (Scalar.reads_sc 𝓛 (Row.s_int Syntax.w64), Path'.refl) record { lower = record { fits = Dec'.lit< tt } } (Reads.room_gone 𝓛 (Syntax.ty_int Syntax.w64)) (Scalar.Holds-Sc 𝓛 (Row.s_int Syntax.w64)) Path'.refl (λ u. Path'.refl) λ u. tt) d30
+          d31 = Typed.s_seq 𝓛 𝓣 E G15 G24 b11 b30 Δ0 (Typed.ask s21) at30 (Scalar.t_op2 𝓛 E 𝓣 G15 (Syntax.mul Syntax.unsigned) (Scalar.o_at 3 (Syntax.ty_int Syntax.w64) (Row.val_s (Row.s_int Syntax.w64))) (Scalar.o_big Syntax.w64 4424) 11 (Rows'.sc_here (Row.s_int Syntax.w64)) (Syntax.ty_int Syntax.w64) (Row.val_s (Row.s_int Syntax.w64)) (Row.s_int Syntax.w64).of (Scalar.reads_sc 𝓛 (Row.s_int Syntax.w64), Path'.refl) record { lower = record { fits = Dec'.lit< tt } } (Reads.room_gone 𝓛 (Syntax.ty_int Syntax.w64)) (Scalar.Holds-Sc 𝓛 (Row.s_int Syntax.w64)) Path'.refl (λ u. Path'.refl) λ u. tt) d30
 
           d32 : Typed.Typed 𝓛 𝓣 E G14 b32 Δ0 at32
           d32 = Typed.t_seq 𝓛 𝓣 E G14 G15 b10 b31 Δ0 at10 at31 d10 d31

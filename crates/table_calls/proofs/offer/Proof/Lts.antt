@@ -164,7 +164,7 @@ abbrev b10 : Syntax.Body
 b10 = Syntax.cond (Syntax.copy (Syntax.place 17 List.[])) b8 b9
 
 abbrev b11 : Syntax.Body
-b11 = Syntax.assign (Syntax.place 15 List.[]) (Syntax.op2 (Syntax.mul Syntax.unsigned) (Syntax.copy (Syntax.place 3 List.[])) (Syntax.int_big Syntax.w64 4616))
+b11 = Syntax.assign (Syntax.place 15 List.[]) (Syntax.op2 (Syntax.mul Syntax.unsigned) (Syntax.copy (Syntax.place 3 List.[])) (Syntax.int_big Syntax.w64 4424))
 
 abbrev b12 : Syntax.Body
 b12 = Syntax.assign (Syntax.place 18 List.[]) (Syntax.op2 Syntax.offset (Syntax.copy (Syntax.place 1 (List.◌∷◌ (Syntax.field 0) List.[]))) (Syntax.copy (Syntax.place 15 List.[])))
@@ -209,7 +209,7 @@ abbrev b25 : Syntax.Body
 b25 = Syntax.call "table_calls::client_of" (List.◌∷◌ (Syntax.copy (Syntax.place 11 List.[])) List.[]) (Syntax.place 12 List.[])
 
 abbrev b26 : Syntax.Body
-b26 = Syntax.assign (Syntax.place 15 List.[]) (Syntax.op2 (Syntax.mul Syntax.unsigned) (Syntax.copy (Syntax.place 3 List.[])) (Syntax.int_big Syntax.w64 4616))
+b26 = Syntax.assign (Syntax.place 15 List.[]) (Syntax.op2 (Syntax.mul Syntax.unsigned) (Syntax.copy (Syntax.place 3 List.[])) (Syntax.int_big Syntax.w64 4424))
 
 abbrev b27 : Syntax.Body
 b27 = Syntax.assign (Syntax.place 25 List.[]) (Syntax.op2 Syntax.offset (Syntax.copy (Syntax.place 1 (List.◌∷◌ (Syntax.field 0) List.[]))) (Syntax.copy (Syntax.place 15 List.[])))
@@ -702,13 +702,13 @@ module _ (claims· : Claims) where
   s21 = Scalar.n_room T18 17 Syntax.ty_bool
 
   abbrev s22 : Typed.Asks T17 T25
-  s22 = Scalar.k_op2 T17 (Syntax.mul Syntax.unsigned) (Scalar.o_at 3 (Syntax.ty_int Syntax.w64) (Row.val_s (Row.s_int Syntax.w64))) (Scalar.o_big Syntax.w64 4616) 15 (Rows'.sc_here (Row.s_int Syntax.w64)) (Row.s_int Syntax.w64).of
+  s22 = Scalar.k_op2 T17 (Syntax.mul Syntax.unsigned) (Scalar.o_at 3 (Syntax.ty_int Syntax.w64) (Row.val_s (Row.s_int Syntax.w64))) (Scalar.o_big Syntax.w64 4424) 15 (Rows'.sc_here (Row.s_int Syntax.w64)) (Row.s_int Syntax.w64).of
 
   abbrev s23 : Typed.Asks T25 T26
   s23 = Scalar.k_op2 T25 Syntax.offset (Scalar.o_fld 1 (List.◌∷◌ (Syntax.field 0) List.[]) (Syntax.ty_ref (Syntax.named 0) Syntax.mut (Memory-as-T.pointee (Client-as-T.the_row).written)) 0 Reads.ptr_val) (Scalar.o_at 15 (Syntax.ty_int Syntax.w64) (Row.val_s (Row.s_int Syntax.w64))) 18 (Rows'.sc_here Row.s_ptr) (Row.s_ptr).of
 
   abbrev s24 : Typed.Both T26 T27
-  s24 = Move.k_sl_copy_out Client-as-T.the_row T26 1 18 19 0 (Syntax.ty_ref (Syntax.named 0) Syntax.mut (Memory-as-T.pointee (Client-as-T.the_row).written)) Row.off (Rows'.whole Client-as-T.the_row) (Shared.by_size 4616) (λ u. u.1.1.1.0) (λ x. x) Client-as-D.blank_client (λ x. Unit) (λ x. x) λ x. x
+  s24 = Move.k_sl_copy_out Client-as-T.the_row T26 1 18 19 0 (Syntax.ty_ref (Syntax.named 0) Syntax.mut (Memory-as-T.pointee (Client-as-T.the_row).written)) Row.off (Rows'.whole Client-as-T.the_row) (Shared.by_size 4424) (λ u. u.1.1.1.0) (λ x. x) Client-as-D.blank_client (λ x. Unit) (λ x. x) λ x. x
 
   abbrev s25 : Typed.Mo T27 → Typed.Mo T28
   s25 = Scalar.n_room T27 15 (Syntax.ty_int Syntax.w64)
@@ -786,13 +786,13 @@ module _ (claims· : Claims) where
   s55 = Call.call_b ps·6 r·6 claims·.12 claims·.13 T56 (record { pos = 11; st = List.[]; d = 0; at = λ x. x }, tt) 12 List.[] Client-as-L.mir
 
   abbrev s56 : Typed.Asks T58 T59
-  s56 = Scalar.k_op2 T58 (Syntax.mul Syntax.unsigned) (Scalar.o_at 3 (Syntax.ty_int Syntax.w64) (Row.val_s (Row.s_int Syntax.w64))) (Scalar.o_big Syntax.w64 4616) 15 (Rows'.sc_here (Row.s_int Syntax.w64)) (Row.s_int Syntax.w64).of
+  s56 = Scalar.k_op2 T58 (Syntax.mul Syntax.unsigned) (Scalar.o_at 3 (Syntax.ty_int Syntax.w64) (Row.val_s (Row.s_int Syntax.w64))) (Scalar.o_big Syntax.w64 4424) 15 (Rows'.sc_here (Row.s_int Syntax.w64)) (Row.s_int Syntax.w64).of
 
   abbrev s57 : Typed.Asks T59 T60
   s57 = Scalar.k_op2 T59 Syntax.offset (Scalar.o_fld 1 (List.◌∷◌ (Syntax.field 0) List.[]) (Syntax.ty_ref (Syntax.named 0) Syntax.mut (Memory-as-T.pointee (Client-as-T.the_row).written)) 0 Reads.ptr_val) (Scalar.o_at 15 (Syntax.ty_int Syntax.w64) (Row.val_s (Row.s_int Syntax.w64))) 25 (Rows'.sc_here Row.s_ptr) (Row.s_ptr).of
 
   abbrev s58 : Typed.Asks T60 T61
-  s58 = Move.k_sl_set_from Client-as-T.the_row T60 1 25 12 0 (Syntax.ty_ref (Syntax.named 0) Syntax.mut (Memory-as-T.pointee (Client-as-T.the_row).written)) Row.off (Rows'.whole Client-as-T.the_row) (Shared.by_size 4616) (λ u. u.1.1.1.0) (λ x. x) (λ x. x) (λ x. x) λ x. x
+  s58 = Move.k_sl_set_from Client-as-T.the_row T60 1 25 12 0 (Syntax.ty_ref (Syntax.named 0) Syntax.mut (Memory-as-T.pointee (Client-as-T.the_row).written)) Row.off (Rows'.whole Client-as-T.the_row) (Shared.by_size 4424) (λ u. u.1.1.1.0) (λ x. x) (λ x. x) (λ x. x) λ x. x
 
   abbrev s59 : Typed.Mo T61 → Typed.Mo T62
   s59 = Scalar.n_room T61 12 Client-as-L.mir
@@ -1367,13 +1367,13 @@ module _ (claims· : Claims) where
           d18 = Typed.g_pre_lem 𝓛 𝓣 E G61 G62 b31 Δ0 (Typed.pass T61 T62 s59) at17 (Scalar.g_room 𝓛 E G61 12 Client-as-L.mir (Local.room_whole 𝓛 Client-as-T.the_row Client-as-L.mir Path'.refl)) d17
 
           d19 : Typed.Typed 𝓛 𝓣 E G60 b32 Δ0 at19
-          d19 = Typed.s_seq 𝓛 𝓣 E G60 G61 b28 b31 Δ0 (Typed.ask s58) at18 (Move.t_sl_set_from 𝓛 E Client-as-T.the_row 𝓣 Path'.refl (λ ρ. Unit) G60 1 25 12 0 (Syntax.ty_ref (Syntax.named 0) Syntax.mut (Memory-as-T.pointee (Client-as-T.the_row).written)) (Row.lease κs.0 qs.0) Client-as-L.mir Client-as-L.mir (Rows'.whole Client-as-T.the_row) (Shared.by_size 4616) (λ u. u.1.1.1.0) (λ x. x) (λ x. x) (λ x. x) (λ x. x) (λ i o. Elements.at_mul o 4616 i) Path'.refl Path'.refl (Own.Told-none 𝓛 G60.slots) (Reads.as_is 𝓛 (Mut.mslice Client-as-T.the_row (Syntax.ty_ref (Syntax.named 0) Syntax.mut (Memory-as-T.pointee (Client-as-T.the_row).written)) 0)) (Reads.as_is 𝓛 (Rows'.sc_here Row.s_ptr)) (Yields.Yields-copy 𝓛 (λ ρ. Unit) Client-as-T.the_row Path'.refl ((Copies.c_struct Client-as-T.the_type Client-as-L.the_laws Client-as-L.the_copy).copy 𝓛) (Rows'.whole Client-as-T.the_row) (λ x. x) (λ x. x) (λ ρ told. Local.mem_whole 𝓛 Client-as-T.the_row ρ) λ ρ told. Local.whole_mem 𝓛 Client-as-T.the_row ρ) Path'.refl tt Path'.refl Path'.refl) d18
+          d19 = Typed.s_seq 𝓛 𝓣 E G60 G61 b28 b31 Δ0 (Typed.ask s58) at18 (Move.t_sl_set_from 𝓛 E Client-as-T.the_row 𝓣 Path'.refl (λ ρ. Unit) G60 1 25 12 0 (Syntax.ty_ref (Syntax.named 0) Syntax.mut (Memory-as-T.pointee (Client-as-T.the_row).written)) (Row.lease κs.0 qs.0) Client-as-L.mir Client-as-L.mir (Rows'.whole Client-as-T.the_row) (Shared.by_size 4424) (λ u. u.1.1.1.0) (λ x. x) (λ x. x) (λ x. x) (λ x. x) (λ i o. Elements.at_mul o 4424 i) Path'.refl Path'.refl (Own.Told-none 𝓛 G60.slots) (Reads.as_is 𝓛 (Mut.mslice Client-as-T.the_row (Syntax.ty_ref (Syntax.named 0) Syntax.mut (Memory-as-T.pointee (Client-as-T.the_row).written)) 0)) (Reads.as_is 𝓛 (Rows'.sc_here Row.s_ptr)) (Yields.Yields-copy 𝓛 (λ ρ. Unit) Client-as-T.the_row Path'.refl ((Copies.c_struct Client-as-T.the_type Client-as-L.the_laws Client-as-L.the_copy).copy 𝓛) (Rows'.whole Client-as-T.the_row) (λ x. x) (λ x. x) (λ ρ told. Local.mem_whole 𝓛 Client-as-T.the_row ρ) λ ρ told. Local.whole_mem 𝓛 Client-as-T.the_row ρ) Path'.refl tt Path'.refl Path'.refl) d18
 
           d20 : Typed.Typed 𝓛 𝓣 E G59 b33 Δ0 at20
           d20 = Typed.s_seq 𝓛 𝓣 E G59 G60 b27 b32 Δ0 (Typed.ask s57) at19 (Scalar.t_op2 𝓛 E 𝓣 G59 Syntax.offset (Scalar.o_fld 1 (List.◌∷◌ (Syntax.field 0) List.[]) (Syntax.ty_ref (Syntax.named 0) Syntax.mut (Memory-as-T.pointee (Client-as-T.the_row).written)) 0 Reads.ptr_val) (Scalar.o_at 15 (Syntax.ty_int Syntax.w64) (Row.val_s (Row.s_int Syntax.w64))) 25 (Rows'.sc_here Row.s_ptr) Syntax.ty_ptr (Row.val_s Row.s_ptr) (Row.s_ptr).of (Mut.reads_mslice_ptr 𝓛 Client-as-T.the_row (Syntax.ty_ref (Syntax.named 0) Syntax.mut (Memory-as-T.pointee (Client-as-T.the_row).written)) 0 0 Path'.refl, Path'.refl) (Scalar.reads_sc 𝓛 (Row.s_int Syntax.w64), Path'.refl) (Reads.room_gone 𝓛 Syntax.ty_ptr) (Scalar.Holds-Sc 𝓛 Row.s_ptr) Path'.refl (λ u. Path'.refl) λ u. tt) d19
 
           d21 : Typed.Typed 𝓛 𝓣 E G58 b34 Δ0 at21
-          d21 = Typed.s_seq 𝓛 𝓣 E G58 G59 b26 b33 Δ0 (Typed.ask s56) at20 (Scalar.t_op2 𝓛 E 𝓣 G58 (Syntax.mul Syntax.unsigned) (Scalar.o_at 3 (Syntax.ty_int Syntax.w64) (Row.val_s (Row.s_int Syntax.w64))) (Scalar.o_big Syntax.w64 4616) 15 (Rows'.sc_here (Row.s_int Syntax.w64)) (Syntax.ty_int Syntax.w64) (Row.val_s (Row.s_int Syntax.w64)) (Row.s_int Syntax.w64).of (Scalar.reads_sc 𝓛 (Row.s_int Syntax.w64), Path'.refl) record { lower = record { fits = Dec'.lit< tt } } (Reads.room_gone 𝓛 (Syntax.ty_int Syntax.w64)) (Scalar.Holds-Sc 𝓛 (Row.s_int Syntax.w64)) Path'.refl (λ u. Path'.refl) λ u. tt) d20
+          d21 = Typed.s_seq 𝓛 𝓣 E G58 G59 b26 b33 Δ0 (Typed.ask s56) at20 (Scalar.t_op2 𝓛 E 𝓣 G58 (Syntax.mul Syntax.unsigned) (Scalar.o_at 3 (Syntax.ty_int Syntax.w64) (Row.val_s (Row.s_int Syntax.w64))) (Scalar.o_big Syntax.w64 4424) 15 (Rows'.sc_here (Row.s_int Syntax.w64)) (Syntax.ty_int Syntax.w64) (Row.val_s (Row.s_int Syntax.w64)) (Row.s_int Syntax.w64).of (Scalar.reads_sc 𝓛 (Row.s_int Syntax.w64), Path'.refl) record { lower = record { fits = Dec'.lit< tt } } (Reads.room_gone 𝓛 (Syntax.ty_int Syntax.w64)) (Scalar.Holds-Sc 𝓛 (Row.s_int Syntax.w64)) Path'.refl (λ u. Path'.refl) λ u. tt) d20
 
           d22 : Typed.Typed 𝓛 𝓣 E G57 b35 Δ0 at22
           d22 = Typed.s_seq 𝓛 𝓣 E G57 G58 b25 b34 Δ0 (Typed.both s55) at21 (Plain.t_call_plain 𝓛 𝓣 0 ps·6 r·6 claims·.12 claims·.13 "table_calls::client_of" known.6 E (λ pos β. β) G57 (record { pos = 11; st = List.[]; d = 0; at = λ x. x }, tt) 12 List.[] (Call.sub_id 𝓛 G57.slots) ((Yields.Yields-copy 𝓛 (λ ρ. Unit) (Declared'.row Step.the_type) Path'.refl ((Copies.c_struct Step.the_type Laws''.the_laws Laws''.the_copy).copy 𝓛) (Rows'.whole (Declared'.row Step.the_type)) (λ x. x) (λ x. x) (λ ρ told. Local.mem_whole 𝓛 (Declared'.row Step.the_type) ρ) λ ρ told. Local.whole_mem 𝓛 (Declared'.row Step.the_type) ρ, Path'.refl), tt) (Reads.room_gone 𝓛 Client-as-L.mir) tt Path'.refl) d21
@@ -1469,13 +1469,13 @@ module _ (claims· : Claims) where
           d52 = Typed.g_pre_lem 𝓛 𝓣 E G27 G28 b46 Δ0 (Typed.pass T27 T28 s25) at51 (Scalar.g_room 𝓛 E G27 15 (Syntax.ty_int Syntax.w64) (Scalar.room_sc 𝓛 (Row.s_int Syntax.w64))) d51
 
           d53 : Typed.Typed 𝓛 𝓣 E G26 b47 Δ0 at53
-          d53 = Typed.s_seq 𝓛 𝓣 E G26 G27 b13 b46 Δ0 (Typed.both s24) at52 (Move.t_sl_copy_out 𝓛 E Client-as-T.the_row 𝓣 Path'.refl ((Copies.c_struct Client-as-T.the_type Client-as-L.the_laws Client-as-L.the_copy).copy 𝓛) (λ ρ. Unit) G26 1 18 19 0 (Syntax.ty_ref (Syntax.named 0) Syntax.mut (Memory-as-T.pointee (Client-as-T.the_row).written)) (Row.lease κs.0 qs.0) Client-as-L.mir Client-as-L.mir (Rows'.whole Client-as-T.the_row) (Shared.by_size 4616) (λ u. u.1.1.1.0) (λ x. x) Client-as-D.blank_client (λ x. Unit) (λ x. x) (λ x. x) (λ i o. Elements.at_mul o 4616 i) Path'.refl Path'.refl (Own.Told-none 𝓛 G26.slots) (DerefMove.Learns-nothing 𝓛 Client-as-T.the_row) (Reads.as_is 𝓛 (Mut.mslice Client-as-T.the_row (Syntax.ty_ref (Syntax.named 0) Syntax.mut (Memory-as-T.pointee (Client-as-T.the_row).written)) 0)) (Reads.as_is 𝓛 (Rows'.sc_here Row.s_ptr)) (Reads.room_gone 𝓛 Client-as-L.mir) (Yields.Makes-mem 𝓛 (λ ρ. Unit) Client-as-T.the_row Path'.refl (Rows'.whole Client-as-T.the_row) (λ x. x) λ ρ told. Local.whole_mem 𝓛 Client-as-T.the_row ρ) Path'.refl tt Path'.refl Path'.refl) d52
+          d53 = Typed.s_seq 𝓛 𝓣 E G26 G27 b13 b46 Δ0 (Typed.both s24) at52 (Move.t_sl_copy_out 𝓛 E Client-as-T.the_row 𝓣 Path'.refl ((Copies.c_struct Client-as-T.the_type Client-as-L.the_laws Client-as-L.the_copy).copy 𝓛) (λ ρ. Unit) G26 1 18 19 0 (Syntax.ty_ref (Syntax.named 0) Syntax.mut (Memory-as-T.pointee (Client-as-T.the_row).written)) (Row.lease κs.0 qs.0) Client-as-L.mir Client-as-L.mir (Rows'.whole Client-as-T.the_row) (Shared.by_size 4424) (λ u. u.1.1.1.0) (λ x. x) Client-as-D.blank_client (λ x. Unit) (λ x. x) (λ x. x) (λ i o. Elements.at_mul o 4424 i) Path'.refl Path'.refl (Own.Told-none 𝓛 G26.slots) (DerefMove.Learns-nothing 𝓛 Client-as-T.the_row) (Reads.as_is 𝓛 (Mut.mslice Client-as-T.the_row (Syntax.ty_ref (Syntax.named 0) Syntax.mut (Memory-as-T.pointee (Client-as-T.the_row).written)) 0)) (Reads.as_is 𝓛 (Rows'.sc_here Row.s_ptr)) (Reads.room_gone 𝓛 Client-as-L.mir) (Yields.Makes-mem 𝓛 (λ ρ. Unit) Client-as-T.the_row Path'.refl (Rows'.whole Client-as-T.the_row) (λ x. x) λ ρ told. Local.whole_mem 𝓛 Client-as-T.the_row ρ) Path'.refl tt Path'.refl Path'.refl) d52
 
           d54 : Typed.Typed 𝓛 𝓣 E G25 b48 Δ0 at54
           d54 = Typed.s_seq 𝓛 𝓣 E G25 G26 b12 b47 Δ0 (Typed.ask s23) at53 (Scalar.t_op2 𝓛 E 𝓣 G25 Syntax.offset (Scalar.o_fld 1 (List.◌∷◌ (Syntax.field 0) List.[]) (Syntax.ty_ref (Syntax.named 0) Syntax.mut (Memory-as-T.pointee (Client-as-T.the_row).written)) 0 Reads.ptr_val) (Scalar.o_at 15 (Syntax.ty_int Syntax.w64) (Row.val_s (Row.s_int Syntax.w64))) 18 (Rows'.sc_here Row.s_ptr) Syntax.ty_ptr (Row.val_s Row.s_ptr) (Row.s_ptr).of (Mut.reads_mslice_ptr 𝓛 Client-as-T.the_row (Syntax.ty_ref (Syntax.named 0) Syntax.mut (Memory-as-T.pointee (Client-as-T.the_row).written)) 0 0 Path'.refl, Path'.refl) (Scalar.reads_sc 𝓛 (Row.s_int Syntax.w64), Path'.refl) (Reads.room_gone 𝓛 Syntax.ty_ptr) (Scalar.Holds-Sc 𝓛 Row.s_ptr) Path'.refl (λ u. Path'.refl) λ u. tt) d53
 
           d55 : Typed.Typed 𝓛 𝓣 E G17 b49 Δ0 at55
-          d55 = Typed.s_seq 𝓛 𝓣 E G17 G25 b11 b48 Δ0 (Typed.ask s22) at54 (Scalar.t_op2 𝓛 E 𝓣 G17 (Syntax.mul Syntax.unsigned) (Scalar.o_at 3 (Syntax.ty_int Syntax.w64) (Row.val_s (Row.s_int Syntax.w64))) (Scalar.o_big Syntax.w64 4616) 15 (Rows'.sc_here (Row.s_int Syntax.w64)) (Syntax.ty_int Syntax.w64) (Row.val_s (Row.s_int Syntax.w64)) (Row.s_int Syntax.w64).of (Scalar.reads_sc 𝓛 (Row.s_int Syntax.w64), Path'.refl) record { lower = record { fits = Dec'.lit< tt } } (Reads.room_gone 𝓛 (Syntax.ty_int Syntax.w64)) (Scalar.Holds-Sc 𝓛 (Row.s_int Syntax.w64)) Path'.refl (λ u. Path'.refl) λ u. tt) d54
+          d55 = Typed.s_seq 𝓛 𝓣 E G17 G25 b11 b48 Δ0 (Typed.ask s22) at54 (Scalar.t_op2 𝓛 E 𝓣 G17 (Syntax.mul Syntax.unsigned) (Scalar.o_at 3 (Syntax.ty_int Syntax.w64) (Row.val_s (Row.s_int Syntax.w64))) (Scalar.o_big Syntax.w64 4424) 15 (Rows'.sc_here (Row.s_int Syntax.w64)) (Syntax.ty_int Syntax.w64) (Row.val_s (Row.s_int Syntax.w64)) (Row.s_int Syntax.w64).of (Scalar.reads_sc 𝓛 (Row.s_int Syntax.w64), Path'.refl) record { lower = record { fits = Dec'.lit< tt } } (Reads.room_gone 𝓛 (Syntax.ty_int Syntax.w64)) (Scalar.Holds-Sc 𝓛 (Row.s_int Syntax.w64)) Path'.refl (λ u. Path'.refl) λ u. tt) d54
 
           d56 : Typed.Typed 𝓛 𝓣 E G16 b50 Δ0 at56
           d56 = Typed.t_seq 𝓛 𝓣 E G16 G17 b10 b49 Δ0 at9 at55 d9 d55

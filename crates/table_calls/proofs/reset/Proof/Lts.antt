@@ -156,7 +156,7 @@ abbrev b16 : Syntax.Body
 b16 = Syntax.cond (Syntax.copy (Syntax.place 13 List.[])) b14 b15
 
 abbrev b17 : Syntax.Body
-b17 = Syntax.assign (Syntax.place 12 List.[]) (Syntax.op2 (Syntax.mul Syntax.unsigned) (Syntax.copy (Syntax.place 4 List.[])) (Syntax.int_big Syntax.w64 4616))
+b17 = Syntax.assign (Syntax.place 12 List.[]) (Syntax.op2 (Syntax.mul Syntax.unsigned) (Syntax.copy (Syntax.place 4 List.[])) (Syntax.int_big Syntax.w64 4424))
 
 abbrev b18 : Syntax.Body
 b18 = Syntax.assign (Syntax.place 14 List.[]) (Syntax.op2 Syntax.offset (Syntax.copy (Syntax.place 1 (List.◌∷◌ (Syntax.field 0) List.[]))) (Syntax.copy (Syntax.place 12 List.[])))
@@ -171,7 +171,7 @@ abbrev b21 : Syntax.Body
 b21 = Syntax.call "table_calls::fresh_of" (List.◌∷◌ (Syntax.copy (Syntax.place 5 List.[])) List.[]) (Syntax.place 6 List.[])
 
 abbrev b22 : Syntax.Body
-b22 = Syntax.assign (Syntax.place 12 List.[]) (Syntax.op2 (Syntax.mul Syntax.unsigned) (Syntax.copy (Syntax.place 4 List.[])) (Syntax.int_big Syntax.w64 4616))
+b22 = Syntax.assign (Syntax.place 12 List.[]) (Syntax.op2 (Syntax.mul Syntax.unsigned) (Syntax.copy (Syntax.place 4 List.[])) (Syntax.int_big Syntax.w64 4424))
 
 abbrev b23 : Syntax.Body
 b23 = Syntax.assign (Syntax.place 16 List.[]) (Syntax.op2 Syntax.offset (Syntax.copy (Syntax.place 1 (List.◌∷◌ (Syntax.field 0) List.[]))) (Syntax.copy (Syntax.place 12 List.[])))
@@ -580,13 +580,13 @@ module _ (claims· : Claims) where
   s24 = Scalar.n_room T27 13 Syntax.ty_bool
 
   abbrev s25 : Typed.Asks T26 T30
-  s25 = Scalar.k_op2 T26 (Syntax.mul Syntax.unsigned) (Scalar.o_at 4 (Syntax.ty_int Syntax.w64) (Row.val_s (Row.s_int Syntax.w64))) (Scalar.o_big Syntax.w64 4616) 12 (Rows'.sc_here (Row.s_int Syntax.w64)) (Row.s_int Syntax.w64).of
+  s25 = Scalar.k_op2 T26 (Syntax.mul Syntax.unsigned) (Scalar.o_at 4 (Syntax.ty_int Syntax.w64) (Row.val_s (Row.s_int Syntax.w64))) (Scalar.o_big Syntax.w64 4424) 12 (Rows'.sc_here (Row.s_int Syntax.w64)) (Row.s_int Syntax.w64).of
 
   abbrev s26 : Typed.Asks T30 T31
   s26 = Scalar.k_op2 T30 Syntax.offset (Scalar.o_fld 1 (List.◌∷◌ (Syntax.field 0) List.[]) (Syntax.ty_ref (Syntax.named 0) Syntax.mut (Memory-as-T.pointee (Client-as-T.the_row).written)) 0 Reads.ptr_val) (Scalar.o_at 12 (Syntax.ty_int Syntax.w64) (Row.val_s (Row.s_int Syntax.w64))) 14 (Rows'.sc_here Row.s_ptr) (Row.s_ptr).of
 
   abbrev s27 : Typed.Both T31 T32
-  s27 = Move.k_sl_copy_out Client-as-T.the_row T31 1 14 15 0 (Syntax.ty_ref (Syntax.named 0) Syntax.mut (Memory-as-T.pointee (Client-as-T.the_row).written)) Row.off (Rows'.whole Client-as-T.the_row) (Shared.by_size 4616) (λ u. u.1.1.1.1.0) (λ x. x) Client-as-D.blank_client (λ x. Unit) (λ x. x) λ x. x
+  s27 = Move.k_sl_copy_out Client-as-T.the_row T31 1 14 15 0 (Syntax.ty_ref (Syntax.named 0) Syntax.mut (Memory-as-T.pointee (Client-as-T.the_row).written)) Row.off (Rows'.whole Client-as-T.the_row) (Shared.by_size 4424) (λ u. u.1.1.1.1.0) (λ x. x) Client-as-D.blank_client (λ x. Unit) (λ x. x) λ x. x
 
   abbrev s28 : Typed.Mo T32 → Typed.Mo T33
   s28 = Scalar.n_room T32 12 (Syntax.ty_int Syntax.w64)
@@ -607,13 +607,13 @@ module _ (claims· : Claims) where
   s33 = Scalar.n_room T37 5 Client-as-L.mir
 
   abbrev s34 : Typed.Asks T38 T39
-  s34 = Scalar.k_op2 T38 (Syntax.mul Syntax.unsigned) (Scalar.o_at 4 (Syntax.ty_int Syntax.w64) (Row.val_s (Row.s_int Syntax.w64))) (Scalar.o_big Syntax.w64 4616) 12 (Rows'.sc_here (Row.s_int Syntax.w64)) (Row.s_int Syntax.w64).of
+  s34 = Scalar.k_op2 T38 (Syntax.mul Syntax.unsigned) (Scalar.o_at 4 (Syntax.ty_int Syntax.w64) (Row.val_s (Row.s_int Syntax.w64))) (Scalar.o_big Syntax.w64 4424) 12 (Rows'.sc_here (Row.s_int Syntax.w64)) (Row.s_int Syntax.w64).of
 
   abbrev s35 : Typed.Asks T39 T40
   s35 = Scalar.k_op2 T39 Syntax.offset (Scalar.o_fld 1 (List.◌∷◌ (Syntax.field 0) List.[]) (Syntax.ty_ref (Syntax.named 0) Syntax.mut (Memory-as-T.pointee (Client-as-T.the_row).written)) 0 Reads.ptr_val) (Scalar.o_at 12 (Syntax.ty_int Syntax.w64) (Row.val_s (Row.s_int Syntax.w64))) 16 (Rows'.sc_here Row.s_ptr) (Row.s_ptr).of
 
   abbrev s36 : Typed.Asks T40 T41
-  s36 = Move.k_sl_set_from Client-as-T.the_row T40 1 16 6 0 (Syntax.ty_ref (Syntax.named 0) Syntax.mut (Memory-as-T.pointee (Client-as-T.the_row).written)) Row.off (Rows'.whole Client-as-T.the_row) (Shared.by_size 4616) (λ u. u.1.1.1.1.0) (λ x. x) (λ x. x) (λ x. x) λ x. x
+  s36 = Move.k_sl_set_from Client-as-T.the_row T40 1 16 6 0 (Syntax.ty_ref (Syntax.named 0) Syntax.mut (Memory-as-T.pointee (Client-as-T.the_row).written)) Row.off (Rows'.whole Client-as-T.the_row) (Shared.by_size 4424) (λ u. u.1.1.1.1.0) (λ x. x) (λ x. x) (λ x. x) λ x. x
 
   abbrev s37 : Typed.Mo T41 → Typed.Mo T42
   s37 = Scalar.n_room T41 6 Client-as-L.mir
@@ -1059,13 +1059,13 @@ module _ (claims· : Claims) where
           d18 = Typed.g_pre_lem 𝓛 𝓣 E G41 G42 b25 Δ4 (Typed.pass T41 T42 s37) at17 (Scalar.g_room 𝓛 E G41 6 Client-as-L.mir (Local.room_whole 𝓛 Client-as-T.the_row Client-as-L.mir Path'.refl)) d17
 
           d19 : Typed.Typed 𝓛 𝓣 E G40 b26 Δ4 at19
-          d19 = Typed.s_seq 𝓛 𝓣 E G40 G41 b24 b25 Δ4 (Typed.ask s36) at18 (Move.t_sl_set_from 𝓛 E Client-as-T.the_row 𝓣 Path'.refl (λ ρ. Unit) G40 1 16 6 0 (Syntax.ty_ref (Syntax.named 0) Syntax.mut (Memory-as-T.pointee (Client-as-T.the_row).written)) (Row.lease κs.0 qs.0) Client-as-L.mir Client-as-L.mir (Rows'.whole Client-as-T.the_row) (Shared.by_size 4616) (λ u. u.1.1.1.1.0) (λ x. x) (λ x. x) (λ x. x) (λ x. x) (λ i o. Elements.at_mul o 4616 i) Path'.refl Path'.refl (Own.Told-none 𝓛 G40.slots) (Reads.as_is 𝓛 (Mut.mslice Client-as-T.the_row (Syntax.ty_ref (Syntax.named 0) Syntax.mut (Memory-as-T.pointee (Client-as-T.the_row).written)) 0)) (Reads.as_is 𝓛 (Rows'.sc_here Row.s_ptr)) (Yields.Yields-copy 𝓛 (λ ρ. Unit) Client-as-T.the_row Path'.refl ((Copies.c_struct Client-as-T.the_type Client-as-L.the_laws Client-as-L.the_copy).copy 𝓛) (Rows'.whole Client-as-T.the_row) (λ x. x) (λ x. x) (λ ρ told. Local.mem_whole 𝓛 Client-as-T.the_row ρ) λ ρ told. Local.whole_mem 𝓛 Client-as-T.the_row ρ) Path'.refl tt Path'.refl Path'.refl) d18
+          d19 = Typed.s_seq 𝓛 𝓣 E G40 G41 b24 b25 Δ4 (Typed.ask s36) at18 (Move.t_sl_set_from 𝓛 E Client-as-T.the_row 𝓣 Path'.refl (λ ρ. Unit) G40 1 16 6 0 (Syntax.ty_ref (Syntax.named 0) Syntax.mut (Memory-as-T.pointee (Client-as-T.the_row).written)) (Row.lease κs.0 qs.0) Client-as-L.mir Client-as-L.mir (Rows'.whole Client-as-T.the_row) (Shared.by_size 4424) (λ u. u.1.1.1.1.0) (λ x. x) (λ x. x) (λ x. x) (λ x. x) (λ i o. Elements.at_mul o 4424 i) Path'.refl Path'.refl (Own.Told-none 𝓛 G40.slots) (Reads.as_is 𝓛 (Mut.mslice Client-as-T.the_row (Syntax.ty_ref (Syntax.named 0) Syntax.mut (Memory-as-T.pointee (Client-as-T.the_row).written)) 0)) (Reads.as_is 𝓛 (Rows'.sc_here Row.s_ptr)) (Yields.Yields-copy 𝓛 (λ ρ. Unit) Client-as-T.the_row Path'.refl ((Copies.c_struct Client-as-T.the_type Client-as-L.the_laws Client-as-L.the_copy).copy 𝓛) (Rows'.whole Client-as-T.the_row) (λ x. x) (λ x. x) (λ ρ told. Local.mem_whole 𝓛 Client-as-T.the_row ρ) λ ρ told. Local.whole_mem 𝓛 Client-as-T.the_row ρ) Path'.refl tt Path'.refl Path'.refl) d18
 
           d20 : Typed.Typed 𝓛 𝓣 E G39 b27 Δ4 at20
           d20 = Typed.s_seq 𝓛 𝓣 E G39 G40 b23 b26 Δ4 (Typed.ask s35) at19 (Scalar.t_op2 𝓛 E 𝓣 G39 Syntax.offset (Scalar.o_fld 1 (List.◌∷◌ (Syntax.field 0) List.[]) (Syntax.ty_ref (Syntax.named 0) Syntax.mut (Memory-as-T.pointee (Client-as-T.the_row).written)) 0 Reads.ptr_val) (Scalar.o_at 12 (Syntax.ty_int Syntax.w64) (Row.val_s (Row.s_int Syntax.w64))) 16 (Rows'.sc_here Row.s_ptr) Syntax.ty_ptr (Row.val_s Row.s_ptr) (Row.s_ptr).of (Mut.reads_mslice_ptr 𝓛 Client-as-T.the_row (Syntax.ty_ref (Syntax.named 0) Syntax.mut (Memory-as-T.pointee (Client-as-T.the_row).written)) 0 0 Path'.refl, Path'.refl) (Scalar.reads_sc 𝓛 (Row.s_int Syntax.w64), Path'.refl) (Reads.room_gone 𝓛 Syntax.ty_ptr) (Scalar.Holds-Sc 𝓛 Row.s_ptr) Path'.refl (λ u. Path'.refl) λ u. tt) d19
 
           d21 : Typed.Typed 𝓛 𝓣 E G38 b28 Δ4 at21
-          d21 = Typed.s_seq 𝓛 𝓣 E G38 G39 b22 b27 Δ4 (Typed.ask s34) at20 (Scalar.t_op2 𝓛 E 𝓣 G38 (Syntax.mul Syntax.unsigned) (Scalar.o_at 4 (Syntax.ty_int Syntax.w64) (Row.val_s (Row.s_int Syntax.w64))) (Scalar.o_big Syntax.w64 4616) 12 (Rows'.sc_here (Row.s_int Syntax.w64)) (Syntax.ty_int Syntax.w64) (Row.val_s (Row.s_int Syntax.w64)) (Row.s_int Syntax.w64).of (Scalar.reads_sc 𝓛 (Row.s_int Syntax.w64), Path'.refl) record { lower = record { fits = Dec'.lit< tt } } (Reads.room_gone 𝓛 (Syntax.ty_int Syntax.w64)) (Scalar.Holds-Sc 𝓛 (Row.s_int Syntax.w64)) Path'.refl (λ u. Path'.refl) λ u. tt) d20
+          d21 = Typed.s_seq 𝓛 𝓣 E G38 G39 b22 b27 Δ4 (Typed.ask s34) at20 (Scalar.t_op2 𝓛 E 𝓣 G38 (Syntax.mul Syntax.unsigned) (Scalar.o_at 4 (Syntax.ty_int Syntax.w64) (Row.val_s (Row.s_int Syntax.w64))) (Scalar.o_big Syntax.w64 4424) 12 (Rows'.sc_here (Row.s_int Syntax.w64)) (Syntax.ty_int Syntax.w64) (Row.val_s (Row.s_int Syntax.w64)) (Row.s_int Syntax.w64).of (Scalar.reads_sc 𝓛 (Row.s_int Syntax.w64), Path'.refl) record { lower = record { fits = Dec'.lit< tt } } (Reads.room_gone 𝓛 (Syntax.ty_int Syntax.w64)) (Scalar.Holds-Sc 𝓛 (Row.s_int Syntax.w64)) Path'.refl (λ u. Path'.refl) λ u. tt) d20
 
           d22 : Typed.Typed 𝓛 𝓣 E G37 b28 Δ4 at22
           d22 = Typed.g_pre_lem 𝓛 𝓣 E G37 G38 b28 Δ4 (Typed.pass T37 T38 s33) at21 (Scalar.g_room 𝓛 E G37 5 Client-as-L.mir (Local.room_whole 𝓛 Client-as-T.the_row Client-as-L.mir Path'.refl)) d21
@@ -1086,13 +1086,13 @@ module _ (claims· : Claims) where
           d27 = Typed.g_pre_lem 𝓛 𝓣 E G32 G33 b30 Δ4 (Typed.pass T32 T33 s28) at26 (Scalar.g_room 𝓛 E G32 12 (Syntax.ty_int Syntax.w64) (Scalar.room_sc 𝓛 (Row.s_int Syntax.w64))) d26
 
           d28 : Typed.Typed 𝓛 𝓣 E G31 b31 Δ4 at28
-          d28 = Typed.s_seq 𝓛 𝓣 E G31 G32 b19 b30 Δ4 (Typed.both s27) at27 (Move.t_sl_copy_out 𝓛 E Client-as-T.the_row 𝓣 Path'.refl ((Copies.c_struct Client-as-T.the_type Client-as-L.the_laws Client-as-L.the_copy).copy 𝓛) (λ ρ. Unit) G31 1 14 15 0 (Syntax.ty_ref (Syntax.named 0) Syntax.mut (Memory-as-T.pointee (Client-as-T.the_row).written)) (Row.lease κs.0 qs.0) Client-as-L.mir Client-as-L.mir (Rows'.whole Client-as-T.the_row) (Shared.by_size 4616) (λ u. u.1.1.1.1.0) (λ x. x) Client-as-D.blank_client (λ x. Unit) (λ x. x) (λ x. x) (λ i o. Elements.at_mul o 4616 i) Path'.refl Path'.refl (Own.Told-none 𝓛 G31.slots) (DerefMove.Learns-nothing 𝓛 Client-as-T.the_row) (Reads.as_is 𝓛 (Mut.mslice Client-as-T.the_row (Syntax.ty_ref (Syntax.named 0) Syntax.mut (Memory-as-T.pointee (Client-as-T.the_row).written)) 0)) (Reads.as_is 𝓛 (Rows'.sc_here Row.s_ptr)) (Reads.room_gone 𝓛 Client-as-L.mir) (Yields.Makes-mem 𝓛 (λ ρ. Unit) Client-as-T.the_row Path'.refl (Rows'.whole Client-as-T.the_row) (λ x. x) λ ρ told. Local.whole_mem 𝓛 Client-as-T.the_row ρ) Path'.refl tt Path'.refl Path'.refl) d27
+          d28 = Typed.s_seq 𝓛 𝓣 E G31 G32 b19 b30 Δ4 (Typed.both s27) at27 (Move.t_sl_copy_out 𝓛 E Client-as-T.the_row 𝓣 Path'.refl ((Copies.c_struct Client-as-T.the_type Client-as-L.the_laws Client-as-L.the_copy).copy 𝓛) (λ ρ. Unit) G31 1 14 15 0 (Syntax.ty_ref (Syntax.named 0) Syntax.mut (Memory-as-T.pointee (Client-as-T.the_row).written)) (Row.lease κs.0 qs.0) Client-as-L.mir Client-as-L.mir (Rows'.whole Client-as-T.the_row) (Shared.by_size 4424) (λ u. u.1.1.1.1.0) (λ x. x) Client-as-D.blank_client (λ x. Unit) (λ x. x) (λ x. x) (λ i o. Elements.at_mul o 4424 i) Path'.refl Path'.refl (Own.Told-none 𝓛 G31.slots) (DerefMove.Learns-nothing 𝓛 Client-as-T.the_row) (Reads.as_is 𝓛 (Mut.mslice Client-as-T.the_row (Syntax.ty_ref (Syntax.named 0) Syntax.mut (Memory-as-T.pointee (Client-as-T.the_row).written)) 0)) (Reads.as_is 𝓛 (Rows'.sc_here Row.s_ptr)) (Reads.room_gone 𝓛 Client-as-L.mir) (Yields.Makes-mem 𝓛 (λ ρ. Unit) Client-as-T.the_row Path'.refl (Rows'.whole Client-as-T.the_row) (λ x. x) λ ρ told. Local.whole_mem 𝓛 Client-as-T.the_row ρ) Path'.refl tt Path'.refl Path'.refl) d27
 
           d29 : Typed.Typed 𝓛 𝓣 E G30 b32 Δ4 at29
           d29 = Typed.s_seq 𝓛 𝓣 E G30 G31 b18 b31 Δ4 (Typed.ask s26) at28 (Scalar.t_op2 𝓛 E 𝓣 G30 Syntax.offset (Scalar.o_fld 1 (List.◌∷◌ (Syntax.field 0) List.[]) (Syntax.ty_ref (Syntax.named 0) Syntax.mut (Memory-as-T.pointee (Client-as-T.the_row).written)) 0 Reads.ptr_val) (Scalar.o_at 12 (Syntax.ty_int Syntax.w64) (Row.val_s (Row.s_int Syntax.w64))) 14 (Rows'.sc_here Row.s_ptr) Syntax.ty_ptr (Row.val_s Row.s_ptr) (Row.s_ptr).of (Mut.reads_mslice_ptr 𝓛 Client-as-T.the_row (Syntax.ty_ref (Syntax.named 0) Syntax.mut (Memory-as-T.pointee (Client-as-T.the_row).written)) 0 0 Path'.refl, Path'.refl) (Scalar.reads_sc 𝓛 (Row.s_int Syntax.w64), Path'.refl) (Reads.room_gone 𝓛 Syntax.ty_ptr) (Scalar.Holds-Sc 𝓛 Row.s_ptr) Path'.refl (λ u. Path'.refl) λ u. tt) d28
 
           d30 : Typed.Typed 𝓛 𝓣 E G26 b33 Δ4 at30
-          d30 = Typed.s_seq 𝓛 𝓣 E G26 G30 b17 b32 Δ4 (Typed.ask s25) at29 (Scalar.t_op2 𝓛 E 𝓣 G26 (Syntax.mul Syntax.unsigned) (Scalar.o_at 4 (Syntax.ty_int Syntax.w64) (Row.val_s (Row.s_int Syntax.w64))) (Scalar.o_big Syntax.w64 4616) 12 (Rows'.sc_here (Row.s_int Syntax.w64)) (Syntax.ty_int Syntax.w64) (Row.val_s (Row.s_int Syntax.w64)) (Row.s_int Syntax.w64).of (Scalar.reads_sc 𝓛 (Row.s_int Syntax.w64), Path'.refl) record { lower = record { fits = Dec'.lit< tt } } (Reads.room_gone 𝓛 (Syntax.ty_int Syntax.w64)) (Scalar.Holds-Sc 𝓛 (Row.s_int Syntax.w64)) Path'.refl (λ u. Path'.refl) λ u. tt) d29
+          d30 = Typed.s_seq 𝓛 𝓣 E G26 G30 b17 b32 Δ4 (Typed.ask s25) at29 (Scalar.t_op2 𝓛 E 𝓣 G26 (Syntax.mul Syntax.unsigned) (Scalar.o_at 4 (Syntax.ty_int Syntax.w64) (Row.val_s (Row.s_int Syntax.w64))) (Scalar.o_big Syntax.w64 4424) 12 (Rows'.sc_here (Row.s_int Syntax.w64)) (Syntax.ty_int Syntax.w64) (Row.val_s (Row.s_int Syntax.w64)) (Row.s_int Syntax.w64).of (Scalar.reads_sc 𝓛 (Row.s_int Syntax.w64), Path'.refl) record { lower = record { fits = Dec'.lit< tt } } (Reads.room_gone 𝓛 (Syntax.ty_int Syntax.w64)) (Scalar.Holds-Sc 𝓛 (Row.s_int Syntax.w64)) Path'.refl (λ u. Path'.refl) λ u. tt) d29
 
           d31 : Typed.Typed 𝓛 𝓣 E G25 b34 Δ4 at31
           d31 = Typed.t_seq 𝓛 𝓣 E G25 G26 b16 b33 Δ4 at14 at30 d14 d30

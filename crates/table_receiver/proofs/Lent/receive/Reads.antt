@@ -41,8 +41,8 @@ module _ (κs : Lifetimes.Lfts 4) where
   abbrev pub pre_read : (a : World.ArgsD receive.signature κs) → (g : Ghost) → Read.Read (World.In receive.signature κs a) Read.no_know (requires a g)
   pre_read = λ a g. Read.all_models (requires a g) (λ w. Read.r_top) (λ w. Path'.refl) (λ w. Path'.refl) λ w. Path'.refl
 
-  abbrev pub ensures-1·read : (a : World.ArgsD receive.signature κs) → (g : Ghost) → (r : World.ResD receive.signature κs) → (s : Clauses.AtExit (Kinds'.ended_of 4 Kinds.ps Kinds.r) κs) → Read.Read (Base a) (Owned r s) λ w. receive.ensures-1 w.𝓛 κs w.𝓜.mem w.𝓡.run a.0 a.1.0 a.1.1.0 a.1.1.1.0 a.1.1.1.1.0 a.1.1.1.1.1.0 a.1.1.1.1.1.1.0 a.1.1.1.1.1.1.1.0 record { entry = a.0; exit = s.0 } record { entry = a.1.0; exit = s.1.0 } record { entry = a.1.1.0; exit = s.1.1.0 } record { entry = a.1.1.1.0; exit = s.1.1.1.0 } record { entry = a.1.1.1.1.0; exit = s.1.1.1.1.0 } record { entry = a.1.1.1.1.1.0; exit = s.1.1.1.1.1.0 } record { entry = a.1.1.1.1.1.1.0; exit = s.1.1.1.1.1.1.0 } record { entry = a.1.1.1.1.1.1.1.0; exit = s.1.1.1.1.1.1.1.0 } r
-  ensures-1·read = λ a g r s. Read.all_models (λ w. receive.ensures-1 w.𝓛 κs w.𝓜.mem w.𝓡.run a.0 a.1.0 a.1.1.0 a.1.1.1.0 a.1.1.1.1.0 a.1.1.1.1.1.0 a.1.1.1.1.1.1.0 a.1.1.1.1.1.1.1.0 record { entry = a.0; exit = s.0 } record { entry = a.1.0; exit = s.1.0 } record { entry = a.1.1.0; exit = s.1.1.0 } record { entry = a.1.1.1.0; exit = s.1.1.1.0 } record { entry = a.1.1.1.1.0; exit = s.1.1.1.1.0 } record { entry = a.1.1.1.1.1.0; exit = s.1.1.1.1.1.0 } record { entry = a.1.1.1.1.1.1.0; exit = s.1.1.1.1.1.1.0 } record { entry = a.1.1.1.1.1.1.1.0; exit = s.1.1.1.1.1.1.1.0 } r) (λ w. Read.r_last _) (λ w. Path'.refl) (λ w. Path'.refl) λ w. Path'.refl
+  abbrev pub ensures-1·read : (a : World.ArgsD receive.signature κs) → (g : Ghost) → (r : World.ResD receive.signature κs) → (s : Clauses.AtExit (Kinds'.ended_of 4 Kinds.ps Kinds.r) κs) → Read.Read (Base a) (Owned r s) λ w. receive.ensures-1 w.𝓛 κs w.𝓜.mem w.𝓡.run a.0 a.1.0 a.1.1.0 a.1.1.1.0 a.1.1.1.1.0 a.1.1.1.1.1.0 a.1.1.1.1.1.1.0 a.1.1.1.1.1.1.1.0 a.1.1.1.1.1.1.1.1.0 record { entry = a.0; exit = s.0 } record { entry = a.1.0; exit = s.1.0 } record { entry = a.1.1.0; exit = s.1.1.0 } record { entry = a.1.1.1.0; exit = s.1.1.1.0 } record { entry = a.1.1.1.1.0; exit = s.1.1.1.1.0 } record { entry = a.1.1.1.1.1.0; exit = s.1.1.1.1.1.0 } record { entry = a.1.1.1.1.1.1.0; exit = s.1.1.1.1.1.1.0 } record { entry = a.1.1.1.1.1.1.1.0; exit = s.1.1.1.1.1.1.1.0 } record { entry = a.1.1.1.1.1.1.1.1.0; exit = s.1.1.1.1.1.1.1.1.0 } r
+  ensures-1·read = λ a g r s. Read.all_models (λ w. receive.ensures-1 w.𝓛 κs w.𝓜.mem w.𝓡.run a.0 a.1.0 a.1.1.0 a.1.1.1.0 a.1.1.1.1.0 a.1.1.1.1.1.0 a.1.1.1.1.1.1.0 a.1.1.1.1.1.1.1.0 a.1.1.1.1.1.1.1.1.0 record { entry = a.0; exit = s.0 } record { entry = a.1.0; exit = s.1.0 } record { entry = a.1.1.0; exit = s.1.1.0 } record { entry = a.1.1.1.0; exit = s.1.1.1.0 } record { entry = a.1.1.1.1.0; exit = s.1.1.1.1.0 } record { entry = a.1.1.1.1.1.0; exit = s.1.1.1.1.1.0 } record { entry = a.1.1.1.1.1.1.0; exit = s.1.1.1.1.1.1.0 } record { entry = a.1.1.1.1.1.1.1.0; exit = s.1.1.1.1.1.1.1.0 } record { entry = a.1.1.1.1.1.1.1.1.0; exit = s.1.1.1.1.1.1.1.1.0 } r) (λ w. Read.r_last _) (λ w. Path'.refl) (λ w. Path'.refl) λ w. Path'.refl
 
   abbrev pub post_read : (a : World.ArgsD receive.signature κs) → (g : Ghost) → (r : World.ResD receive.signature κs) → (s : Clauses.AtExit (Kinds'.ended_of 4 Kinds.ps Kinds.r) κs) → Read.Read (Base a) (Owned r s) (ensures a g r s)
   post_read = λ a g r s. ensures-1·read a g r s

@@ -1,4 +1,0 @@
-pub mod Sums
-pub mod Headers
-pub mod Shapes
-pub mod Examples
