@@ -2,6 +2,8 @@
 //
 // Eight bytes are added at a step, as two little-endian numbers of 32 bits. Folded, such a number is the sum of its two halves, and
 // 256 times a little-endian sum is the big-endian one: so one fold at the end gives the sum of the 16-bit words, at either parity.
+#![tactic(auto)]
+
 ghost use Rattle.std.specs.Prelude.{◌≡◌, ◌+◌, ◌<◌, ◌≤◌, true, length, drop};
 ghost use Rattle.number_checksum.specs.Checksum.{word_sum, folded, sent};
 

@@ -1,4 +1,6 @@
 // The table of CRC32c, written by tools/crc/rows.py: where a byte, and where half a byte, has come to after some bits.
+#![tactic(auto)]
+
 ghost use Rattle.std.specs.Prelude.{◌≡◌, ◌<◌};
 ghost use Rattle.number_crc_steps.specs.Steps.{steps};
 ghost use Rattle.number_crc_rows.specs.Rows.{two};

@@ -1,5 +1,6 @@
 // Numbers in byte slices, in network byte order (big-endian) where the name says nothing else, and copying bytes from one slice into another.
 #![tactic(auto)]
+
 pub mod zeros;
 
 ghost use Rattle.std.specs.Prelude.{◌≡◌, reverse, ◌+◌, ◌≤◌, length};

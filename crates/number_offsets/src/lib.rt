@@ -1,4 +1,6 @@
 // Two kinds of position that must not mix: an offset in a packet, and a place in a reassembled original.
+#![tactic(auto)]
+
 ghost use Rattle.std.specs.Prelude.{◌≡◌, ◌<◌};
 ghost use Rattle.number_offsets.specs.Offsets.{place_of, offset_of};
 

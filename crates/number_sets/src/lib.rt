@@ -1,4 +1,6 @@
 // A set of numbers as bits: bit i % 64 of word i / 64 says whether i is in it. A range joins the set word by word, 64 numbers at a step.
+#![tactic(auto)]
+
 ghost use Rattle.std.specs.Prelude.{◌+◌, ◌*◌, ◌<◌, ◌≤◌, length};
 ghost use Rattle.number_sets.specs.Sets.{Room, Included};
 ghost use Rattle.number_sets.specs.Words.{Mask, Put};

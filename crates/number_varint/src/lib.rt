@@ -1,5 +1,7 @@
 // Seven-bit numbers, as option lists hold them: groups of seven bits, lowest group first, the top bit set on all but
 // the last byte, shortest form only. Document 01, "Dockets and the writer".
+#![tactic(auto)]
+
 ghost use Rattle.std.specs.Prelude.{◌≡◌, length};
 ghost use Rattle.number_varint.specs.SevenBit.{encoded};
 ghost use Rattle.number_varint.specs.Answer.{decoding_of, decoded_at, EncodedAt};
