@@ -12,14 +12,14 @@ low-is : (c : After-wrapping_sub_u64-low) → c.wrapping_sub_u64-low.result ≡ 
 low-is c =
     let l = c.loop-k in
     without-high l.added l.invariant.3.low l.high c.wrapping_sub_u64-low.result l.invariant.3.sum (omega (arith, l.invariant.3.bound))
-    (omega (arith, c.wrapping_sub_u64-low.type_inv)) c.wrapping_sub_u64-low.ensures
+    (omega (arith, c.wrapping_sub_u64-low.type_inv)) c.wrapping_sub_u64-low.ensures.value
 
 -- less the high halves, what was added is the low halves
 low-is-2 : (c : After-rest_sum) → c.wrapping_sub_u64-low.result ≡ c.loop-k.invariant.3.low
 low-is-2 c =
     let l = c.loop-k in
     without-high l.added l.invariant.3.low l.high c.wrapping_sub_u64-low.result l.invariant.3.sum (omega (arith, l.invariant.3.bound))
-    (omega (arith, c.wrapping_sub_u64-low.type_inv)) c.wrapping_sub_u64-low.ensures
+    (omega (arith, c.wrapping_sub_u64-low.type_inv)) c.wrapping_sub_u64-low.ensures.value
 
 pub loop-k-init : goal.loop-k-init
 loop-k-init c = (search rules, search rules, search rules, record { low = 0; bound = omega arith; sum = refl; folds = ap folded (omega arith) })
@@ -41,7 +41,7 @@ loop-k-preserved c = let bs : List ℕ = c.args.bytes.now in
     let halves : Halves bs (k + 1) c.wrapping_add_u64-added.result (c.loop-k.high + y) = record {
       low = h.low + x;
       bound = omega (arith, h.bound);
-      sum = c.wrapping_add_u64-added.ensures ∙ wraps c.loop-k.added h.low c.loop-k.high x y h.sum;
+      sum = c.wrapping_add_u64-added.ensures.value ∙ wraps c.loop-k.added h.low c.loop-k.high x y h.sum;
       folds = ap folded (omega arith) ∙ second ∙ ap folded (omega arith) ∙ first ∙ h.folds;
     } in
     (omega arith, search rules, omega arith, halves)
