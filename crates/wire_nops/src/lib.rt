@@ -1,4 +1,6 @@
 // NOPs in a row: how many stand at the front of a list, and when they are padding (RFC 9868 section 11.2).
+#![tactic(auto)]
+
 ghost use Rattle.std.specs.Prelude.{◌≡◌, ◌+◌, ◌≤◌, length, drop};
 ghost use Rattle.wire_nops.specs.Nops.{nops_of, is_padding};
 
