@@ -10,14 +10,13 @@ use denote.Struct.Declared.{row}
 use Rattle.client_record.specs.declared.Assembly.{Assembly}
 use Rattle.client_record.specs.declared.Client.{Client}
 use Rattle.client_record.specs.Limits.{fragment_limit, assembly_limit}
-use Rattle.client_record.proofs.Lists.{unmapped}
 use Rattle.client_record.specs.contracts.Assembly as Assembly-as-T
 use Rattle.client_record.specs.contracts.Client as Client-as-T
 
 pub places : (c : Client) (vs : List Val) → Is (row Client-as-T.the_type) c vs → length c.assemblies ≡ assembly_limit
 unfolding assembly_limit
-places c vs good = unmapped _ c.assemblies assembly_limit good.1.1.1.1.1.1.1.1.1.1.1.0.1.0.1
+places c vs good = good.1.1.1.1.1.1.1.1.1.1.1.0.1.0.1
 
 pub slots : (a : Assembly) (vs : List Val) → Is (row Assembly-as-T.the_type) a vs → length a.fragments ≡ fragment_limit
 unfolding fragment_limit
-slots a vs good = unmapped _ a.fragments fragment_limit good.1.1.1.1.1.1.0.1.0.1
+slots a vs good = good.1.1.1.1.1.1.0.1.0.1

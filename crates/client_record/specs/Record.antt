@@ -1,5 +1,5 @@
 -- A fresh record, and document 01's record test (refusal 22): one named test for each clause of its sentence, in the sentence's order.
-use Rattle.std.specs.Prelude.{ℕ, zero, suc, ◌+◌, Bool, true, false, not, ◌&&◌, ◌||◌, cond, List, [], ◌∷◌, length, take, drop, replicate, eqb, leb, ltb}
+use Rattle.std.specs.Prelude.{ℕ, zero, suc, ◌+◌, Bool, true, false, not, ◌&&◌, ◌||◌, cond, List, [], ◌∷◌, take, drop, replicate, eqb, leb, ltb}
 use Rattle.client_record.specs.declared.Fragment.{Fragment}
 use Rattle.client_record.specs.declared.Flow.{Flow}
 use Rattle.client_record.specs.declared.Assembly.{Assembly}

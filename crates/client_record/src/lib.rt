@@ -1,5 +1,7 @@
 // The record of one client: its figures and its assemblies, each with the fragments that it holds; a fresh record, and keys. What the
 // fragments of an assembly are to each other stands in `client_fragments`, the record test in `client_record_test`.
+#![tactic(auto)]
+
 ghost use Rattle.std.specs.Prelude.{◌≡◌, ◌&&◌, ◌||◌};
 ghost use Rattle.client_record.specs.Lists.{same_mark, same_bytes};
 ghost use Rattle.client_record.specs.Record.{fresh_fragment, fresh_flow, fresh_assembly, fresh_client};
@@ -37,7 +39,7 @@ pub const OFFERED_LIMIT: u64 = 1000000000000000;
 
 // Whose datagrams: RFC 9868 section 11.4 keys fragments by addresses, ports and identification.
 #[repr(C)]
-#[derive(Drop)]
+#[derive(Clone, Copy)]
 pub struct Flow {
     pub source: [u8; ADDRESS],
     pub destination: [u8; ADDRESS],
@@ -48,7 +50,7 @@ pub struct Flow {
 // A held fragment (document 01's piece): where it stands in the original, whether it is the last one, and then the option start.
 // `last` is 0, or any other number for the last one, so that every bit pattern is a fragment.
 #[repr(C)]
-#[derive(Drop)]
+#[derive(Clone, Copy)]
 pub struct Fragment {
     pub offset: u16,
     pub length: u16,
@@ -58,7 +60,7 @@ pub struct Fragment {
 
 // The fragments of one key. It is live while it holds any: with `count` 0 every other field is as in a fresh record.
 #[repr(C)]
-#[derive(Drop)]
+#[derive(Clone, Copy)]
 pub struct Assembly {
     pub flow: Flow,
     pub identification: u32,

