@@ -1,5 +1,5 @@
 -- One step of the option walk: what stands at the front of the list that remains (document 01, "Walking the list").
-use Rattle.std.specs.Prelude.{Bool, true, false, cond, ◌||◌, List, [], ◌∷◌, ℕ, eqb, leb, ltb, length, get_or}
+use Rattle.std.specs.Prelude.{cond, ◌||◌, List, [], ◌∷◌, ℕ, eqb, leb, length, get_or}
 use Rattle.number_octets.specs.Octets.{number, part}
 use Rattle.wire_step.specs.Kinds.{class_of}
 use Rattle.wire_step.specs.declared.Class.{Class}

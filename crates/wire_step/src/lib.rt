@@ -1,4 +1,6 @@
 // One step of the walk: what stands at the front of the list that remains.
+#![tactic(auto)]
+
 ghost use Rattle.std.specs.Prelude.{◌≡◌, ◌≤◌, length};
 ghost use Rattle.wire_step.specs.Kinds.{class_of};
 ghost use Rattle.wire_step.specs.Step.{header_of, extended, step_of};

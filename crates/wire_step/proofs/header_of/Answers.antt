@@ -1,0 +1,50 @@
+-- `wire_step::header_of` meets its contract: the code's tests are the definition's, and what is too short for its length byte is too short for the extended form.
+use mathlib.Core.Path.{◌≡◌, refl, sym, ◌∙◌}
+use mathlib.Core.Bool.{Bool, true, false, cond}
+use mathlib.Core.List.{List}
+use Prim.Native.Nat.{ℕ, ◌≤◌, ◌<◌}
+use native.Mathlib.Omega.{arith}
+use borrow.Author.Tests.{le-leb, lt-leb, eq-eqb, ne_eqb, eqb-true}
+use lib.Dec.{eqb, leb}
+use lib.ListN.{length, get_or}
+use Rattle.wire_step.specs.Step.{within, extended, header_of}
+use Rattle.wire_step.specs.declared.Header.{Header}
+use Rattle.wire_step.specs.declared.Header.TheVariants.{Broken}
+use Rattle.wire_step.proofs.Steps.{extended-short}
+use Rattle.wire_step.proofs.header_of.Goals as goal
+
+-- a list shorter than its length byte says
+short-list : (l : List ℕ) → 2 ≤ length l → 2 ≤ get_or l 1 0 → length l < get_or l 1 0 → header_of l ≡ Broken
+unfolding header_of
+short-list l two least short = go (eqb (get_or l 1 0) 255) refl
+  where
+    rest : Header
+    rest = cond (leb 2 (get_or l 1 0)) (within (length l) 2 (get_or l 1 0)) Broken
+
+    go : (t : Bool) → eqb (get_or l 1 0) 255 ≡ t → cond (leb 2 (length l)) (cond t (extended l) rest) Broken ≡ Broken
+    go true e = simp (le-leb 2 (length l) two, extended-short l (omega (arith, eqb-true (get_or l 1 0) 255 e)))
+    go false e = simp (le-leb 2 (length l) two, le-leb 2 (get_or l 1 0) least, lt-leb (get_or l 1 0) (length l) short)
+
+pub returns-then-rest-lt2 : goal.returns-then-rest-lt2
+unfolding header_of
+returns-then-rest-lt2 c = simp (lt-leb _ _ c.if-rest-lt2.true)
+
+pub overflow_cast-short : goal.overflow_cast-short
+overflow_cast-short c = omega (arith, c.type_inv.rest 1)
+
+pub returns-then-short-lt2 : goal.returns-then-short-lt2
+unfolding header_of
+returns-then-short-lt2 c = let byte : ℕ = get_or c.args.rest.now 1 0 in
+    simp (le-leb _ _ c.if-rest-lt2.false, ne_eqb byte 255 (λ e. omega (arith, c.if-short-lt2.true)), lt-leb _ _ c.if-short-lt2.true)
+
+pub returns-then-rest-short : goal.returns-then-rest-short
+returns-then-rest-short c = let l = c.args.rest.now in
+    sym (short-list l c.if-rest-lt2.false c.if-short-lt2.false c.if-rest-short.true)
+
+pub returns-then-short-eq255 : goal.returns-then-short-eq255
+unfolding header_of
+returns-then-short-eq255 c = c.extended.ensures ∙ sym (simp (le-leb _ _ c.if-rest-lt2.false, eq-eqb _ _ c.if-short-eq255.true))
+
+pub returns : goal.returns
+unfolding header_of
+returns c = sym (simp (le-leb _ _ c.if-rest-lt2.false, ne_eqb _ _ c.if-short-eq255.false, le-leb _ _ c.if-short-lt2.false, le-leb _ _ c.if-rest-short.false))
