@@ -1,4 +1,6 @@
 // CRC32c (Castagnoli), by table: sixteen bytes a step, the words that are left in one step, then the last few bytes one by one.
+#![tactic(auto)]
+
 ghost use Rattle.std.specs.Prelude.{◌≡◌, ◌+◌, ◌*◌, ◌/◌, ◌%◌, ◌≤◌, length, take};
 ghost use Rattle.std.specs.Int.Bits.{bit_xor};
 ghost use Rattle.number_crc_steps.specs.Steps.{steps};
