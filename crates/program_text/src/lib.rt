@@ -1,4 +1,6 @@
 // Text put into a buffer: as much of it as fits.
+#![tactic(auto)]
+
 ghost use Rattle.std.specs.Prelude.{◌≡◌, ◌++◌, ◌∷◌, [], ◌≤◌, ◌<◌, length};
 ghost use Rattle.program_text.specs.Digits.{decimal_of, hex_of, hex_digit};
 ghost use Rattle.program_text.specs.Put.{Put};
