@@ -5,7 +5,7 @@ ghost use Rattle.std.specs.Prelude.{◌≡◌, ◌+◌, ◌≤◌, length, drop}
 ghost use Rattle.wire_nops.specs.Nops.{nops_of, is_padding};
 
 // How lists are read: plainly, or so that padding with NOPs is a fault (document 02, R-6).
-#[derive(Drop)]
+#[derive(Clone, Copy)]
 pub enum Strictness {
     Plain,
     Strict,
