@@ -1,4 +1,6 @@
 // The fragments that an assembly holds: where each ends, what two of them are to each other, and when an assembly is whole.
+#![tactic(auto)]
+
 ghost use Rattle.std.specs.Prelude.{◌≡◌, true};
 ghost use Rattle.client_record.specs.Lists.{any};
 ghost use Rattle.client_record.specs.Post.{HeldCount};
@@ -63,6 +65,7 @@ pub fn held_count(a: Assembly) -> usize
 }
 
 // One of the held fragments conflicts with `f`.
+#[tactic(auto, unfolding(client_record::specs::Limits::fragment_limit))]
 pub fn conflicts_any(a: Assembly, f: Fragment) -> bool
     ensures { result ≡ any (λ g. conflicts g f) (held_fragments a) }
 {
@@ -78,6 +81,7 @@ pub fn conflicts_any(a: Assembly, f: Fragment) -> bool
 }
 
 // The fragment that is marked last; a fresh one if there is none.
+#[tactic(auto, unfolding(client_record::specs::Limits::fragment_limit))]
 pub fn last_of(a: Assembly) -> Fragment
     ensures { result ≡ last_of (held_fragments a) }
 {
@@ -101,6 +105,7 @@ fn length_of(f: Fragment) -> u16
 
 // The completion test: the last fragment is held, and all before its end. Fragments of which none contradicts another cover it exactly if
 // their lengths sum to it, so one pass decides.
+#[tactic(auto, unfolding(client_record::specs::Limits::fragment_limit))]
 pub fn whole(a: Assembly) -> bool
     requires { compatible (held_fragments a) ≡ true }
     ensures { result ≡ whole (held_fragments a) }
@@ -124,6 +129,7 @@ pub fn whole(a: Assembly) -> bool
 }
 
 // The bytes of the held fragments.
+#[tactic(auto, unfolding(client_record::specs::Limits::fragment_limit))]
 pub fn bytes_held(a: Assembly) -> u32
     ensures { result ≡ bytes_held a }
 {
