@@ -1,8 +1,8 @@
 -- `number_checksum::add` meets its contract. The loop's invariant: the folded sum with what is left is that of the whole; a block has an even
 -- length, so parity stays (`folded-part`).
-use Rattle.std.proofs.Common.{◌≡◌, ℕ, ◌+◌, ◌-◌, ◌≤◌, List, length, drop, refl, ap, ◌∙◌, ap₂, arith, length-drop, length-take, rules}
+use Rattle.std.proofs.Common.{ℕ, ◌+◌, List, drop, refl, ap, ◌∙◌, ap₂, arith, length-drop, length-take, rules}
 use Rattle.number_octets.proofs.Laws.{part-rest}
-use Rattle.number_checksum.specs.Checksum.{all_ones, folded, word_sum}
+use Rattle.number_checksum.specs.Checksum.{folded, word_sum}
 use Rattle.number_checksum.proofs.Laws.{folded-part}
 use Rattle.number_checksum.proofs.add.Goals as goal
 

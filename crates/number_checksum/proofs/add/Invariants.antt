@@ -1,7 +1,5 @@
-use Rattle.std.proofs.Common.{◌≡◌, ℕ, ◌+◌, ◌-◌, ◌≤◌, List, length, drop, refl, ap, ◌∙◌, ap₂, arith, length-drop, length-take, rules}
-use Rattle.number_octets.proofs.Laws.{part-rest}
+use Rattle.std.proofs.Common.{◌≡◌, ◌+◌, ◌-◌, ◌≤◌, length, drop}
 use Rattle.number_checksum.specs.Checksum.{all_ones, folded, word_sum}
-use Rattle.number_checksum.proofs.Laws.{folded-part}
 use Rattle.number_checksum.proofs.add.Given as goal
 
 abbrev pub invariant-loop-at : goal.invariant-loop-at

@@ -1,6 +1,6 @@
 -- `number_checksum::add_block` meets its contract: at an odd offset the block's little-endian sum is the one asked for, and at an even one
 -- 256 times that sum (`folded-swapped`).
-use Rattle.std.proofs.Common.{ℕ, ◌+◌, ◌*◌, Bool, true, List, sym, ap, ◌∙◌, arith, rules}
+use Rattle.std.proofs.Common.{ℕ, ◌+◌, ◌*◌, Bool, true, List, sym, ap, ◌∙◌, arith}
 use Rattle.number_checksum.specs.Checksum.{word_sum, folded}
 use Rattle.number_checksum.proofs.Folding.{folded-plus, folded-times, folded-swapped}
 use Rattle.number_checksum.proofs.add_block.Goals as goal

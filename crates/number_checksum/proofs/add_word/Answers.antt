@@ -1,5 +1,5 @@
 -- `number_checksum::add_word` meets its contract: it folds the sum of the two.
-use Rattle.std.proofs.Common.{ℕ, ◌+◌, ◌∙◌, ap₂, rules}
+use Rattle.std.proofs.Common.{ℕ, ◌+◌, ◌∙◌, ap₂}
 use Rattle.number_checksum.specs.Checksum.{folded}
 use Rattle.number_checksum.proofs.add_word.Goals as goal
 

@@ -1,6 +1,6 @@
 -- `number_checksum::block_sum` meets its contract. The loop's invariant: what was added is the low halves and the high halves, which with the sum
 -- of the bytes that are left fold to the sum of the whole (`Halves`). A word of four bytes may stand for them in any such sum (`folded-plus`).
-use Rattle.std.proofs.Common.{◌≡◌, ℕ, ◌+◌, ◌-◌, ◌*◌, ◌/◌, ◌≤◌, true, List, length, drop, refl, ap, ◌∙◌, arith, rules}
+use Rattle.std.proofs.Common.{◌≡◌, ℕ, ◌+◌, ◌*◌, ◌/◌, true, List, length, drop, refl, ap, ◌∙◌, arith, rules}
 use Rattle.number_checksum.specs.Checksum.{word_sum, folded}
 use Rattle.number_checksum.proofs.Folding.{folded-plus}
 use Rattle.number_checksum.proofs.Halves.{Halves, wraps, without-high}

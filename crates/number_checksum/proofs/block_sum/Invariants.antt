@@ -1,7 +1,5 @@
-use Rattle.std.proofs.Common.{◌≡◌, ℕ, ◌+◌, ◌-◌, ◌*◌, ◌/◌, ◌≤◌, true, List, length, drop, refl, ap, ◌∙◌, arith, rules}
-use Rattle.number_checksum.specs.Checksum.{word_sum, folded}
-use Rattle.number_checksum.proofs.Folding.{folded-plus}
-use Rattle.number_checksum.proofs.Halves.{Halves, wraps, without-high}
+use Rattle.std.proofs.Common.{◌≡◌, ◌-◌, ◌*◌, ◌/◌, ◌≤◌, length}
+use Rattle.number_checksum.proofs.Halves.{Halves}
 use Rattle.number_checksum.proofs.block_sum.Given as goal
 
 abbrev pub invariant-loop-k : goal.invariant-loop-k

@@ -1,5 +1,5 @@
 -- `number_checksum::field` meets its contract: the code's test is the definition's.
-use Rattle.std.proofs.Common.{rules, eq-eqb, ne_eqb}
+use Rattle.std.proofs.Common.{eq-eqb, ne_eqb}
 use Rattle.number_checksum.specs.Checksum.{sent}
 use Rattle.number_checksum.proofs.field.Goals as goal
 

@@ -1,5 +1,5 @@
 -- `number_checksum::fold` meets its contract: the code takes the remainder as `folded` does.
-use Rattle.std.proofs.Common.{sym, ap, arith, rules}
+use Rattle.std.proofs.Common.{sym, ap, arith}
 use Rattle.number_checksum.specs.Checksum.{folded}
 use Rattle.number_checksum.proofs.Laws.{folded-pos}
 use Rattle.number_checksum.proofs.fold.Goals as goal

@@ -1,5 +1,5 @@
 -- `number_checksum::pair` meets its contract: two bytes at the front of what is left (`word_sum-two`).
-use Rattle.std.proofs.Common.{arith, rules}
+use Rattle.std.proofs.Common.{arith}
 use Rattle.number_checksum.proofs.Laws.{word_sum-two}
 use Rattle.number_checksum.proofs.pair.Goals as goal
 

@@ -1,5 +1,5 @@
 -- `number_checksum::rest_sum` meets its contract: four bytes where there are so many, and then the last three, two, one or none.
-use Rattle.std.proofs.Common.{ℕ, ◌+◌, ap, ◌∙◌, arith, rules}
+use Rattle.std.proofs.Common.{ℕ, ◌+◌, ap, ◌∙◌, arith}
 use Rattle.number_checksum.specs.Checksum.{folded}
 use Rattle.number_checksum.proofs.rest_sum.Goals as goal
 

@@ -1,5 +1,5 @@
 -- `number_checksum::word` meets its contract: in a folded sum four bytes count as the two words that they make (`folded-word`).
-use Rattle.std.proofs.Common.{ap, ◌∙◌, arith, rules}
+use Rattle.std.proofs.Common.{ap, ◌∙◌, arith}
 use Rattle.number_checksum.specs.Checksum.{folded}
 use Rattle.number_checksum.proofs.Folding.{folded-word}
 use Rattle.number_checksum.proofs.word.Goals as goal

@@ -3,7 +3,6 @@ use Rattle.number_crc_steps.specs.Steps.{steps, bit_step, polynomial}
 use mathlib.Core.Path.{refl}
 use mathlib.Core.List.{[], ◌∷◌}
 use Rattle.number_crc_rows.proofs.Rows.{Stepped, chained, both, fields, at, last}
-use borrow.Author.Rules.{rules}
 use Rattle.number_crc_rows.proofs.entries.Goals as goal
 
 row-0 : Stepped 0 (0x0000_0000 ∷ 0x0000_0000 ∷ 0x0000_0000 ∷ 0x0000_0000 ∷ 0x0000_0000 ∷ 0x0000_0000 ∷ 0x0000_0000 ∷ 0x0000_0000 ∷ 0x0000_0000 ∷ 0x0000_0000 ∷ 0x0000_0000 ∷ 0x0000_0000 ∷ 0x0000_0000 ∷ 0x0000_0000 ∷ 0x0000_0000 ∷ 0x0000_0000 ∷ [])

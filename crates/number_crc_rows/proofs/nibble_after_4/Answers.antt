@@ -2,7 +2,6 @@
 use Rattle.number_crc_steps.specs.Steps.{steps, bit_step, polynomial}
 use mathlib.Core.Path.{refl, sym, ap}
 use Rattle.number_crc_rows.proofs.Rows.{at, last}
-use borrow.Author.Rules.{rules}
 use Rattle.number_crc_rows.proofs.nibble_after_4.Goals as goal
 
 pub returns-in-16 : goal.returns-in-16

@@ -2,7 +2,6 @@
 use mathlib.Core.Path.{sym, ap₂, ◌∙◌}
 use Prim.Native.Nat.{ℕ, ◌+◌, ◌*◌}
 use Rattle.number_octets.proofs.Laws.{number-four}
-use borrow.Author.Rules.{rules}
 use Rattle.number_octets.proofs.get_u32.Goals as goal
 
 pub returns : goal.returns

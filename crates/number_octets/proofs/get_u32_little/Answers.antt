@@ -4,7 +4,6 @@ use Prim.Native.Nat.{◌+◌, ◌<◌}
 use native.Mathlib.Omega.{arith}
 use lib.ListN.{get_or}
 use Rattle.number_octets.proofs.Laws.{little-four}
-use borrow.Author.Rules.{rules}
 use Rattle.number_octets.proofs.get_u32_little.Goals as goal
 use Rattle.number_octets.proofs.get_u32_little.Goals.{After-shared_slice_known-4-1}
 

@@ -2,7 +2,6 @@
 use native.Mathlib.Omega.{arith}
 use lib.ListN.{length-set}
 use Rattle.number_octets.proofs.Laws.{overlay-two}
-use borrow.Author.Rules.{rules}
 use Rattle.number_octets.proofs.put_u16.Goals as goal
 
 pub bounds-bytes-at-2 : goal.bounds-bytes-at-2

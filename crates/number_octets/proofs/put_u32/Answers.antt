@@ -4,7 +4,6 @@ use mathlib.Core.List.{List}
 use Prim.Native.Nat.{ℕ, ◌+◌, ◌%◌}
 use Rattle.number_octets.specs.Octets.{octets, overlay}
 use Rattle.number_octets.proofs.Laws.{overlay-four}
-use borrow.Author.Rules.{rules}
 use Rattle.number_octets.proofs.put_u32.Goals as goal
 
 pub returns : goal.returns

@@ -1,6 +1,5 @@
 -- `number_offsets::offset_of` meets its contract: the sum is the definition's.
 use mathlib.Core.Path.{refl}
-use borrow.Author.Rules.{rules}
 use Rattle.number_offsets.specs.Offsets.{offset_of, udp_header}
 use Rattle.number_offsets.proofs.offset_of.Goals as goal
 

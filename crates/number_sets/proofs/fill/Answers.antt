@@ -1,12 +1,9 @@
 -- `number_sets::fill` meets its contract. The loop's invariant: the numbers of the words so far are in, and `seen` is 0 exactly where none of them was.
 use mathlib.Core.Path.{◌≡◌}
-use Prim.Native.Nat.{◌-◌, ◌*◌, ◌≤◌}
+use Prim.Native.Nat.{◌*◌}
 use native.Mathlib.Omega.{arith}
-use borrow.Author.Rules.{rules}
-use lib.Dec.{eqb}
 use lib.ListN.{get_or}
 use Rattle.number_octets.proofs.ZeroBytes.{or-zero}
-use Rattle.number_sets.specs.Sets.{Included}
 use Rattle.number_sets.proofs.Sets.{included-none, full-included, then}
 use Rattle.number_sets.proofs.fill.Goals as goal
 

@@ -1,12 +1,6 @@
-use mathlib.Core.Path.{◌≡◌}
 use Prim.Native.Nat.{◌-◌, ◌*◌, ◌≤◌}
-use native.Mathlib.Omega.{arith}
-use borrow.Author.Rules.{rules}
 use lib.Dec.{eqb}
-use lib.ListN.{get_or}
-use Rattle.number_octets.proofs.ZeroBytes.{or-zero}
 use Rattle.number_sets.specs.Sets.{Included}
-use Rattle.number_sets.proofs.Sets.{included-none, full-included, then}
 use Rattle.number_sets.proofs.fill.Given as goal
 
 abbrev pub invariant-loop-w : goal.invariant-loop-w

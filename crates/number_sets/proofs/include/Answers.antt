@@ -2,7 +2,6 @@
 use mathlib.Core.Bool.{◌&&◌}
 use Prim.Native.Nat.{◌+◌, ◌-◌, ◌*◌, ◌/◌}
 use native.Mathlib.Omega.{arith}
-use borrow.Author.Rules.{rules}
 use lib.Bits.{and_le_l}
 use Rattle.number_sets.specs.Sets.{Included}
 use Rattle.number_sets.proofs.Sets.{both-masks, word-included, then}

@@ -1,22 +1,8 @@
 -- `number_varint::decode` meets its contract: in the loop the number is the groups so far and then what the bytes from `i` give, and each way out
 -- is a case of that. Assumes nothing.
-use Prim.Native.Nat.{◌-◌}
 use native.Mathlib.Omega.{arith}
-use borrow.Author.Rules.{rules}
-use lib.ListN.{length}
 use Rattle.number_varint.proofs.Room.{weight-small}
-use Rattle.number_varint.proofs.Partly.{
-  Partly,
-  none-there,
-  one-there,
-  partly-first,
-  partly_more,
-  partly-cut,
-  partly-idle,
-  partly-wide,
-  partly-last,
-  partly-fits,
-}
+use Rattle.number_varint.proofs.Partly.{none-there, one-there, partly-first, partly_more, partly-cut, partly-idle, partly-wide, partly-last, partly-fits}
 use Rattle.number_varint.proofs.decode.Goals as goal
 
 pub returns-then-bytes-at : goal.returns-then-bytes-at

@@ -6,7 +6,6 @@ use native.Mathlib.Numerals.{add-one}
 use native.Mathlib.Omega.{arith}
 use lib.ListN.{length, length-set}
 use lib.Seq.{sets, sets-eq}
-use borrow.Author.Rules.{rules}
 use borrow.Author.Tests.{le-leb, lt-leb}
 use Rattle.number_varint.specs.SevenBit.{encoded}
 use Rattle.number_varint.specs.Answer.{given, end_of, fits, placed, EncodedAt}

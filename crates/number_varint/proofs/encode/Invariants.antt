@@ -1,16 +1,10 @@
-use mathlib.Core.Path.{◌≡◌, refl, ap, sym, ◌∙◌}
-use mathlib.Core.List.{List, [], ◌∷◌}
-use Prim.Native.Nat.{ℕ, ◌+◌, ◌/◌, ◌%◌, ◌≤◌, ◌<◌}
-use native.Mathlib.Numerals.{add-one}
-use native.Mathlib.Omega.{arith}
-use lib.ListN.{length, length-set}
-use lib.Seq.{sets, sets-eq}
-use borrow.Author.Rules.{rules}
-use borrow.Author.Tests.{le-leb, lt-leb}
+use mathlib.Core.Path.{◌≡◌}
+use mathlib.Core.List.{List}
+use Prim.Native.Nat.{ℕ, ◌+◌}
+use lib.ListN.{length}
+use lib.Seq.{sets}
 use Rattle.number_varint.specs.SevenBit.{encoded}
-use Rattle.number_varint.specs.Answer.{given, end_of, fits, placed, EncodedAt}
-use Rattle.number_varint.specs.declared.Encoded.TheVariants.{Next, Full}
-use Rattle.number_varint.proofs.Groups.{Encodes, encodes, encodes-last, encodes_more}
+use Rattle.number_varint.proofs.Groups.{Encodes}
 use Rattle.number_varint.proofs.encode.Given as goal
 
 -- What is left to write: it ends where the whole encoding does, and storing it leaves what storing the whole would.

@@ -1,11 +1,9 @@
 -- `number_varint::encoded_length` meets its contract: each turn takes one group off, so what was counted and what is left make up the encoding.
-use mathlib.Core.Path.{◌≡◌, ap}
-use mathlib.Core.List.{List}
-use Prim.Native.Nat.{ℕ, suc, ◌+◌}
+use mathlib.Core.Path.{ap}
 use native.Mathlib.Omega.{arith}
 use lib.ListN.{length}
 use Rattle.number_varint.specs.SevenBit.{encoded}
-use Rattle.number_varint.proofs.Groups.{Encodes, encodes, encodes-last, encodes_more}
+use Rattle.number_varint.proofs.Groups.{encodes, encodes-last, encodes_more}
 use Rattle.number_varint.proofs.Laws.{encoded-short}
 use Rattle.number_varint.proofs.encoded_length.Goals as goal
 

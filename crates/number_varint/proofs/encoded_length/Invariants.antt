@@ -1,11 +1,9 @@
-use mathlib.Core.Path.{◌≡◌, ap}
+use mathlib.Core.Path.{◌≡◌}
 use mathlib.Core.List.{List}
 use Prim.Native.Nat.{ℕ, suc, ◌+◌}
-use native.Mathlib.Omega.{arith}
 use lib.ListN.{length}
 use Rattle.number_varint.specs.SevenBit.{encoded}
-use Rattle.number_varint.proofs.Groups.{Encodes, encodes, encodes-last, encodes_more}
-use Rattle.number_varint.proofs.Laws.{encoded-short}
+use Rattle.number_varint.proofs.Groups.{Encodes}
 use Rattle.number_varint.proofs.encoded_length.Given as goal
 
 -- `l` is the encoding of what is left

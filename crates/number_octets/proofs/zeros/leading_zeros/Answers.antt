@@ -1,10 +1,5 @@
 -- `number_octets::zeros::leading_zeros` meets its contract. The loop's invariant: the zeros at the front are those passed and those of the rest.
-use mathlib.Core.Path.{◌≡◌}
-use Prim.Native.Nat.{◌+◌, ◌-◌, ◌≤◌}
 use native.Mathlib.Omega.{arith}
-use borrow.Author.Rules.{rules}
-use lib.ListN.{length, drop}
-use Rattle.number_octets.specs.Zeros.{zeros_of}
 use Rattle.number_octets.proofs.ZeroBytes.{zeros-one, zeros-other, zeros-none}
 use Rattle.number_octets.proofs.zeros.leading_zeros.Goals as goal
 

@@ -1,10 +1,7 @@
 use mathlib.Core.Path.{◌≡◌}
 use Prim.Native.Nat.{◌+◌, ◌-◌, ◌≤◌}
-use native.Mathlib.Omega.{arith}
-use borrow.Author.Rules.{rules}
 use lib.ListN.{length, drop}
 use Rattle.number_octets.specs.Zeros.{zeros_of}
-use Rattle.number_octets.proofs.ZeroBytes.{zeros-one, zeros-other, zeros-none}
 use Rattle.number_octets.proofs.zeros.leading_zeros.Given as goal
 
 abbrev pub invariant-loop-n : goal.invariant-loop-n

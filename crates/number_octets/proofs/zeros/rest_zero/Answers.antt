@@ -1,12 +1,12 @@
 -- `number_octets::zeros::rest_zero` meets its contract. The loop's invariant: the bytes from `at` on are zero exactly where those from `i` on are.
 use mathlib.Core.Path.{◌≡◌, refl, sym, ap, ◌∙◌}
 use mathlib.Core.Bool.{◌&&◌}
-use Prim.Native.Nat.{◌+◌, ◌-◌, ◌≤◌}
+use Prim.Native.Nat.{◌+◌}
 use native.Mathlib.Omega.{arith}
 use borrow.Author.Rules.{rules}
 use borrow.Author.Tests.{eq-eqb, ne_eqb}
 use lib.Dec.{eqb}
-use lib.ListN.{length, drop, get_or, drop_of_length-le}
+use lib.ListN.{drop, get_or, drop_of_length-le}
 use Rattle.number_octets.specs.Zeros.{all_zero}
 use Rattle.number_octets.proofs.ZeroBytes.{zero-at}
 use Rattle.number_octets.proofs.zeros.rest_zero.Goals as goal

@@ -1,12 +1,8 @@
-use mathlib.Core.Path.{◌≡◌, refl, sym, ap, ap₂, ◌∙◌}
-use mathlib.Core.Bool.{◌&&◌}
-use Prim.Native.Nat.{ℕ, ◌+◌, ◌-◌, ◌*◌, ◌≤◌}
-use native.Mathlib.Omega.{arith}
-use borrow.Author.Rules.{rules}
+use mathlib.Core.Path.{◌≡◌}
+use Prim.Native.Nat.{◌-◌, ◌*◌, ◌≤◌}
 use lib.Dec.{eqb}
 use lib.ListN.{take}
 use Rattle.number_octets.specs.Zeros.{all_zero}
-use Rattle.number_octets.proofs.ZeroBytes.{zero_more, or-zero, word-zero}
 use Rattle.number_octets.proofs.zeros.set_in_words.Given as goal
 
 abbrev pub invariant-loop-k : goal.invariant-loop-k

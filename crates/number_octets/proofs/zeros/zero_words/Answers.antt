@@ -1,9 +1,6 @@
 -- `number_octets::zeros::zero_words` meets its contract. The loop's invariant: the zeros at the front are those passed and those of the rest.
-use mathlib.Core.Path.{◌≡◌, sym, ◌∙◌}
-use Prim.Native.Nat.{◌+◌, ◌-◌, ◌≤◌}
+use mathlib.Core.Path.{sym, ◌∙◌}
 use native.Mathlib.Omega.{arith}
-use lib.ListN.{length, drop}
-use Rattle.number_octets.specs.Zeros.{zeros_of}
 use Rattle.number_octets.proofs.ZeroBytes.{zeros-four}
 use Rattle.number_octets.proofs.zeros.zero_words.Goals as goal
 

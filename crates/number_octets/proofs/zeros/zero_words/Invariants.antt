@@ -1,9 +1,7 @@
-use mathlib.Core.Path.{◌≡◌, sym, ◌∙◌}
+use mathlib.Core.Path.{◌≡◌}
 use Prim.Native.Nat.{◌+◌, ◌-◌, ◌≤◌}
-use native.Mathlib.Omega.{arith}
 use lib.ListN.{length, drop}
 use Rattle.number_octets.specs.Zeros.{zeros_of}
-use Rattle.number_octets.proofs.ZeroBytes.{zeros-four}
 use Rattle.number_octets.proofs.zeros.zero_words.Given as goal
 
 abbrev pub invariant-loop-n : goal.invariant-loop-n
