@@ -1,4 +1,4 @@
--- The definition gives the published CRCs: antt computes each. The first five are those of i_scsi (RFC 3720, appendix B.4), whose bytes are the number's in
+-- The definition gives the published CRCs: antt computes each. The first five are those of iSCSI (RFC 3720, appendix B.4), whose bytes are the number's in
 -- network byte order. Assumes nothing.
 use mathlib.Core.Path.{◌≡◌, refl}
 use mathlib.Core.List.{List, [], ◌∷◌, reverse}
@@ -13,7 +13,7 @@ abbrev upwards : ℕ → ℕ → List ℕ
 upwards zero start = []
 upwards (suc count) start = start ∷ upwards count (start + 1)
 
--- a SCSI Read (10) command of i_scsi
+-- a SCSI Read (10) command of iSCSI
 abbrev read_command : List ℕ
 read_command =
     0x01 ∷ 0xC0 ∷ 0x00 ∷ 0x00 ∷ 0x00 ∷ 0x00 ∷ 0x00 ∷ 0x00 ∷ 0x00 ∷ 0x00 ∷ 0x00 ∷ 0x00 ∷ 0x00 ∷ 0x00 ∷ 0x00 ∷ 0x00 ∷

@@ -25,6 +25,6 @@ reflected bs = bit_xor (register ones bs) ones
 unfoldable pub swapped : ℕ → ℕ
 swapped n = number (reverse (octets 4 n))
 
--- the CRC32c of some bytes. Its big-endian bytes are those that i_scsi (RFC 3720, appendix B.4) prints.
+-- the CRC32c of some bytes. Its big-endian bytes are those that iSCSI (RFC 3720, appendix B.4) prints.
 unfoldable pub crc_of : List ℕ → ℕ
 crc_of bs = swapped (reflected bs)

@@ -2,12 +2,12 @@
 use crate::table;
 
 pub fn run() {
-    // The published vectors of CRC32c: i_scsi's, the check value, the CRC of nothing.
+    // The published vectors of CRC32c: iSCSI's, the check value, the CRC of nothing.
     //   crc32c-zeros: 32 bytes of 00
     //   crc32c-ones: 32 bytes of ff
     //   crc32c-rising: 00 to 1f
     //   crc32c-falling: 1f to 00
-    //   crc32c-command: i_scsi's SCSI Read (10) Command PDU
+    //   crc32c-command: iSCSI's SCSI Read (10) Command PDU
     //   crc32c-check: 123456789
     //   crc32c-nothing: no bytes
     table::run(
