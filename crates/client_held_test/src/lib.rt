@@ -2,6 +2,8 @@
 // none past its end, and not yet whole. One pass decides where each starts at or behind the end of the one in front of it, as they do that came
 // in order, and none is marked last; a second one looks at the marks. Where they do not rise, the places that they take are marked, 64 to a word. No
 // pass compares every pair.
+#![tactic(auto)]
+
 ghost use Rattle.std.specs.Prelude.{◌≡◌, not, ◌&&◌, cond, leb};
 ghost use Rattle.client_record.specs.Lists.{all, pairs};
 ghost use Rattle.client_record.specs.Post.{HeldCount};

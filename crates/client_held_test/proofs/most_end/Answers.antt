@@ -1,20 +1,18 @@
 -- `client_held_test::most_end` meets its contract: the tests are the definition's.
--- Assumes nothing.
 use Prim.Native.Nat.{ℕ, ◌<◌, ◌≤◌}
 use mathlib.Core.Bool.{Bool, true, false, not, ◌&&◌, cond, and-false}
-use mathlib.Core.Path.{◌≡◌, refl, sym, ap, ap₂, ◌∙◌}
+use mathlib.Core.Path.{◌≡◌, sym, ap, ap₂, ◌∙◌}
 use mathlib.Core.List.{List}
 use native.Mathlib.Omega.{arith}
 use lib.Dec.{eqb, leb}
-use borrow.Author.Rules.{rules}
 use borrow.Author.Tests.{eq-eqb, ne_eqb, le-leb, lt-leb, not-true, not-false}
 use Rattle.client_record.specs.declared.Fragment.{Fragment}
 use Rattle.client_record.specs.Limits.{datagram_limit}
 use Rattle.client_record.specs.Lists.{any}
 use Rattle.client_record.specs.Record.{is_last, held_fragments}
 use Rattle.client_held_test.specs.Held.{lasts_of, last_end, last_start, ends_well, most_of}
-use Rattle.client_held_test.proofs.most_end.Statement.{statement}
-use Rattle.client_held_test.proofs.most_end.Tie as tie
+use Rattle.client_held_test.proofs.most_end.Goals as goal
+use Rattle.client_held_test.proofs.most_end.Goals.{Else-past-total, Then-last-gt1, Then-past-gt-LIMIT, Then-past-last, Then-past-total}
 
 module _ (fs : List Fragment) (total : ℕ) where
   none-marked : any is_last fs ≡ false → datagram_limit ≡ most_of fs total
@@ -58,59 +56,58 @@ module _ (fs : List Fragment) (total : ℕ) where
       ap₂ ◌&&◌ (le-leb (lasts_of fs) 1 a)
       (ap₂ ◌&&◌ (le-leb (last_start fs) (last_end fs) b) (ap₂ ◌&&◌ (le-leb (last_end fs) datagram_limit c) (ap not (ne_eqb (last_end fs) total d))))
 
-returns : tie.Need-returns
-unfolding datagram_limit
-returns c =
-    let s = c.before in
-    none-marked (held_fragments s.args.a) s.args.total (not-true _ (sym s.requires.some ∙ eq-eqb s.args.marks 0 c.if1.true))
+-- one is marked
+some-marked : (c : Then-last-gt1) → any is_last (held_fragments c.args.a) ≡ true
+some-marked c = not-false _ (sym c.requires.some ∙ ne_eqb c.args.marks 0 c.if-marks-eq0.false)
 
 -- one is marked
-some-marked : (c : tie.Else1) → any is_last (held_fragments c.before.args.a) ≡ true
-some-marked c = not-false _ (sym c.before.requires.some ∙ ne_eqb c.before.args.marks 0 c.if1.false)
+some-marked-2 : (c : Then-past-last) → any is_last (held_fragments c.args.a) ≡ true
+some-marked-2 c = not-false _ (sym c.requires.some ∙ ne_eqb c.args.marks 0 c.if-marks-eq0.false)
 
-last-ones-requires : tie.Need-last-ones-requires
-last-ones-requires c κs = c.before.requires.held
+-- one is marked
+some-marked-3 : (c : Then-past-gt-LIMIT) → any is_last (held_fragments c.args.a) ≡ true
+some-marked-3 c = not-false _ (sym c.requires.some ∙ ne_eqb c.args.marks 0 c.if-marks-eq0.false)
 
-returns-2 : tie.Need-returns-2
-returns-2 c =
-    let o = c.before.before in
-    let s = o.before.before.args in
-    can-not (held_fragments s.a) s.total (some-marked o.before) (two (held_fragments s.a) s.total (omega (arith, o.last-ones.ensures.count, c.if2.true)))
+-- one is marked
+some-marked-4 : (c : Then-past-total) → any is_last (held_fragments c.args.a) ≡ true
+some-marked-4 c = not-false _ (sym c.requires.some ∙ ne_eqb c.args.marks 0 c.if-marks-eq0.false)
 
-returns-3 : tie.Need-returns-3
-returns-3 c =
-    let o = c.before.before.before.before in
-    let s = o.before.before.args in
-    can-not (held_fragments s.a) s.total (some-marked o.before)
-    (early (held_fragments s.a) s.total (omega (arith, o.last-ones.ensures.past, o.last-ones.ensures.options, c.if3.true)))
+-- one is marked
+some-marked-5 : (c : Else-past-total) → any is_last (held_fragments c.args.a) ≡ true
+some-marked-5 c = not-false _ (sym c.requires.some ∙ ne_eqb c.args.marks 0 c.if-marks-eq0.false)
 
-returns-4 : tie.Need-returns-4
+pub returns-then-marks-eq0 : goal.returns-then-marks-eq0
 unfolding datagram_limit
-returns-4 c =
-    let o = c.before.before.before.before.before in
-    let s = o.before.before.args in
-    can-not (held_fragments s.a) s.total (some-marked o.before)
-    (late (held_fragments s.a) s.total (omega (arith, o.last-ones.ensures.past, c.if4.true)))
+returns-then-marks-eq0 c = none-marked (held_fragments c.args.a) c.args.total (not-true _ (sym c.requires.some ∙ eq-eqb c.args.marks 0 c.if-marks-eq0.true))
 
-returns-5 : tie.Need-returns-5
-returns-5 c =
-    let o = c.before.before.before.before.before.before in
-    let s = o.before.before.args in
-    can-not (held_fragments s.a) s.total (some-marked o.before)
-    (covered (held_fragments s.a) s.total (sym o.last-ones.ensures.past ∙ c.if5.true))
+pub last_ones-last-requires : goal.last_ones-last-requires
+last_ones-last-requires c = c.requires.held
 
-returns-6 : tie.Need-returns-6
+pub returns-then-last-gt1 : goal.returns-then-last-gt1
+returns-then-last-gt1 c = let s = c.args in
+    can-not (held_fragments s.a) s.total (some-marked c) (two (held_fragments s.a) s.total (omega (arith, c.last_ones-last.ensures.count, c.if-last-gt1.true)))
+
+pub returns-then-past-last : goal.returns-then-past-last
+returns-then-past-last c = let s = c.args in
+    can-not (held_fragments s.a) s.total (some-marked-2 c)
+    (early (held_fragments s.a) s.total (omega (arith, c.last_ones-last.ensures.past, c.last_ones-last.ensures.options, c.if-past-last.true)))
+
+pub returns-then-past-gt-LIMIT : goal.returns-then-past-gt-LIMIT
 unfolding datagram_limit
-returns-6 c =
-    let three = c.before.before in
-    let two-left = three.before.before in
-    let o = two-left.before.before in
-    let s = o.before.before.args in
-    let m = o.last-ones.ensures in
+returns-then-past-gt-LIMIT c = let s = c.args in
+    can-not (held_fragments s.a) s.total (some-marked-3 c)
+    (late (held_fragments s.a) s.total (omega (arith, c.last_ones-last.ensures.past, c.if-past-gt-LIMIT.true)))
+
+pub returns-then-past-total : goal.returns-then-past-total
+returns-then-past-total c = let s = c.args in
+    can-not (held_fragments s.a) s.total (some-marked-4 c)
+    (covered (held_fragments s.a) s.total (sym c.last_ones-last.ensures.past ∙ c.if-past-total.true))
+
+pub returns : goal.returns
+unfolding datagram_limit
+returns c = let s = c.args in
+    let m = c.last_ones-last.ensures in
     m.past
-    ∙ can-be (held_fragments s.a) s.total (some-marked o.before)
-    (well (held_fragments s.a) s.total (omega (arith, m.count, two-left.if2.false)) (omega (arith, m.past, m.options, three.if3.false))
-    (omega (arith, m.past, c.before.if4.false)) (λ e. c.if5.false (m.past ∙ e)))
-
-pub most-end-spec : {M : Type 1} → statement M
-most-end-spec = tie.close (tie.spec returns last-ones-requires returns-2 returns-3 returns-4 returns-5 returns-6)
+    ∙ can-be (held_fragments s.a) s.total (some-marked-5 c)
+    (well (held_fragments s.a) s.total (omega (arith, m.count, c.if-last-gt1.false)) (omega (arith, m.past, m.options, c.if-past-last.false))
+    (omega (arith, m.past, c.if-past-gt-LIMIT.false)) (λ e. c.if-past-total.false (m.past ∙ e)))
