@@ -9,12 +9,12 @@ pub const UDP_HEADER: usize = 8;
 
 // A count of bytes from the UDP header of a packet.
 #[repr(C)]
-#[derive(Drop)]
+#[derive(Clone, Copy)]
 pub struct PacketOffset(pub usize);
 
 // A count of bytes from the first user byte of an original: document 01's place.
 #[repr(C)]
-#[derive(Drop)]
+#[derive(Clone, Copy)]
 pub struct OriginalOffset(pub usize);
 
 // What a field that counts from the original's UDP header names (RFC 9868 section 11.4).
