@@ -73,7 +73,7 @@ pub struct Assembly {
 // many places its share has; its last time, the bytes offered, and the six figures that they sum to. `conflicted` is document 01's
 // clashed, `rejected` its turned away.
 #[repr(C)]
-#[derive(Drop)]
+#[derive(Clone, Copy)]
 pub struct Client {
     pub plan: u64,
     pub time: u64,
