@@ -1,4 +1,6 @@
 // One option of an encoded option list.
+#![tactic(auto)]
+
 ghost use Rattle.std.specs.Prelude.{◌≡◌, ◌≤◌, length, drop};
 ghost use Rattle.list_entry.specs.Shape.{raw, shape_of};
 ghost use Rattle.list_entry.specs.Option.{read_kind};
