@@ -1,4 +1,6 @@
 // The walk over the option list of a surplus area, where FRAG may lead (RFC 9868 section 11.4).
+#![tactic(auto)]
+
 ghost use Rattle.std.specs.Prelude.{◌≡◌, ◌+◌, ◌<◌, ◌≤◌, length, drop, get_or};
 ghost use Rattle.wire_step.specs.Kinds.{frag};
 ghost use Rattle.wire_step.specs.Step.{step_of};

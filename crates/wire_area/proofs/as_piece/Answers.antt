@@ -1,0 +1,10 @@
+-- `wire_area::as_piece` meets its contract, at the variant that the arm knows.
+use mathlib.Core.Path.{sym, ap}
+use Rattle.wire_area.specs.Area.{as_piece}
+use Rattle.wire_area.proofs.as_piece.Goals as goal
+
+pub returns-in-Listed : goal.returns-in-Listed
+returns-in-Listed c = sym (ap (as_piece c.args.fragment) c.in-Listed.is)
+
+pub returns-in-Faulty : goal.returns-in-Faulty
+returns-in-Faulty c = sym (ap (as_piece c.args.fragment) c.in-Faulty.is)
