@@ -1,35 +1,37 @@
 // A table of vectors. A record is a name, a blank, a length byte and so many bytes; the name's first letter says what they are.
-ghost use Rattle.std.specs.Prelude.{◌≤◌, ◌<◌, length};
+ghost use Rattle.std.specs.Prelude.{◌≤◌, ◌<◌, length, IfOk};
 
 use crate::numbers;
+use std::io;
 
 // Prints a line for each record.
-pub fn run(table: &[u8]) {
+pub fn run(rt: &impl Print, table: &[u8]) -> io::Result<()> {
     let mut at = 0;
     while at < table.len() {
-        at = record(table, at);
+        at = record(rt, table, at)?;
     }
+    Ok(())
 }
 
 // Prints the line of the record at `at`: its name, and what came out. Answers where the next one stands.
-fn record(table: &[u8], at: usize) -> usize
+fn record(rt: &impl Print, table: &[u8], at: usize) -> io::Result<usize>
     requires { at < length table.now }
-    ensures { (at < result) × (result ≤ length table.now) }
+    ensures { IfOk result (λ next. (at < next) × (next ≤ length table.now)) }
 {
     let gap = blank(table, at);
     if table.len() - gap < 2 {
-        return table.len();
+        return Ok(table.len());
     }
     let from = gap + 2;
     let size = wide(table[gap + 1]);
     if table.len() - from < size {
-        return table.len();
+        return Ok(table.len());
     }
     let end = from + size;
-    numbers::text(&table[at..gap]);
-    answer(table[at], &table[from..end]);
-    numbers::text(b"\n");
-    end
+    numbers::text(rt, &table[at..gap])?;
+    answer(rt, table[at], &table[from..end])?;
+    numbers::text(rt, b"\n")?;
+    Ok(end)
 }
 
 fn wide(byte: u8) -> usize {
@@ -52,13 +54,13 @@ fn blank(table: &[u8], at: usize) -> usize
 }
 
 // crc32c, sum, prefixes, add-word, number, encoding
-fn answer(letter: u8, bytes: &[u8]) {
+fn answer(rt: &impl Print, letter: u8, bytes: &[u8]) -> io::Result<()> {
     match letter {
-        b'c' => numbers::crc(bytes),
-        b's' => numbers::sum(bytes),
-        b'p' => numbers::prefixes(bytes),
-        b'a' => numbers::words(bytes),
-        b'n' => numbers::decoded(bytes, 0),
-        _ => numbers::encoding(bytes),
+        b'c' => numbers::crc(rt, bytes),
+        b's' => numbers::sum(rt, bytes),
+        b'p' => numbers::prefixes(rt, bytes),
+        b'a' => numbers::words(rt, bytes),
+        b'n' => numbers::decoded(rt, bytes, 0),
+        _ => numbers::encoding(rt, bytes),
     }
 }

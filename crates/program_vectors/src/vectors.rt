@@ -1,7 +1,8 @@
 // The vectors of numbers, made by tools/vectors/make.py. A record: name, blank, length byte, bytes.
 use crate::table;
+use std::io;
 
-pub fn run() {
+pub fn run(rt: &impl Print) -> io::Result<()> {
     // The published vectors of CRC32c: iSCSI's, the check value, the CRC of nothing.
     //   crc32c-zeros: 32 bytes of 00
     //   crc32c-ones: 32 bytes of ff
@@ -11,6 +12,7 @@ pub fn run() {
     //   crc32c-check: 123456789
     //   crc32c-nothing: no bytes
     table::run(
+        rt,
         b"crc32c-zeros \x20\x00\x00\x00\x00\x00\x00\x00\x00\x00\x00\x00\x00\x00\x00\x00\x00\x00\x00\x00\x00\x00\x00\x00\x00\x00\x00\x00\x00\x00\x00\x00\x00\
     crc32c-ones \x20\xff\xff\xff\xff\xff\xff\xff\xff\xff\xff\xff\xff\xff\xff\xff\xff\xff\xff\xff\xff\xff\xff\xff\xff\xff\xff\xff\xff\xff\xff\xff\xff\
     crc32c-rising \x20\x00\x01\x02\x03\x04\x05\x06\x07\x08\x09\x0a\x0b\x0c\x0d\x0e\x0f\x10\x11\x12\x13\x14\x15\x16\x17\x18\x19\x1a\x1b\x1c\x1d\x1e\x1f\
@@ -19,7 +21,7 @@ pub fn run() {
     \x28\x00\x00\x00\x00\x00\x00\x00\x02\x00\x00\x00\x00\x00\x00\x00\
     crc32c-check \x09\x31\x32\x33\x34\x35\x36\x37\x38\x39\
     crc32c-nothing \x00",
-    );
+    )?;
     // Checksums: the sum of a running sum and bytes, and the field that is sent for it.
     //   sum-rfc-1071: RFC 1071's example
     //   sum-rfc-1071-odd: the same at an odd offset: the bytes exchanged
@@ -34,6 +36,7 @@ pub fn run() {
     //   sum-first-half: the first half of RFC 1071's example
     //   sum-second-half: the second half upon it
     table::run(
+        rt,
         b"sum-rfc-1071 \x0b\x00\x00\x00\x00\x01\xf2\x03\xf4\xf5\xf6\xf7\
     sum-rfc-1071-odd \x0b\x00\x00\x01\x00\x01\xf2\x03\xf4\xf5\xf6\xf7\
     sum-one-byte \x04\x00\x00\x00\x01\
@@ -46,13 +49,14 @@ pub fn run() {
     sum-running \x05\xdd\xf2\x00\x22\x0d\
     sum-first-half \x07\x00\x00\x00\x00\x01\xf2\x03\
     sum-second-half \x07\xf2\x04\x00\xf4\xf5\xf6\xf7",
-    );
+    )?;
     // The first 0 to 40 of some bytes: CRC32c, and a running sum with them at an even and at an odd offset.
     //   prefixes-mixed: 1234, then bytes of no pattern
     //   prefixes-ones: 1, then bytes of ff: every word carries
     //   prefixes-zeros: 0, then bytes of 00: the sum is 0, not all ones
     //   prefixes-pairs: 0, then each word before its complement: all ones at every fourth byte
     table::run(
+        rt,
         b"prefixes-mixed \x2a\x12\x34\xc9\xaa\xd8\x52\x19\x2d\x8e\x3b\x35\x7c\x0f\xf0\x1c\x96\x5c\x6f\xcf\x7b\x74\xba\x4c\x2b\x57\xd0\x95\xa7\x05\xb1\xa9\xee\
     \x7f\x5d\x88\x00\xc4\xd5\x32\xdd\xd4\x17\
     prefixes-ones \x2a\x00\x01\xff\xff\xff\xff\xff\xff\xff\xff\xff\xff\xff\xff\xff\xff\xff\xff\xff\xff\xff\xff\xff\xff\xff\xff\xff\xff\xff\xff\xff\xff\xff\
@@ -61,7 +65,7 @@ pub fn run() {
     \x00\x00\x00\x00\x00\x00\x00\x00\x00\x00\
     prefixes-pairs \x2a\x00\x00\x00\x01\xff\xfe\xff\xfe\x00\x01\x00\xff\xff\x00\xff\x00\x00\xff\x80\x00\x7f\xff\x7f\xff\x80\x00\xab\xcd\x54\x32\x12\x34\
     \xed\xcb\xff\xff\x00\x00\x00\x00\xff\xff",
-    );
+    )?;
     // Two words added, and the field that is sent for the sum.
     //   add-word: 0 and 0
     //   add-word: all ones and 0
@@ -70,13 +74,14 @@ pub fn run() {
     //   add-word: 8000 twice
     //   add-word: RFC 1071's sum and its complement
     table::run(
+        rt,
         b"add-word \x04\x00\x00\x00\x00\
     add-word \x04\xff\xff\x00\x00\
     add-word \x04\xff\xff\x00\x01\
     add-word \x04\xff\xff\xff\xff\
     add-word \x04\x80\x00\x80\x00\
     add-word \x04\xdd\xf2\x22\x0d",
-    );
+    )?;
     // Seven-bit numbers: the lowest group first, shortest form only, within 64 bits.
     //   number-0: 0
     //   number-127: 127
@@ -98,6 +103,7 @@ pub fn run() {
     //   number-cut-short-2: two such bytes
     //   number-eleven-80s: eleven bytes 80
     table::run(
+        rt,
         b"number-0 \x01\x00\
     number-127 \x01\x7f\
     number-128 \x02\x80\x01\
@@ -117,7 +123,7 @@ pub fn run() {
     number-cut-short \x01\x80\
     number-cut-short-2 \x02\xff\xff\
     number-eleven-80s \x0b\x80\x80\x80\x80\x80\x80\x80\x80\x80\x80\x80",
-    );
+    )?;
     // Encodings at the limits of one, two, three, five and ten groups; then buffers with and without room.
     //   encoding: 0 at 0
     //   encoding: 1 at 0
@@ -139,6 +145,7 @@ pub fn run() {
     //   encoding: 18446744073709551615 at 1
     //   encoding: 0 at 18446744073709551615
     table::run(
+        rt,
         b"encoding \x10\x00\x00\x00\x00\x00\x00\x00\x00\x00\x00\x00\x00\x00\x00\x00\x00\
     encoding \x10\x00\x00\x00\x00\x00\x00\x00\x01\x00\x00\x00\x00\x00\x00\x00\x00\
     encoding \x10\x00\x00\x00\x00\x00\x00\x00\x7f\x00\x00\x00\x00\x00\x00\x00\x00\
@@ -158,5 +165,5 @@ pub fn run() {
     encoding \x10\x00\x00\x00\x00\x00\x00\x00\x00\x00\x00\x00\x00\x00\x00\x00\x0b\
     encoding \x10\xff\xff\xff\xff\xff\xff\xff\xff\x00\x00\x00\x00\x00\x00\x00\x01\
     encoding \x10\x00\x00\x00\x00\x00\x00\x00\x00\xff\xff\xff\xff\xff\xff\xff\xff",
-    );
+    )
 }
