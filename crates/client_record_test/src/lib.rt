@@ -1,5 +1,7 @@
 // The record test of document 01 (refusal 22): one function for each clause of its sentence. What it asks of the held fragments of an assembly
 // is `client_held_test`'s.
+#![tactic(auto)]
+
 ghost use Rattle.std.specs.Prelude.{◌≡◌, ◌+◌, ◌≤◌, eqb, take};
 ghost use Rattle.client_record.specs.Limits.{assembly_limit};
 ghost use Rattle.client_record.specs.Lists.{all, any};

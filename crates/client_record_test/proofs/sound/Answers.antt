@@ -1,17 +1,14 @@
 -- `client_record_test::sound` meets its contract: the five tests are the definition's; what is held counts where each assembly passes.
--- Assumes nothing.
 use Prim.Native.Nat.{ℕ}
 use mathlib.Core.Bool.{Bool, true, false, ◌&&◌, and-true, and-false}
 use mathlib.Core.Path.{◌≡◌, refl, sym, ap, ap₂, ◌∙◌}
 use lib.Dec.{eqb}
-use borrow.Author.Rules.{rules}
 use Rattle.client_record.specs.declared.Client.{Client}
 use Rattle.client_record.specs.Lists.{all, sum}
 use Rattle.client_record.specs.Record.{bytes_held, sound_assembly, keys_differ, held_right, balanced, within_plan, sound_record}
 use Rattle.client_record_test.specs.declared.Assemblies.{Assemblies}
 use Rattle.client_record_test.specs.Parts.{AllTest}
-use Rattle.client_record_test.proofs.sound.Statement.{statement}
-use Rattle.client_record_test.proofs.sound.Tie as tie
+use Rattle.client_record_test.proofs.sound.Goals as goal
 
 -- a test that the definition has last is made with the first
 last-first : (a w k h b : Bool) → (a && w) && (k && (h && b)) ≡ a && (k && (h && (b && w)))
@@ -41,39 +38,12 @@ tests c r t = go r.sound t.sound t.held
         ap (λ (x : Bool). x && (keys_differ c.assemblies && (eqb c.held held && balanced c))) e
         ∙ last-first each (within_plan c) (keys_differ c.assemblies) (eqb c.held held) (balanced c)
 
-assemblies-tested-requires : tie.Need-assemblies-tested-requires
-assemblies-tested-requires c κs = search rules
-
-balanced-requires : tie.Need-balanced-requires
-balanced-requires c κs = search rules
-
-both-requires : tie.Need-both-requires
-both-requires c κs = search rules
-
-keys-differ-requires : tie.Need-keys-differ-requires
-keys-differ-requires c κs = search rules
-
-both-requires-2 : tie.Need-both-requires-2
-both-requires-2 c κs = search rules
-
-both-requires-3 : tie.Need-both-requires-3
-both-requires-3 c κs = search rules
-
-returns : tie.Need-returns
-returns c =
-    let k = c.before.before in
-    let f = k.before in
-    let a = f.before.before.before.before in
-    let x = a.before.args.c in
+pub returns : goal.returns
+returns c = let x = c.args.c in
     rw (
-      c.both3.ensures,
-      c.before.both2.ensures,
-      k.keys-differ.ensures,
-      f.both.ensures,
-      f.before.balanced.ensures,
-    ) (tests x _ a.assemblies-tested.ensures)
-
-pub sound-spec : {M : Type 1} → statement M
-sound-spec =
-    tie.close
-    (tie.spec assemblies-tested-requires balanced-requires both-requires keys-differ-requires both-requires-2 both-requires-3 returns)
+      c.both-2.ensures,
+      c.both.ensures,
+      c.keys_differ.ensures,
+      c.both-figures.ensures,
+      c.balanced.ensures,
+    ) (tests x _ c.assemblies_tested-assemblies.ensures)

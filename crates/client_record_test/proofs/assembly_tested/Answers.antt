@@ -1,24 +1,20 @@
 -- `client_record_test::assembly_tested` meets its contract: of a live assembly and of an unused one the tests are the definition's, with those of the
 -- spare slots last.
--- Assumes nothing.
 use Prim.Native.Nat.{ℕ}
-use mathlib.Core.Bool.{Bool, true, false, not, ◌&&◌, cond, and_assoc}
+use mathlib.Core.Bool.{Bool, true, false, not, ◌&&◌}
 use mathlib.Core.Path.{◌≡◌, refl, sym, ap, ap₂, ◌∙◌}
 use lib.Dec.{eqb, leb}
 use lib.ListN.{take}
-use borrow.Author.Rules.{rules}
 use borrow.Author.Tests.{eqb-true, eq-eqb, not-false}
 use Rattle.number_tests.proofs.Tests.{both_true, cond_yes, cond_no}
 use Rattle.client_record.specs.declared.Assembly.{Assembly}
-use Rattle.client_record.specs.declared.Fragment.{Fragment}
 use Rattle.client_record.specs.Limits.{fragment_limit}
 use Rattle.client_record.specs.Lists.{all, sum}
 use Rattle.client_record.specs.Record.{fresh_flow, same_flow, sound_fragment, is_fresh_fragment, compatible, whole, live, held_fragments, spare_slots}
 use Rattle.client_record.specs.Record.{bytes_held, is_fresh_assembly, opened_within, sound_live, sound_assembly}
 use Rattle.client_record.proofs.Held.{spare-all}
 use Rattle.client_record_test.specs.Parts.{unused_fields, sound_fields}
-use Rattle.client_record_test.proofs.assembly_tested.Statement.{statement}
-use Rattle.client_record_test.proofs.assembly_tested.Tie as tie
+use Rattle.client_record_test.proofs.assembly_tested.Goals as goal
 
 -- the spare slots of a live assembly last
 live-parts : (t : ℕ) (a : Assembly) → sound_live t a ≡ sound_fields t a && all is_fresh_fragment (spare_slots a)
@@ -50,51 +46,22 @@ none-held : (a : Assembly) → a.count ≡ 0 → bytes_held a ≡ 0
 unfolding bytes_held held_fragments sum
 none-held a e = ap (λ (n : ℕ). sum (λ f. f.length) (take n a.fragments)) e
 
-spare-fresh-requires : tie.Need-spare-fresh-requires
-spare-fresh-requires c κs = search rules
-
-live-requires : tie.Need-live-requires
-live-requires c κs = search rules
-
-live-tested-requires : tie.Need-live-tested-requires
-live-tested-requires c κs = search rules
-
-both-requires : tie.Need-both-requires
-both-requires c κs = search rules
-
-returns : tie.Need-returns
+pub returns-then-live : goal.returns-then-live
 unfolding sound_assembly
-returns c =
-    let l = c.before in
-    let b = l.before.before in
-    let s = b.before.before.args in
+returns-then-live c = let s = c.args in
     record {
-      sound = c.both.ensures ∙ ap₂ ◌&&◌ l.live-tested.ensures.sound b.before.spare-fresh.ensures ∙ sym (live-parts s.time s.a)
-          ∙ sym (cond_yes (live s.a) _ _ (sym b.live.ensures ∙ l.before.if1.true));
-      held = λ q. l.live-tested.ensures.held (both_true _ _ (sym c.both.ensures ∙ q)).0;
+      sound = c.both.ensures ∙ ap₂ ◌&&◌ c.live_tested-held.ensures.sound c.spare_fresh-spare.ensures ∙ sym (live-parts s.time s.a)
+          ∙ sym (cond_yes (live s.a) _ _ (sym c.live.ensures ∙ c.if-live.true));
+      held = λ q. c.live_tested-held.ensures.held (both_true _ _ (sym c.both.ensures ∙ q)).0;
     }
 
-unused-requires : tie.Need-unused-requires
-unused-requires c κs = search rules
-
-both-requires-2 : tie.Need-both-requires-2
-both-requires-2 c κs = search rules
-
-returns-2 : tie.Need-returns-2
+pub returns : goal.returns
 unfolding sound_assembly live
-returns-2 c =
-    let u = c.before in
-    let b = u.before.before in
-    let s = b.before.before.args in
-    let dead = sym b.live.ensures ∙ u.before.if1.false in
+returns c = let s = c.args in
+    let dead = sym c.live.ensures ∙ c.if-live.false in
     let none = eqb-true s.a.count 0 (not-false _ dead) in
     record {
-      sound = c.both2.ensures ∙ ap₂ ◌&&◌ u.unused.ensures b.before.spare-fresh.ensures ∙ sym (fresh-parts s.a none)
+      sound = c.both-2.ensures ∙ ap₂ ◌&&◌ c.unused.ensures c.spare_fresh-spare.ensures ∙ sym (fresh-parts s.a none)
           ∙ sym (cond_no (live s.a) _ _ dead);
       held = λ q. sym (none-held s.a none);
     }
-
-pub assembly-tested-spec : {M : Type 1} → statement M
-assembly-tested-spec =
-    tie.close
-    (tie.spec spare-fresh-requires live-requires live-tested-requires both-requires returns unused-requires both-requires-2 returns-2)

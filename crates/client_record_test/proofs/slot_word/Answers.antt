@@ -1,19 +1,16 @@
 -- `client_record_test::slot_word` meets its contract: a number of which no bit is set is 0 (`or-zero`), and so is one that is moved up and stays within the word.
--- Assumes nothing.
 use Prim.Native.Nat.{ℕ, zero, suc, ◌+◌, ◌*◌, ◌%◌, ◌^◌, ◌<◌, ◌≤◌}
 use mathlib.Core.Bool.{Bool, true, false, ◌&&◌, and_assoc}
-use mathlib.Core.Path.{◌≡◌, refl, sym, ap, ap₂, ◌∙◌}
+use mathlib.Core.Path.{◌≡◌, refl, ap, ap₂, ◌∙◌}
 use native.Mathlib.Nat.{zero-mul, suc-mul}
 use native.Mathlib.Omega.{arith}
-use borrow.Author.Rules.{rules}
 use borrow.Author.Tests.{eqb-true, eqb-false, eq-eqb, ne_eqb}
 use lib.Bits.{bit_or}
 use lib.Dec.{eqb}
 use lib.Pow.{shl_exact, pow_pos}
 use Rattle.number_octets.proofs.ZeroBytes.{or-zero}
 use Rattle.client_record.specs.Record.{is_fresh_fragment}
-use Rattle.client_record_test.proofs.slot_word.Statement.{statement}
-use Rattle.client_record_test.proofs.slot_word.Tie as tie
+use Rattle.client_record_test.proofs.slot_word.Goals as goal
 
 -- two numbers, each 0 where the other is
 same-zero : (x y : ℕ) → (x ≡ 0 → y ≡ 0) → (y ≡ 0 → x ≡ 0) → eqb y 0 ≡ eqb x 0
@@ -39,27 +36,11 @@ four-zero a b c d =
     ∙ ap (λ (x : Bool). x && eqb d 0) (or-zero (bit_or a b) c ∙ ap (λ (x : Bool). x && eqb c 0) (or-zero a b))
     ∙ and_assoc (eqb a 0 && eqb b 0) (eqb c 0) (eqb d 0) ∙ and_assoc (eqb a 0) (eqb b 0) (eqb c 0 && eqb d 0)
 
-cast-length : tie.Need-overflow-cast-length
-cast-length c = search rules
-
-cast-options : tie.Need-overflow-cast-options
-cast-options c = search rules
-
-cast-last : tie.Need-overflow-cast-last
-cast-last c = search rules
-
-cast-result : tie.Need-overflow-cast-result
-cast-result c = search rules
-
-returns : tie.Need-returns
+pub returns : goal.returns
 unfolding is_fresh_fragment
-returns c =
-    let f = c.before.before.before.before.args.f in
+returns c = let f = c.args.f in
     four-zero f.offset ((f.length * 2 ^ 16) % 2 ^ 64) ((f.option_start * 2 ^ 32) % 2 ^ 64) ((f.last * 2 ^ 48) % 2 ^ 64)
     ∙ ap (λ (x : Bool). eqb f.offset 0 && x)
-    (ap₂ ◌&&◌ (moved_up f.length 16 (omega (arith, c.before.before.before.struct_known.given)) (omega arith))
-    (ap₂ ◌&&◌ (moved_up f.option_start 32 (omega (arith, c.before.before.struct-known2.given)) (omega arith))
-    (moved_up f.last 48 (omega (arith, c.before.struct-known3.given)) (omega arith))))
-
-pub slot-word-spec : {M : Type 1} → statement M
-slot-word-spec = tie.close (tie.spec cast-length cast-options cast-last cast-result returns)
+    (ap₂ ◌&&◌ (moved_up f.length 16 (omega arith) (omega arith))
+    (ap₂ ◌&&◌ (moved_up f.option_start 32 (omega arith) (omega arith))
+    (moved_up f.last 48 (omega arith) (omega arith))))
