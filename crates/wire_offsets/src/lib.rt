@@ -1,4 +1,6 @@
 // Walking a list option by option, and where each stands (document 02, R-7).
+#![tactic(auto)]
+
 ghost use Rattle.std.specs.Prelude.{◌≡◌};
 ghost use Rattle.wire_offsets.specs.Next.{next_of};
 
