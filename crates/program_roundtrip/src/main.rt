@@ -1,7 +1,8 @@
 // Writes a datagram with options, shows its bytes, reads it back, shows what the reader says, and lists the options back.
-use libc::STDOUT_FILENO;
+#![tactic(auto)]
 use list_options::Listed;
 use list_writer::Written;
+use std::io;
 use wire_datagram::reading;
 use wire_datagram::reading::Outcome;
 use wire_nops::Strictness;
@@ -11,7 +12,7 @@ const ROOM: usize = 128;
 
 const TEXT: usize = 1024;
 
-fn main() {
+fn main(rt: HostRuntime) -> io::Result<()> {
     let source = [192, 0, 2, 1];
     let destination = [198, 51, 100, 7];
     let user = b"level 412 cm";
@@ -20,70 +21,70 @@ fn main() {
     let mut buffer = [0u8; ROOM];
     let written = list_writer::write(source, destination, 4660, 53, user, &list, 1, &mut buffer);
     match written {
-        Written::Payload(length) => show(&buffer, length, source, destination),
-        Written::Unreadable => say(b"refused 7\n"),
-        Written::Forbidden => say(b"refused 9\n"),
-        Written::TooLarge => say(b"refused 8\n"),
+        Written::Payload(length) => show(&rt, &buffer, length, source, destination),
+        Written::Unreadable => say(&rt, b"refused 7\n"),
+        Written::Forbidden => say(&rt, b"refused 9\n"),
+        Written::TooLarge => say(&rt, b"refused 8\n"),
     }
 }
 
 // The payload in hexadecimal, the reader's report on it, and its options as an encoded list.
-fn show(buffer: &[u8], length: usize, source: [u8; 4], destination: [u8; 4]) {
+fn show(rt: &impl Print, buffer: &[u8], length: usize, source: [u8; 4], destination: [u8; 4]) -> io::Result<()> {
     if buffer.len() < length {
-        return;
+        return Ok(());
     }
     let payload = &buffer[..length];
-    say(b"written ");
-    hex(payload);
+    say(rt, b"written ")?;
+    hex(rt, payload)?;
     let mut text = [0u8; TEXT];
     let end = program_report::report(payload, source, destination, &mut text);
-    io::write_all(STDOUT_FILENO, &text[..end]);
-    list(payload, source, destination);
+    say(rt, &text[..end])?;
+    list(rt, payload, source, destination)
 }
 
-fn list(payload: &[u8], source: [u8; 4], destination: [u8; 4]) {
+fn list(rt: &impl Print, payload: &[u8], source: [u8; 4], destination: [u8; 4]) -> io::Result<()> {
     let outcome = reading::read(payload, source, destination, Strictness::Plain);
     match outcome {
-        Outcome::Accepted(reading) => list_back(payload, reading),
-        Outcome::Refused(_) => say(b"nothing to list\n"),
+        Outcome::Accepted(reading) => list_back(rt, payload, reading),
+        Outcome::Refused(_) => say(rt, b"nothing to list\n"),
     }
 }
 
 // The reading as an encoded option list.
-fn list_back(payload: &[u8], reading: Reading) {
+fn list_back(rt: &impl Print, payload: &[u8], reading: Reading) -> io::Result<()> {
     let mut buffer = [0u8; ROOM];
     let listed = list_readings::list_reading(payload, reading, &mut buffer);
     match listed {
-        Listed::Written { size, fill } => show_list(&buffer, size, fill),
-        Listed::Full => say(b"refused 8\n"),
+        Listed::Written { size, fill } => show_list(rt, &buffer, size, fill),
+        Listed::Full => say(rt, b"refused 8\n"),
     }
 }
 
 // The list in hexadecimal, and the fill beside it.
-fn show_list(buffer: &[u8], size: usize, fill: usize) {
+fn show_list(rt: &impl Print, buffer: &[u8], size: usize, fill: usize) -> io::Result<()> {
     if buffer.len() < size {
-        return;
+        return Ok(());
     }
-    say(b"listed ");
-    hex(&buffer[..size]);
-    say(b"fill ");
-    io::print_decimal(STDOUT_FILENO, fill as u64);
-    say(b"\n");
+    say(rt, b"listed ")?;
+    hex(rt, &buffer[..size])?;
+    say(rt, b"fill ")?;
+    print!(rt; "{fill}")?;
+    say(rt, b"\n")
 }
 
-fn hex(bytes: &[u8]) {
+fn hex(rt: &impl Print, bytes: &[u8]) -> io::Result<()> {
     let mut i = 0;
     while i < bytes.len() {
-        io::print_hex(STDOUT_FILENO, wide(bytes[i]), 2);
+        one(rt, bytes[i])?;
         i += 1;
     }
-    say(b"\n");
+    say(rt, b"\n")
 }
 
-fn say(text: &[u8]) {
-    io::write_all(STDOUT_FILENO, text);
+fn one(rt: &impl Print, byte: u8) -> io::Result<()> {
+    print!(rt; "{byte:02x}")
 }
 
-fn wide(byte: u8) -> u64 {
-    byte as u64
+fn say(rt: &impl Print, text: &[u8]) -> io::Result<()> {
+    rt.write_all(text)
 }
