@@ -1,5 +1,5 @@
 -- The start of a surplus area: pad and option checksum (document 01, "Reading one IPv4 payload"; RFC 9868 sections 8 and 9).
-use Rattle.std.specs.Prelude.{Bool, true, false, cond, not, ◌&&◌, List, ℕ, ◌+◌, eqb, ltb, length, get_or}
+use Rattle.std.specs.Prelude.{Bool, cond, not, ◌&&◌, List, ℕ, ◌+◌, eqb, ltb, length, get_or}
 use Rattle.number_octets.specs.Octets.{number, part}
 use Rattle.number_checksum.specs.Checksum.{word_sum, folded, all_ones}
 use Rattle.wire_surplus.specs.declared.Start.{Start}

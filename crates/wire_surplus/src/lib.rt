@@ -1,4 +1,6 @@
 // The start of a surplus area: pad and option checksum (RFC 9868 sections 8 and 9).
+#![tactic(auto)]
+
 ghost use Rattle.std.specs.Prelude.{◌≡◌, ◌+◌, ◌≤◌, length};
 ghost use Rattle.number_checksum.specs.Checksum.{folded, word_sum};
 ghost use Rattle.wire_surplus.specs.Surplus.{pad_of, summed_of, start_of};
