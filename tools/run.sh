@@ -5,21 +5,11 @@ set -u
 cd "$(dirname "$0")/.." || exit 2
 program=target/bin/program_inspect
 
-# build NAME: proves and builds a program.
-build() {
-    if ! rt check "$1" >target-run.log 2>&1; then
-        tail -n 20 target-run.log
-        echo "$1 could not be built: see target-run.log"
-        exit 1
-    fi
-    rm -f target-run.log
-}
-
-build program_inspect
+sh tools/build.sh program program_inspect || exit 1
 if [ -n "${IN:-}" ]; then
     exec "$program" <"$IN"
 fi
-build program_roundtrip
+sh tools/build.sh program program_roundtrip || exit 1
 echo "-- written and read back"
 target/bin/program_roundtrip
 for sample in samples/*.bin; do

@@ -39,24 +39,24 @@ if [ "$(rt version)" != "$(cat TOOLCHAIN)" ]; then
     echo "note: this toolchain is '$(rt version)', the one pinned in TOOLCHAIN is '$(cat TOOLCHAIN)'"
 fi
 
-rt fmt --check
-report layout $?
-
 # Files of Rattle or antt that stand outside crates/, which the proof does not see.
 stray=$(find . -path ./target -prune -o -path ./crates -prune -o -path ./.git -prune -o \( -name '*.rt' -o -name '*.antt' \) -print)
 [ -z "$stray" ] || echo "stray files: $stray"
 test -z "$stray"
 report stray-files $?
 
-# The proof of every crate from nothing, every must-fail edit, and every program against its stored output.
-{ rt ci 2>&1; echo $? >"$log.status"; } | tee "$log" | grep -v '^[0-9]* passed, [0-9]* failed$'
+# The layout and the proof of every crate, every must-fail edit, and every program against its stored output. An edit that no longer fits
+# the text shows nothing, and fails the test too.
+{ rt ci 2>&1; echo $? >"$log.status"; } | tee "$log" | grep -v '^[0-9]* passed, [0-9]* failed'
 status=$(cat "$log.status")
-counts=$(tail -n 1 "$log" | sed -n 's/^\([0-9]*\) passed, \([0-9]*\) failed$/\1 \2/p')
+counts=$(tail -n 1 "$log" | sed -n 's/^\([0-9]*\) passed, \([0-9]*\) failed.*$/\1 \2/p')
 mv "$log" "$log.ci"
 rm -f "$log.status"
 proved=$(date +%s)
 test "$status" -eq 0
 report rt-ci $?
+! grep -q '^rt: ok.*, [1-9][0-9]* bad' "$log.ci"
+report edits-fit $?
 if [ -n "$counts" ]; then
     passed=$((passed + ${counts% *}))
     failed=$((failed + ${counts#* }))
@@ -65,6 +65,10 @@ else
     failed=$((failed + 1))
 fi
 
+# The programs and the library, built of what is proved now.
+quietly program-built sh tools/build.sh program program_inspect
+quietly static-library sh tools/build.sh library host_calls
+
 # The program on each sample, against the output that stands beside it.
 for sample in samples/*.bin; do
     [ -f "$sample" ] || continue
@@ -72,8 +76,7 @@ for sample in samples/*.bin; do
     report "$sample" $?
 done
 
-# The static library for hosts, the C header held to it, and the C example on it against the output that stands beside it.
-quietly static-library rt staticlib host_calls
+# The C header held to the static library, and the C example on it against the output that stands beside it.
 if command -v gcc >/dev/null 2>&1; then
     quietly c-surface sh tools/surface/test.sh
     quietly c-example sh tools/example.sh examples/host.expected

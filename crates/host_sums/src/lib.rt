@@ -1,4 +1,6 @@
 // Checksum and CRC32c alone, so that they can be measured. They are no calls for hosts: include/wuraketozo.h does not name them.
+#![tactic(auto)]
+
 ghost use Rattle.std.specs.Prelude.{◌≡◌, ◌+◌};
 ghost use Rattle.number_checksum.specs.Checksum.{folded, word_sum};
 ghost use Rattle.number_crc32c.specs.Crc.{crc_of};
