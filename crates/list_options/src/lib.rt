@@ -1,4 +1,6 @@
 // Listing the options of a datagram as an encoded option list.
+#![tactic(auto)]
+
 ghost use Rattle.std.specs.Prelude.{◌≡◌, ◌+◌, ◌≤◌, length, drop};
 ghost use Rattle.number_octets.specs.Octets.{overlay};
 ghost use Rattle.number_varint.specs.SevenBit.{encoded};

@@ -1,0 +1,20 @@
+-- `list_options::list_options` meets its contract: a walk that is answered as sound is listed, and a faulty one is listed as no option.
+use mathlib.Core.Path.{refl, sym, ◌∙◌}
+use Rattle.wire_options.specs.Walk.{walk_from, option_limit}
+use Rattle.list_options.proofs.Listeds.{answer-sound, answer-faulty}
+use Rattle.list_options.proofs.list_options.Goals as goal
+
+pub list_sound-requires : goal.list_sound-requires
+unfolding option_limit
+list_sound-requires c = let a = c.args in
+    answer-sound _ (walk_from option_limit 0 a.options.now) _ _ _
+    (sym c.walk_list-walked.ensures ∙ c.in-Listed.is)
+
+pub list_sound-requires-in-Faulty : goal.list_sound-requires-in-Faulty
+unfolding walk_from
+list_sound-requires-in-Faulty c = (tt, refl, refl)
+
+pub returns-in-Faulty : goal.returns-in-Faulty
+unfolding option_limit walk_from
+returns-in-Faulty c = answer-faulty _ _ _ _ _ _ _ (sym c.walk_list-walked.ensures
+    ∙ c.in-Faulty.is) c.list_sound-in-Faulty.ensures
