@@ -41,19 +41,21 @@ def arms(count, value):
 
 
 SOURCE = """// The table of CRC32c, written by tools/crc/rows.py: where a byte, and where half a byte, has come to after some bits.
-ghost use mathlib.Core.Path.{{_≡_}};
-ghost use Prim.Native.Nat.{{_<_}};
-ghost use Rattle·number_crc_steps.specs.Steps.{{steps}};
-ghost use Rattle·number_crc_rows·specs.specs.Rows.{{two}};
+#![tactic(auto)]
+
+ghost use Rattle.std.specs.Prelude.{{◌≡◌, ◌<◌}};
+ghost use Rattle.number_crc_steps.specs.Steps.{{steps}};
+ghost use Rattle.number_crc_rows.specs.Rows.{{two}};
 
 // Two entries in a field, that of more bits above that of fewer.
+#[derive(Drop)]
 pub struct Row {{
 {fields}}}
 
 // The entries of a byte.
 pub fn entries(n: u32) -> Row
-    requires {{ ⌜ n < 256 ⌝ }}
-    ensures {{ λ r. ⌜ {entries} ⌝ }}
+    requires {{ n < 256 }}
+    ensures {{ {entries} }}
 {{
     let at = n + 256;
     match at {{
@@ -62,8 +64,8 @@ pub fn entries(n: u32) -> Row
 
 // Four bits, after eight.
 pub fn nibble_after_8(n: u32) -> u32
-    requires {{ ⌜ n < 16 ⌝ }}
-    ensures {{ λ r. ⌜ r ≡ steps 8 n ⌝ }}
+    requires {{ n < 16 }}
+    ensures {{ result ≡ steps 8 n }}
 {{
     let at = n + 16;
     match at {{
@@ -72,8 +74,8 @@ pub fn nibble_after_8(n: u32) -> u32
 
 // Four bits, after four.
 pub fn nibble_after_4(n: u32) -> u32
-    requires {{ ⌜ n < 16 ⌝ }}
-    ensures {{ λ r. ⌜ r ≡ steps 4 n ⌝ }}
+    requires {{ n < 16 }}
+    ensures {{ result ≡ steps 4 n }}
 {{
     let at = n + 16;
     match at {{
@@ -82,74 +84,58 @@ pub fn nibble_after_4(n: u32) -> u32
 """
 
 HEAD = """-- `number_crc_rows::{name}` meets its contract: {how}. Written by tools/crc/rows.py.
--- Assumes nothing.
-use Rattle·number_crc_steps.specs.Steps.{{steps, bitStep, polynomial}}
-{uses}use borrow.Author.Needs.{{needs}}
-use Rattle·number_crc_rows·proofs.proofs.{name}.Statement.{{statement}}
-use Rattle·number_crc_rows·proofs.proofs.{name}.Tie as tie
-
-"""
-
-NEED = """add-at : tie.Need-add-at
-add-at c = search needs
+use Rattle.number_crc_steps.specs.Steps.{{steps, bit_step, polynomial}}
+{uses}use Rattle.number_crc_rows.proofs.{name}.Goals as goal
 """
 
 
-def returns(place):
-    return "returns" if place == 0 else f"returns-{place + 1}"
-
-
-def spec(name, count):
-    hyphened = name.replace("_", "-")
-    needs = "\n    ".join(["add-at"] + [returns(i) for i in range(count)])
-    return f"\npub {hyphened}-spec : {{M : Type 1}} → statement M\n{hyphened}-spec =\n    tie.close\n    (tie.spec\n    {needs})\n"
+def returns(count, place):
+    return "returns-in_default" if place == count - 1 else f"returns-in-{count + place}"
 
 
 def where(count, place):
     if place == count - 1:
-        return f"(last {count} {count - 1} (c .before .pre) (c .match .rest) refl)"
-    return f"(at {count} {place} (c .match .keys{place + 1}))"
+        return f"(last {count} {count - 1} c.requires c.in_default.in_default-own.rest refl)"
+    return f"(at {count} {place} c.in-{count + place}.is)"
 
 
 def row_proof():
     text = HEAD.format(
         name="entries",
         how="the entries of 0 and of each single bit are computed step by step, and those of another byte are the xor of two rows",
-        uses="use mathlib.Core.Path.{refl}\nuse mathlib.Core.List.{[], _∷_}\n"
-        "use Rattle·number_crc_rows·proofs.proofs.Rows.{Stepped, chained, both, fields, at, last}\n",
+        uses="use mathlib.Core.Path.{refl}\nuse mathlib.Core.List.{[], ◌∷◌}\n"
+        "use Rattle.number_crc_rows.proofs.Rows.{Stepped, chained, both, fields, at, last}\n",
     )
     for byte in range(256):
         values = " ∷ ".join(literal(steps(k, byte), 8) for k in ENTRIES)
         low = byte & -byte
-        text += f"row-{byte} : Stepped {byte} ({values} ∷ [])\n"
+        text += f"\nrow-{byte} : Stepped {byte} ({values} ∷ [])\n"
         if byte == low:
-            text += f"unfolding steps bitStep polynomial\nrow-{byte} = chained tt\n\n"
+            text += f"unfolding steps bit_step polynomial\nrow-{byte} = chained tt\n"
         else:
-            text += f"row-{byte} = both row-{byte - low} row-{low} refl\n\n"
-    text += NEED
+            text += f"row-{byte} = both row-{byte - low} row-{low} refl\n"
     for byte in range(256):
-        name = returns(byte)
-        text += f"\n{name} : tie.Need-{name}\n{name} c = fields {where(256, byte)} row-{byte} refl\n"
-    return text + spec("entries", 256)
+        name = returns(256, byte)
+        text += f"\npub {name} : goal.{name}\n{name} c = fields {where(256, byte)} row-{byte} refl\n"
+    return text
 
 
 def nibble_proof(name, count):
     text = HEAD.format(
         name=name,
         how="each entry is computed",
-        uses="use mathlib.Core.Path.{refl, sym, ap}\nuse Rattle·number_crc_rows·proofs.proofs.Rows.{at, last}\n",
+        uses="use mathlib.Core.Path.{refl, sym, ap}\nuse Rattle.number_crc_rows.proofs.Rows.{at, last}\n",
     )
-    text += NEED
     for nibble in range(16):
-        name_of = returns(nibble)
-        text += f"\n{name_of} : tie.Need-{name_of}\nunfolding steps bitStep polynomial\n{name_of} c = sym (ap (steps {count}) {where(16, nibble)})\n"
-    return text + spec(name, 16)
+        name_of = returns(16, nibble)
+        text += f"\npub {name_of} : goal.{name_of}\nunfolding steps bit_step polynomial\n{name_of} c = sym (ap (steps {count}) {where(16, nibble)})\n"
+    return text
 
 
 def main():
     source = SOURCE.format(
         fields="".join(f"    pub {field(p)}: u64,\n" for p in FIELDS),
-        entries=" × ".join(f"(r .{field(p)} ≡ two {p[0]} {p[1]} n)" for p in FIELDS),
+        entries=" × ".join(f"(result.{field(p)} ≡ two {p[0]} {p[1]} n)" for p in FIELDS),
         row_arms=arms(256, row),
         eight_arms=arms(16, lambda i: literal(steps(8, i), 8)),
         four_arms=arms(16, lambda i: literal(steps(4, i), 8)),
@@ -162,7 +148,7 @@ def main():
         ("nibble_after_4", nibble_proof("nibble_after_4", 4)),
     ):
         (ROOT / "proofs" / name).mkdir(parents=True, exist_ok=True)
-        (ROOT / "proofs" / name / "Proof.antt").write_text(text)
+        (ROOT / "proofs" / name / "Answers.antt").write_text(text)
 
 
 if __name__ == "__main__":

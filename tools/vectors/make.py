@@ -131,11 +131,11 @@ def record(name, data):
 
 def source():
     """A record's first letter says to the program what its bytes are."""
-    out = ["// The vectors of numbers, made by tools/vectors/make.py. A record: name, blank, length byte, bytes.\nuse crate::table;\n\npub fn run() {\n"]
+    out = ["// The vectors of numbers, made by tools/vectors/make.py. A record: name, blank, length byte, bytes.\nuse crate::table;\nuse std::io;\n\npub fn run(rt: &impl Print) -> io::Result<()> {\n"]
     for text, records in TABLES:
         rows = [row for r in records for row in record(r.name, r.data)]
         out.append(f"    // {text}\n" + "".join(f"    //   {r.name}: {r.remark}\n" for r in records))
-        out.append("    table::run(b\"" + "\\\n    ".join(rows) + "\");\n")
+        out.append("    table::run(rt, b\"" + "\\\n    ".join(rows) + "\")" + ("" if records is TABLES[-1][1] else "?;") + "\n")
     return "".join(out) + "}\n"
 
 
