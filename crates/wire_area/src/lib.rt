@@ -30,7 +30,7 @@ pub struct Fields {
 }
 
 // A fragment: where it belongs in the original, and where its bytes stand in the packet.
-#[derive(Drop)]
+#[derive(Clone, Copy)]
 pub struct Fragment {
     pub identification: u32,
     pub place: OriginalOffset,

@@ -1,4 +1,6 @@
 // What a reading says: the user data's extent, the verdict on the surplus area, the options and what the APCs say.
+#![tactic(auto)]
+
 ghost use Rattle.std.specs.Prelude.{◌≡◌, ◌-◌, ◌≤◌, length, drop};
 ghost use Rattle.number_octets.specs.Octets.{part};
 ghost use Rattle.number_offsets.specs.Offsets.{udp_header};
@@ -15,14 +17,14 @@ use wire_surplus::Start;
 
 // Bytes of a packet, counted from its UDP header.
 #[repr(C)]
-#[derive(Drop)]
+#[derive(Clone, Copy)]
 pub struct Extent {
     pub from: PacketOffset,
     pub to: PacketOffset,
 }
 
 // What the APC options say of the user data: none there, all right, or one that differs.
-#[derive(Drop)]
+#[derive(Clone, Copy)]
 pub enum Apc {
     Absent,
     Right,
@@ -31,7 +33,7 @@ pub enum Apc {
 
 // The verdict on the surplus area, in document 01's words; `Bare` is its "none". In the order of the numbers that hosts get. A fault of the list
 // has the offset where it was met.
-#[derive(Drop)]
+#[derive(Clone, Copy)]
 pub enum Verdict {
     Bare,
     Short,
