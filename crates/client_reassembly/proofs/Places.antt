@@ -162,8 +162,13 @@ module _ (o : Arrival) (xs : List Assembly) where
       go true e =
           let h = key-within e in
           let k : first_index (matches o) xs < length xs = omega (arith, place-of-key e) in
-          let l = (both_true _ _ (first_passes (matches o) xs fresh_assembly k)).0 in
-          let below : place_for o xs < n = omega (arith, place-of-key e, live_below n xs (first_index (matches o) xs) fresh_assembly planned k l) in
+          let below : place_for o xs < n =
+          omega (
+            arith,
+            place-of-key e,
+            live_below n xs (first_index (matches o) xs) fresh_assembly planned k
+                (both_true _ _ (first_passes (matches o) xs fresh_assembly k)).0,
+          ) in
           ap (λ (b : Bool). not b && leb n (live_count xs)) e ∙ sym (lt-leb n (place_for o xs) below)
       go false e =
           ap (λ (b : Bool). not b && leb n (live_count xs)) e ∙ full (leb n (free-at xs)) refl ∙ sym (ap (leb n) (place-free e))

@@ -1,5 +1,7 @@
 // One client's record by value (document 01, "The table"): its clock and its account, and the values that its calls take and answer. Where a
 // fragment belongs is `client_placement`'s, the fragment call itself `client_offer::offer`; refusals 20, 21 and 32 belong to the table.
+#![tactic(auto)]
+
 ghost use Rattle.std.specs.Prelude.{◌≡◌, true, map};
 ghost use Rattle.client_record.specs.Lists.{sum};
 ghost use Rattle.client_record.specs.Record.{sound_record};
@@ -63,7 +65,7 @@ pub struct Step {
 }
 
 // A fragment that a client offers (document 01's piece call), without its bytes.
-#[derive(Drop)]
+#[derive(Clone, Copy)]
 pub struct Arrival {
     pub time: u64,
     pub flow: Flow,
