@@ -1,4 +1,6 @@
 // Where a fragment belongs in a client's record, what becomes of it there, and the record after each fate (document 01, "The table").
+#![tactic(auto)]
+
 ghost use Rattle.std.specs.Prelude.{◌≡◌, not, ◌<◌, length};
 ghost use Rattle.client_record.specs.Limits.{fragment_limit};
 ghost use Rattle.client_record.specs.Lists.{same_bytes, any};
@@ -24,6 +26,7 @@ fn matches(a: Assembly, o: Arrival) -> bool
 }
 
 // The place of the assembly with the offer's key; past the places if there is none.
+#[tactic(auto, unfolding(client_record::specs::Limits::assembly_limit))]
 fn find(c: Client, o: Arrival) -> usize
     ensures { result ≡ first_index (matches o) c.assemblies }
 {
@@ -39,6 +42,7 @@ fn find(c: Client, o: Arrival) -> usize
 }
 
 // The lowest free place; past the places if there is none.
+#[tactic(auto, unfolding(client_record::specs::Limits::assembly_limit))]
 fn lowest_free(c: Client) -> usize
     ensures { result ≡ first_index (λ a. not (live a)) c.assemblies }
 {
@@ -81,6 +85,7 @@ fn opening(o: Arrival) -> Assembly
 }
 
 // The assembly at place `p`, or the one that the offer opens there.
+#[tactic(auto, unfolding(client_record::specs::Limits::assembly_limit))]
 pub fn assembly_for(c: Client, p: usize, o: Arrival) -> Assembly
     requires { PlaceFor c o p }
     ensures { result ≡ assembly_for o p c.assemblies }
@@ -113,6 +118,7 @@ fn alike(f: Fragment, g: Fragment) -> bool
 }
 
 // Some held fragment is alike.
+#[tactic(auto, unfolding(client_record::specs::Limits::fragment_limit))]
 fn alike_any(a: Assembly, f: Fragment) -> bool
     ensures { result ≡ any (alike f) (held_fragments a) }
 {
@@ -153,6 +159,7 @@ pub fn repeats(a: Assembly, f: Fragment, kept: &[u8], bytes: &[u8]) -> bool
 }
 
 // The assembly with the fragment listed after the earlier ones.
+#[tactic(auto, unfolding(client_record::specs::Limits::fragment_limit))]
 pub fn added(a: Assembly, f: Fragment) -> Assembly
     requires { a.count < fragment_limit }
     ensures { result ≡ added a f }
@@ -166,6 +173,7 @@ pub fn added(a: Assembly, f: Fragment) -> Assembly
 
 // ---- the record after each fate of a fragment of `n` bytes
 
+#[tactic(auto, unfolding(client_record::specs::Limits::offered_limit, client_record::specs::Record::figure_sum))]
 pub fn rejecting(c: Client, n: u64) -> Client
     requires { Room c n }
     ensures { result ≡ rejecting n c }
@@ -176,6 +184,7 @@ pub fn rejecting(c: Client, n: u64) -> Client
     d
 }
 
+#[tactic(auto, unfolding(client_record::specs::Limits::offered_limit, client_record::specs::Record::figure_sum))]
 pub fn repeating(c: Client, n: u64) -> Client
     requires { Room c n }
     ensures { result ≡ repeating n c }
@@ -187,6 +196,7 @@ pub fn repeating(c: Client, n: u64) -> Client
 }
 
 // The assembly `a` at place `p` ends in a conflict.
+#[tactic(auto, unfolding(client_record::specs::Limits::offered_limit, client_record::specs::Limits::assembly_limit, client_record::specs::Record::figure_sum))]
 pub fn conflicting(c: Client, p: usize, a: Assembly, n: u64) -> Client
     requires { Ending c p a n }
     ensures { result ≡ conflicting p a n c }
@@ -202,6 +212,7 @@ pub fn conflicting(c: Client, p: usize, a: Assembly, n: u64) -> Client
 }
 
 // The assembly `a` at place `p` ends in a delivery.
+#[tactic(auto, unfolding(client_record::specs::Limits::offered_limit, client_record::specs::Limits::assembly_limit, client_record::specs::Record::figure_sum))]
 pub fn delivering(c: Client, p: usize, a: Assembly, n: u64) -> Client
     requires { Ending c p a n }
     ensures { result ≡ delivering p a n c }
@@ -217,6 +228,7 @@ pub fn delivering(c: Client, p: usize, a: Assembly, n: u64) -> Client
 }
 
 // The assembly at place `p` is `b`, with the fragment.
+#[tactic(auto, unfolding(client_record::specs::Limits::offered_limit, client_record::specs::Limits::assembly_limit, client_record::specs::Record::figure_sum))]
 pub fn storing(c: Client, p: usize, b: Assembly, n: u64) -> Client
     requires { Storing c p n }
     ensures { result ≡ storing p b n c }
