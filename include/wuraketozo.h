@@ -1,5 +1,5 @@
 /* Wuraketozo for C: the proved reader, writer and reassembly table as one static library (target/staticlib/libhost_calls.a, made by
- * `rt staticlib host_calls`).
+ * `make library`).
  *
  * Numbers are those of the papers: a `refusal` is 0, or the number of the first test that applies. What a call answers and what it
  * leaves in every buffer and record is proved for every value of its arguments; docs/CLAIMS.md says where.

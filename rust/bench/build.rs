@@ -1,5 +1,5 @@
 //! Links the proved static library `libhost_sums.a`. It is looked for in the
-//! directory WURAKETOZO_LIB, or else where `rt staticlib host_sums` writes it.
+//! directory WURAKETOZO_LIB, or else where `make sums` writes it.
 
 use std::env;
 use std::path::PathBuf;
@@ -18,7 +18,7 @@ fn main() {
     println!("cargo:rerun-if-changed={}", library.display());
     if !library.is_file() {
         println!(
-            "cargo:warning={} is missing: make it with `rt staticlib host_sums`, or name its directory in WURAKETOZO_LIB",
+            "cargo:warning={} is missing: make it with `make sums`, or name its directory in WURAKETOZO_LIB",
             library.display()
         );
     }
