@@ -1,4 +1,6 @@
 // Where the fault of a verdict was met.
+#![tactic(auto)]
+
 ghost use Rattle.std.specs.Prelude.{◌≡◌};
 ghost use Rattle.wire_reading.specs.Verdict.{fault_at};
 ghost use Rattle.wire_faults.specs.Offset.{offset_from};
