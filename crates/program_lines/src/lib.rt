@@ -1,4 +1,6 @@
 // The lines of an option list.
+#![tactic(auto)]
+
 ghost use Rattle.std.specs.Prelude.{◌≡◌, true, ◌++◌, ◌∷◌, [], ◌+◌, ◌-◌, ◌≤◌, ◌<◌, length};
 ghost use Rattle.number_octets.specs.Octets.{part};
 ghost use Rattle.wire_step.specs.Step.{step_of};
