@@ -39,7 +39,7 @@ use Rattle.client_reassembly.proofs.Places.{live_below}
 use Rattle.client_reassembly.proofs.Steady.{empty-bytes}
 use Rattle.client_ledger.specs.Book.{Key, Content, Entry, size, total, held_bytes, same_key, mine, others}
 use Rattle.client_ledger.specs.Stands.{key_of, owns, at, content_of, Agrees}
-use Rattle.client_ledger.proofs.Keys.{same_key, key-same, mine-left, mine-others, no-entries}
+use Rattle.client_ledger.proofs.Keys.{same_key_lem, key-same, mine-left, mine-others, no-entries}
 use Rattle.client_ledger.proofs.Sum.{mine-bytes}
 
 -- ---- a sum whose parts agree
@@ -62,7 +62,7 @@ pub differs : (k j : Key) → same_key k j ≡ false → same_key j k ≡ false
 differs k j d = go (same_key j k) refl
   where
     go : (b : Bool) → same_key j k ≡ b → b ≡ false
-    go true h = absurd (true-false (sym (key-same k) ∙ ap (same_key k) (sym (same_key j k h)) ∙ d))
+    go true h = absurd (true-false (sym (key-same k) ∙ ap (same_key k) (sym (same_key_lem j k h)) ∙ d))
     go false h = refl
 
 -- a live assembly that a key does not own has another key
@@ -122,7 +122,7 @@ module _ (F : List Entry → ℕ) (G : List Content → ℕ) (nothing : F [] ≡
       rest-known j e = by (same_key k j) refl
         where
           by : (b : Bool) → same_key k j ≡ b → mine j (others k es) ≡ []
-          by true m = subst (λ (i : Key). mine i (others k es) ≡ []) (same_key k j m) (mine-left k es)
+          by true m = subst (λ (i : Key). mine i (others k es) ≡ []) (same_key_lem k j m) (mine-left k es)
           by false m = mine-others k es j m ∙ h j (owned-else j a xs (not-same-owned j a (differs k j m)) e)
 
       go : (b : Bool) → live a ≡ b

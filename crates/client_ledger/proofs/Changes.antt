@@ -26,11 +26,10 @@ use Rattle.client_reassembly.specs.Offer.{fragment_of, added, base, start_of}
 use Rattle.client_reassembly.proofs.Joins.{held-added}
 use Rattle.client_reassembly.proofs.Kept.{any_at}
 use Rattle.client_reassembly.proofs.Lasting.{slots-of}
-use Rattle.client_ledger.specs.Book
 use Rattle.client_ledger.specs.Book.{Key, Content, Entry, Book, same_key, of, mine, others, opened_at, entry, with}
 use Rattle.client_ledger.specs.Stands.{key_of, owns, at, content_of, Shows, Agrees, Stands, offer_of}
 use Rattle.client_ledger.proofs.Keys.{
-  same_key,
+  same_key_lem,
   own_key,
   mine-left,
   mine-others,
@@ -206,7 +205,7 @@ module _ (c : Client) (share : List ℕ) (b : Book) (st : Stands c share b) (e :
       known j q = go (same_key e.key j) refl
         where
           go : (t : Bool) → same_key e.key j ≡ t → mine j (others e.key b.open_ones) ≡ []
-          go true t = subst (λ (i : Key). mine i (others e.key b.open_ones) ≡ []) (same_key e.key j t) (mine-left e.key b.open_ones)
+          go true t = subst (λ (i : Key). mine i (others e.key b.open_ones) ≡ []) (same_key_lem e.key j t) (mine-left e.key b.open_ones)
           go false t =
               mine-others e.key b.open_ones j t
               ∙ st.agrees.known j (any-back (owns j) xs p fresh_assembly fresh_assembly q (at_home.place j t))

@@ -50,7 +50,7 @@ use Rattle.client_ledger.specs.Book.{
   call,
 }
 use Rattle.client_ledger.specs.Stands.{key_of, owns, at, Shows, Agrees, Shaped, Stands, Follows}
-use Rattle.client_ledger.proofs.Keys.{same_key, of-key, mine-kept, opened-kept, mine-dropped, mine-none}
+use Rattle.client_ledger.proofs.Keys.{same_key_lem, of-key, mine-kept, opened-kept, mine-dropped, mine-none}
 use Rattle.client_ledger.proofs.Sum.{keep-bytes}
 use Rattle.client_ledger.proofs.Agreement.{held-sum}
 
@@ -178,7 +178,7 @@ module _ (t : ℕ) (share : List ℕ) (es : List Entry) (xs : List Assembly) (ag
       l = (both_true (live (at xs p)) (same_key k (key_of (at xs p))) m).0
 
       e : k ≡ key_of (at xs p)
-      e = same_key k (key_of (at xs p)) (both_true (live (at xs p)) (same_key k (key_of (at xs p))) m).1
+      e = same_key_lem k (key_of (at xs p)) (both_true (live (at xs p)) (same_key k (key_of (at xs p))) m).1
 
       go : (b : Bool) → old t (at xs p) ≡ b → live (cond b fresh_assembly (at xs p)) && same_key k (key_of (cond b fresh_assembly (at xs p))) ≡ false
           → mine k (keep (λ e. not (outdated t es e)) es) ≡ []

@@ -18,7 +18,7 @@ use Rattle.client_record.specs.Lists.{all}
 use Rattle.client_record.specs.Record.{fresh_assembly, is_last, end, fits, covered_to, last_of, live, held_fragments, bytes_held, sound_record}
 use Rattle.client_record.proofs.Lists.{all_append}
 use Rattle.client_reassembly.specs.declared.Arrival.{Arrival}
-use Rattle.client_reassembly.specs.Answer.{stored, repeated, delivered}
+use Rattle.client_reassembly.specs.Answer.{stored, delivered}
 use Rattle.client_reassembly.specs.Shapes.{slotted}
 use Rattle.client_reassembly.specs.Offer
 use Rattle.client_reassembly.specs.Offer.{Outcome, fragment_of, added, base, start_of}

@@ -29,7 +29,7 @@ use Rattle.client_reassembly.proofs.Lasting.{slots-of, fresh-slotted}
 use Rattle.client_ledger.specs.Book
 use Rattle.client_ledger.specs.Book.{Key, Content, Entry, Book, same_key, mine, opened_at, keys, entry}
 use Rattle.client_ledger.specs.Stands.{key_of, owns, at, content_of, Stands, offer_of}
-use Rattle.client_ledger.proofs.Keys.{same_key, own_key, opened-first, opened-later, some, keys-split}
+use Rattle.client_ledger.proofs.Keys.{same_key_lem, own_key, opened-first, opened-later, some, keys-split}
 use Rattle.client_ledger.proofs.Agreement.{parts-sum, sum-at, differs, not-owned, not-live-owned, not-same-owned, live-count, live-sound, parts-fit}
 
 -- the key that an arrival has
@@ -50,7 +50,7 @@ owned-live k a e = (both_true (live a) (same_key k (key_of a)) e).0
 
 pub owned-key : (k : Key) (a : Assembly) → owns k a ≡ true → k ≡ key_of a
 unfolding owns
-owned-key k a e = same_key k (key_of a) (both_true (live a) (same_key k (key_of a)) e).1
+owned-key k a e = same_key_lem k (key_of a) (both_true (live a) (same_key k (key_of a)) e).1
 
 pub held-length : (a : Assembly) → slotted a ≡ true → a.count ≤ fragment_limit → length (held_fragments a) ≡ a.count
 unfolding held_fragments

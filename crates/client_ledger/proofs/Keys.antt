@@ -16,36 +16,36 @@ use Rattle.client_ledger.specs.Book.{Key, Content, Entry, same_key, of, mine, ke
 
 -- ---- keys
 
-pub same_bytes : (a b : List ℕ) → same_bytes a b ≡ true → a ≡ b
+pub same_bytes_lem : (a b : List ℕ) → same_bytes a b ≡ true → a ≡ b
 unfolding same_bytes
-same_bytes [] [] e = refl
-same_bytes [] (y ∷ b) e = cc
-same_bytes (x ∷ a) [] e = cc
-same_bytes (x ∷ a) (y ∷ b) e = let t = both_true (eqb x y) (same_bytes a b) e in ap₂ ◌∷◌ (eqb-true x y t.0) (same_bytes a b t.1)
+same_bytes_lem [] [] e = refl
+same_bytes_lem [] (y ∷ b) e = cc
+same_bytes_lem (x ∷ a) [] e = cc
+same_bytes_lem (x ∷ a) (y ∷ b) e = let t = both_true (eqb x y) (same_bytes a b) e in ap₂ ◌∷◌ (eqb-true x y t.0) (same_bytes_lem a b t.1)
 
 pub bytes_same : (a : List ℕ) → same_bytes a a ≡ true
 unfolding same_bytes
 bytes_same [] = refl
 bytes_same (x ∷ a) = ap₂ ◌&&◌ (eq-eqb x x refl) (bytes_same a)
 
-same_flow : (x y : Flow) → same_flow x y ≡ true → x ≡ y
+same_flow_lem : (x y : Flow) → same_flow x y ≡ true → x ≡ y
 unfolding same_flow
-same_flow x y e =
+same_flow_lem x y e =
     let ports : Bool = eqb x.source_port y.source_port && eqb x.destination_port y.destination_port in
     let one = both_true (same_bytes x.source y.source) (same_bytes x.destination y.destination && ports) e in
     let two = both_true (same_bytes x.destination y.destination) ports one.1 in
     let three = both_true (eqb x.source_port y.source_port) (eqb x.destination_port y.destination_port) two.1 in
-    let s : x.source ≡ y.source = same_bytes _ _ one.0 in
-    let d : x.destination ≡ y.destination = same_bytes _ _ two.0 in
+    let s : x.source ≡ y.source = same_bytes_lem _ _ one.0 in
+    let d : x.destination ≡ y.destination = same_bytes_lem _ _ two.0 in
     let p : x.source_port ≡ y.source_port = eqb-true _ _ three.0 in
     let q : x.destination_port ≡ y.destination_port = eqb-true _ _ three.1 in
     λ i. record { source = s i; destination = d i; source_port = p i; destination_port = q i }
 
-pub same_key : (k j : Key) → same_key k j ≡ true → k ≡ j
+pub same_key_lem : (k j : Key) → same_key k j ≡ true → k ≡ j
 unfolding same_key
-same_key k j e =
+same_key_lem k j e =
     let t = both_true (same_flow k.flow j.flow) (eqb k.identification j.identification) e in
-    let f : k.flow ≡ j.flow = same_flow _ _ t.0 in
+    let f : k.flow ≡ j.flow = same_flow_lem _ _ t.0 in
     let n : k.identification ≡ j.identification = eqb-true _ _ t.1 in
     λ i. record { flow = f i; identification = n i }
 
@@ -62,10 +62,10 @@ key-same k = ap₂ ◌&&◌ (flow-same k.flow) (eq-eqb k.identification k.identi
 
 -- the tests hold exactly of equal flows, and of equal keys; of the addresses nothing is asked
 pub same-flow-exactly : (x y : Flow) → (same_flow x y ≡ true) ↔ (x ≡ y)
-same-flow-exactly x y = (same_flow x y, λ e. ap (same_flow x) (sym e) ∙ flow-same x)
+same-flow-exactly x y = (same_flow_lem x y, λ e. ap (same_flow x) (sym e) ∙ flow-same x)
 
 pub same-key-exactly : (k j : Key) → (same_key k j ≡ true) ↔ (k ≡ j)
-same-key-exactly k j = (same_key k j, λ e. ap (same_key k) (sym e) ∙ key-same k)
+same-key-exactly k j = (same_key_lem k j, λ e. ap (same_key k) (sym e) ∙ key-same k)
 
 pub own_key : (x : Entry) → of x.key x ≡ true
 unfolding of
@@ -73,7 +73,7 @@ own_key x = key-same x.key
 
 pub of-key : (k : Key) (x : Entry) → of k x ≡ true → k ≡ x.key
 unfolding of
-of-key k x m = same_key k x.key m
+of-key k x m = same_key_lem k x.key m
 
 of-differ : (k : Key) (x : Entry) → of k x ≡ false → same_key k x.key ≡ false
 unfolding of
@@ -85,7 +85,7 @@ unfolding of
 apart k j e d m = go (same_key k e.key) refl
   where
     go : (b : Bool) → same_key k e.key ≡ b → b ≡ false
-    go true h = sym (sym d ∙ ap (same_key k) (same_key j e.key m) ∙ h)
+    go true h = sym (sym d ∙ ap (same_key k) (same_key_lem j e.key m) ∙ h)
     go false h = refl
 
 -- ---- what is kept, key by key

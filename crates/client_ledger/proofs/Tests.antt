@@ -23,7 +23,7 @@ use Rattle.client_reassembly.specs.Offer.{fragment_of, alike, base, start_of}
 use Rattle.client_ledger.specs.Book
 use Rattle.client_ledger.specs.Book.{Book, size, end_of, overlap, contradicts, within, complete, entry}
 use Rattle.client_ledger.specs.Stands.{content_of, offer_of}
-use Rattle.client_ledger.proofs.Keys.{same_bytes}
+use Rattle.client_ledger.proofs.Keys.{same_bytes_lem}
 use Rattle.client_ledger.proofs.Agreement.{content-size}
 use Rattle.client_ledger.proofs.Home.{Home, held-length}
 
@@ -129,7 +129,7 @@ module _ {plan : ℕ} (share : List ℕ) (p : ℕ) (type_size : length share ≡
         unlike n true t =
             absurd
             (eqb-false (length bytes) g.length n
-            (ap length (same_bytes bytes (part (base p + g.offset) g.length share) t) ∙ content-size share p type_size h g e))
+            (ap length (same_bytes_lem bytes (part (base p + g.offset) g.length share) t) ∙ content-size share p type_size h g e))
         unlike n false t = refl
 
         go : (x y : Bool) → eqb o.offset.0 g.offset ≡ x → eqb (length bytes) g.length ≡ y

@@ -41,7 +41,7 @@ module _ (e : Entry) (out : List ℕ) (b : Book) where
           record {
             last = l;
             found = f;
-            length-is = i;
+            length_is = i;
             start_is = j;
             all_there = subst (λ (m : ℕ). complete m (with e b) ≡ true) i c;
           },
