@@ -230,7 +230,7 @@ module _ (t : Table) (cs : List Call) (terms : Terms t (all_events cs)) (k : ℕ
           ∙ demand-3.untouched t (all_events cs) terms k (arrival_of p.payload p.source p.destination p.time f) (bytes_of p.payload f) out
           (λ n r d. never n r (fate-is f e ∙ ap offered d))
 
-  never_22 : (receive_on k p out (table_after t cs)).fate ≡ offered (refused 22) → ⊥
+  never-22 : (receive_on k p out (table_after t cs)).fate ≡ offered (refused 22) → ⊥
   never-22 q = go (piece_in (reading_of p)) refl
     where
       silent : (a : Answer) → fate_of a ≡ offered (refused 22) → ⊥

@@ -147,7 +147,7 @@ module _ (t : Table) (es : List Event) (terms : Terms t es) where
       (subst (λ (u : Table). k < length u.records) table_is in-it))
 
   -- refusal 22
-  never_22 : (k : ℕ) (a : Ask) → (ask_on k a (table_after t es)).reply ≡ refused 22 → ⊥
+  never-22 : (k : ℕ) (a : Ask) → (ask_on k a (table_after t es)).reply ≡ refused 22 → ⊥
   never-22 k a = go (ltb k (length (table_after t es).records)) refl
     where
       go : (x : Bool) → ltb k (length (table_after t es).records) ≡ x → (ask_on k a (table_after t es)).reply ≡ refused 22 → ⊥
