@@ -1,4 +1,6 @@
 // Rereading an original that was reassembled from fragments.
+#![tactic(auto)]
+
 ghost use Rattle.std.specs.Prelude.{◌≡◌, ◌≤◌, length, drop};
 ghost use Rattle.wire_options.specs.Walk.{option_limit};
 ghost use Rattle.wire_options.specs.Strict.{walk_by};
@@ -16,7 +18,7 @@ pub const ORIGINAL_LIMIT: usize = 65507;
 
 // Bytes of an original, counted from its first user byte.
 #[repr(C)]
-#[derive(Drop)]
+#[derive(Clone, Copy)]
 pub struct OriginalExtent {
     pub from: OriginalOffset,
     pub to: OriginalOffset,
