@@ -1,3 +1,1 @@
 pub mod Surveys
-pub mod ClientKind
-pub mod Lent

@@ -4,7 +4,6 @@ use Rattle.std.proofs.Math.Option.{Option, none, some}
 use Rattle.number_tests.specs.Tests.{first_of}
 use Rattle.client_record.specs.Limits.{share_size, assembly_limit, client_limit}
 use Rattle.client_reassembly.specs.declared.Answer.{Answer}
-use Rattle.client_reassembly.specs.declared.Answer.TheVariants as Answer
 use Rattle.client_reassembly.specs.Answer.{number_of}
 use Rattle.client_ledger.specs.History.{Lent}
 use Rattle.table_rules.specs.Table.{ask_tests, share_start}

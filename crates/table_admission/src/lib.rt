@@ -1,5 +1,7 @@
 // What every call on a table meets first, in this order: document 01's 20 for the record count, document 02's 32 for the plans, 20 for the
 // store's length, and then 21. It looks at the plan of every record and copies no record.
+#![tactic(auto)]
+
 ghost use Rattle.std.specs.Prelude.{◌≡◌, cond, ltb, length};
 ghost use Rattle.table_rules.specs.Table.{counted, in_range, plans_of};
 ghost use Rattle.table_admission.specs.Admission.{admitted, start_in, refusal_in, is_none, Places, Grants, Admits};
@@ -107,7 +109,6 @@ pub fn start_of(a: Admission) -> usize
     }
 }
 
-// By hand from here on.
 // The tests of a call of client `k` on these records and a store of `bytes` bytes.
 pub fn admit(records: &[Client], bytes: usize, k: usize) -> Admission
     ensures { Admits (record { count = length records.now; bytes = bytes; plans = plans_of records.now }) k result }
