@@ -1,5 +1,7 @@
 // The fragment call of one client (document 01, "The table": piece, from refusal 22 on): its record by value, and its share of the
 // store.
+#![tactic(auto)]
+
 ghost use Rattle.std.specs.Prelude.{◌≡◌};
 ghost use Rattle.number_tests.specs.Tests.{first_of};
 ghost use Rattle.client_reassembly.specs.Offer.{offer_tests, fragment_of, joined, placed, taken, fragment_on};
