@@ -1,5 +1,5 @@
 -- The payload that the writer makes (document 01, "Dockets and the writer").
-use Rattle.std.specs.Prelude.{Bool, true, cond, List, [], ◌∷◌, ◌++◌, ℕ, ◌+◌, eqb, leb, length, replicate}
+use Rattle.std.specs.Prelude.{Bool, cond, List, [], ◌∷◌, ◌++◌, ℕ, ◌+◌, eqb, leb, length, replicate}
 use Rattle.number_octets.specs.Octets.{octets}
 use Rattle.number_offsets.specs.Offsets.{udp_header}
 use Rattle.number_checksum.specs.Checksum.{word_sum, folded, sent}
