@@ -1,0 +1,30 @@
+-- `list_wire::apc::crc_for` meets its contract: where no option is an APC, any CRC gives the same wires.
+use mathlib.Core.Path.{sym, ap, ◌∙◌}
+use Prim.Native.Nat.{ℕ}
+use lib.ListN.{drop}
+use Rattle.number_crc32c.specs.Crc.{crc_of}
+use Rattle.list_entry.proofs.Places.{ValueAt, value_there, none-there}
+use Rattle.list_wire.specs.Parts.{wires_listed}
+use Rattle.list_wire.proofs.Listed.{no-apc, listed-counted, listed-uncounted}
+use Rattle.list_entry.specs.Answer.{field_answer}
+use Rattle.list_wire.proofs.apc.crc_for.Goals as goal
+use Rattle.list_wire.proofs.apc.crc_for.Goals.{Else-has_apc}
+
+count : (c : Else-has_apc) → let v = c.in-Value in
+    ValueAt 33 c.args.list.now 0 v.value v.next
+count c =
+    value_there _ _ _ _ _ (sym c.number_at-number.ensures ∙ ap field_answer c.in-Value.is)
+
+pub returns-then-has_apc : goal.returns-then-has_apc
+returns-then-has_apc c = ap (λ (n : ℕ). wires_listed n c.args.list.now) c.crc32c.ensures
+
+pub returns-else-has_apc : goal.returns-else-has_apc
+returns-else-has_apc c = let v = c.in-Value in
+    let crc : ℕ = crc_of c.args.«data».now in
+    listed-counted 0 (count c)
+    ∙ no-apc 0 crc v.value (drop v.next c.args.list.now) (sym c.has_apc.ensures ∙ c.if-has_apc.false)
+    ∙ sym (listed-counted crc (count c))
+
+pub returns-in-Refused : goal.returns-in-Refused
+returns-in-Refused c = let e = none-there _ _ _ (sym c.number_at-number.ensures ∙ ap field_answer c.in-Refused.is) in
+    listed-uncounted 0 c.args.list.now _ e ∙ sym (listed-uncounted (crc_of c.args.«data».now) c.args.list.now _ e)
