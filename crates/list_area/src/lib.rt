@@ -1,4 +1,6 @@
 // The surplus area, laid over a buffer whose first byte is that of the UDP header.
+#![tactic(auto)]
+
 ghost use Rattle.std.specs.Prelude.{◌≡◌, ◌++◌, ◌+◌, ◌-◌, ◌%◌, ◌≤◌, length, drop, replicate};
 ghost use Rattle.number_octets.specs.Octets.{octets, part, overlay};
 ghost use Rattle.number_checksum.specs.Checksum.{word_sum, folded, sent};
