@@ -1,6 +1,8 @@
 // Readings as values of include/wuraketozo.h, and as much of one as its listing looks at. A refusal is 0, or document 01's number. What a value
 // does not say is 0. Positions keep their types: an `Extent` is bytes of a payload, a `PacketOffset` counts from a UDP header, an `OriginalOffset` is
 // a place in an original.
+#![tactic(auto)]
+
 ghost use Rattle.std.specs.Prelude.{◌≡◌};
 ghost use Rattle.wire_reading.specs.Verdict.{verdict_says, fault_at, apc_says};
 ghost use Rattle.wire_datagram.specs.Reading.{answer_of, refusal_number};

@@ -1,5 +1,7 @@
 // Rereadings as values of include/wuraketozo.h, and as much of one as its listing looks at. A refusal is 0, or document 01's number. What a value
 // does not say is 0. Positions keep their types: an `OriginalExtent` is places in an original, a `PacketOffset` counts from its UDP header.
+#![tactic(auto)]
+
 ghost use Rattle.std.specs.Prelude.{◌≡◌};
 ghost use Rattle.wire_original.specs.Rereading.{places, re_answer_of, re_refusal_number};
 ghost use Rattle.host_rereadings.specs.Rereading.{unreread, rereading_from, host_rereading};

@@ -1,4 +1,6 @@
 // The line of a verdict in a report (document 01, "The program").
+#![tactic(auto)]
+
 ghost use Rattle.std.specs.Prelude.{◌≤◌, length};
 ghost use Rattle.wire_faults.specs.Offset.{offset_from};
 ghost use Rattle.program_text.specs.Put.{Put};
