@@ -13,7 +13,7 @@ use number_offsets::OriginalOffset;
 
 // Why a call changes nothing (document 01's 20 to 28 and document 02's 32; 20, 21 and 32 are the table's), or a fragment is turned
 // away (29, 30).
-#[derive(Drop)]
+#[derive(Clone, Copy)]
 pub enum Refusal {
     TableMisfit,
     NoSuchClient,
@@ -30,7 +30,7 @@ pub enum Refusal {
 }
 
 // A client's account (document 01's bill).
-#[derive(Drop)]
+#[derive(Clone, Copy)]
 pub struct Figures {
     pub offered: u64,
     pub held: u64,
@@ -42,7 +42,7 @@ pub struct Figures {
 }
 
 // What the table's calls answer; `Reset` is that of a set-up.
-#[derive(Drop)]
+#[derive(Clone, Copy)]
 pub enum Answer {
     Refused(Refusal),
     Reset,
@@ -58,7 +58,7 @@ pub enum Answer {
 }
 
 // The record after a call, and the answer.
-#[derive(Drop)]
+#[derive(Clone, Copy)]
 pub struct Step {
     pub client: Client,
     pub answer: Answer,

@@ -10,7 +10,7 @@ use client_reassembly::{Answer, Refusal};
 use client_record::Client;
 
 // A refusal, or the first byte of the client's share of the store.
-#[derive(Drop)]
+#[derive(Clone, Copy)]
 pub enum Admission {
     Refused(Refusal),
     Granted(usize),

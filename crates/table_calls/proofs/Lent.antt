@@ -1,5 +1,0 @@
-pub mod account
-pub mod advance
-pub mod offer
-pub mod reset
-pub mod table_admission·admit
