@@ -1,4 +1,6 @@
 // The writer of an unfragmented datagram with options. Document 01, "Dockets and the writer".
+#![tactic(auto)]
+
 ghost use Rattle.std.specs.Prelude.{◌≡◌, ◌++◌, ◌+◌, ◌%◌, ◌≤◌, length};
 ghost use Rattle.list_writer.specs.Answer.{Wrote, fits, written, datagram_for};
 ghost use Rattle.list_wire.specs.Parts.{Laid, plainly, payload_from};
