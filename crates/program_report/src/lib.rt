@@ -1,4 +1,6 @@
 // The report on an IPv4 payload, as the program prints it (document 01, "The program"). It is read plainly.
+#![tactic(auto)]
+
 ghost use Rattle.std.specs.Prelude.{◌≡◌, ◌≤◌, length};
 ghost use Rattle.wire_datagram.specs.Reading.{refusal_number};
 ghost use Rattle.program_text.specs.Put.{Put};
