@@ -1,4 +1,6 @@
 // Listing a reading or a rereading as an encoded option list. Document 01, "Dockets and the writer".
+#![tactic(auto)]
+
 ghost use Rattle.std.specs.Prelude.{◌≡◌};
 ghost use Rattle.list_options.specs.Listing.{ListedInto};
 ghost use Rattle.list_readings.specs.Catalogue.{is_listed, walk_of_value};
