@@ -1,5 +1,6 @@
 // What the program prints of its input (document 01, "The program").
 #![tactic(auto)]
+
 ghost use Rattle.std.specs.Prelude.{◌≡◌, length};
 ghost use Rattle.program_printout.specs.Input.{input_limit, text_of, Holds};
 
