@@ -45,7 +45,6 @@ use Rattle.table_rules.specs.Table.{
 }
 use Rattle.table_rules.proofs.Facts.{fits, few-clients, granted-is, refused-leaves, reset-refused-leaves, reset-leaves}
 use Rattle.table_admission.specs.declared.Admission.{Admission}
-use Rattle.table_admission.specs.declared.Admission.TheVariants as Admission
 use Rattle.table_admission.specs.Admission.{admitted, start_in, refusal_in, is_none, Admits}
 
 -- ---- what a call leaves, by its admission

@@ -1,3 +1,1 @@
-pub mod ClientKind
-pub mod Lent
 pub mod Contracts

@@ -2,6 +2,8 @@
 // with a share for each, as long as the client's plan says. What every call meets first is `table_admission`'s. Behind it a call takes its
 // client's record out, lends the client's share of the store to the client's own rules, and puts the record back. No call asks anything of
 // its arguments: every refusal is an answer.
+#![tactic(auto)]
+
 ghost use Rattle.std.specs.Prelude.{◌≡◌, [], ◌≤◌};
 ghost use Rattle.client_record.specs.Limits.{assembly_limit, share_size};
 ghost use Rattle.client_record.specs.Record.{fresh_client};
@@ -47,7 +49,6 @@ fn answer_of(step: Step) -> Answer
     answer
 }
 
-// By hand from here on.
 // Document 01's set-up: every record is fresh, with the plan that it has, and the store stays.
 pub fn reset(records: &mut [Client], store: &[u8]) -> Answer
     ensures { Leaves (reset_on (table_of records.old store.now)) result records.new store.now [] }
