@@ -1,4 +1,6 @@
 // The options of a reading or a rereading one by one, as values of include/wuraketozo.h (document 02, R-7). What a value does not say is 0.
+#![tactic(auto)]
+
 ghost use Rattle.std.specs.Prelude.{◌≡◌};
 ghost use Rattle.host_readings.specs.Listable.{verdict_for};
 ghost use Rattle.host_options.specs.Options.{no_packet_option, packet_option, next_in, no_original_option, original_option, renext_in, Fits};

@@ -1,5 +1,6 @@
 // Writes a datagram with options, shows its bytes, reads it back, shows what the reader says, and lists the options back.
 #![tactic(auto)]
+
 use list_options::Listed;
 use list_writer::Written;
 use std::io;
@@ -29,7 +30,13 @@ fn main(rt: HostRuntime) -> io::Result<()> {
 }
 
 // The payload in hexadecimal, the reader's report on it, and its options as an encoded list.
-fn show(rt: &impl Print, buffer: &[u8], length: usize, source: [u8; 4], destination: [u8; 4]) -> io::Result<()> {
+fn show(
+    rt: &impl Print,
+    buffer: &[u8],
+    length: usize,
+    source: [u8; 4],
+    destination: [u8; 4],
+) -> io::Result<()> {
     if buffer.len() < length {
         return Ok(());
     }
