@@ -1,4 +1,2 @@
 pub mod Facts
-pub mod ClientKind
-pub mod Lent
 pub mod Packets

@@ -1,4 +1,5 @@
 // One call per datagram: it reads a payload and, if that is a fragment, offers the fragment to the table for the client.
+#![tactic(auto)]
 ghost use Rattle.std.specs.Prelude.{◌≡◌, ◌≤◌, length};
 ghost use Rattle.table_rules.specs.Table.{table_of};
 ghost use Rattle.wire_datagram.specs.Reading.{answer_of};
@@ -106,7 +107,6 @@ fn offered(answer: Answer) -> Received
     Received::Fragment(answer)
 }
 
-// By hand from here on.
 // Receives one datagram for client `k` at `time`, read plainly or strictly.
 pub fn receive(
     records: &mut [Client],

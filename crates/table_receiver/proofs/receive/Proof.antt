@@ -1,5 +1,5 @@
 -- `table_receiver::receive` meets its contract. In the fragment's arm the outcome is a reading with that fragment (`found`), whose bytes lie in the
--- payload; in the other the payload is no fragment, and nothing was touched. `tools/lent/transplant.py` makes the modules below.
+-- payload; in the other the payload is no fragment, and nothing was touched.
 -- Assumes nothing.
 use Prim.Native.Nat.{◌≤◌}
 use mathlib.Core.Path.{◌≡◌, sym, ◌∙◌}
@@ -10,17 +10,12 @@ use Rattle.table_receiver.specs.Receive.{Packet}
 use Rattle.table_rules.specs.Table.{table_of}
 use Rattle.table_receiver.proofs.Facts.{Met, met, other-leaves, fragment-leaves}
 use Rattle.table_receiver.proofs.receive.Statement.{statement}
-use Rattle.table_receiver.proofs.receive.Proof.Tie as tie
-use Rattle.table_receiver.proofs.receive.Proof.Lts as lts
-use Rattle.table_receiver.proofs.Lent.receive.Reads as reads
-mod Lts
-mod Tie
+use Rattle.table_receiver.proofs.receive.Tie as tie
 
 -- ---- the places on the way
 
 start : tie.After-read → tie.Start
 start c = c.before.before.before.before
-
 packet : tie.After-read → Packet
 packet c = let a = (start c).args in record { time = a.time; source = a.source; destination = a.destination; strictness = a.strictness; payload = a.payload.now }
 

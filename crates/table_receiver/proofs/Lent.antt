@@ -1,2 +1,0 @@
-pub mod receive
-pub mod table_calls·offer
