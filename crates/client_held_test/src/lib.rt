@@ -16,7 +16,7 @@ use client_record::{Assembly, Fragment};
 const WORDS: usize = (client_record::DATAGRAM_LIMIT + number_sets::WORD - 1) / number_sets::WORD;
 
 // Whether the record test passes, and then the bytes that are held.
-#[derive(Drop)]
+#[derive(Clone, Copy)]
 pub struct Tested {
     pub sound: bool,
     pub bytes: u32,

@@ -14,7 +14,7 @@ use number_offsets::OriginalOffset;
 
 // ---- what is asked of an offer
 
-#[derive(Drop)]
+#[derive(Clone, Copy)]
 enum Checked {
     Refused(Refusal),
     Passed,

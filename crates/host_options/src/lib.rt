@@ -12,7 +12,7 @@ use wire_reading::Extent;
 
 // What `wuraketozo_next` answers: an option of a payload, where it stands. The next one is looked for behind its body.
 #[repr(C)]
-#[derive(Drop)]
+#[derive(Clone, Copy)]
 pub struct PacketOption {
     pub found: u32,
     pub kind: u32,
@@ -22,7 +22,7 @@ pub struct PacketOption {
 
 // What `wuraketozo_renext` answers: an option of an original. Its offset counts from the UDP header, its body's places from the first user byte.
 #[repr(C)]
-#[derive(Drop)]
+#[derive(Clone, Copy)]
 pub struct OriginalOption {
     pub found: u32,
     pub kind: u32,

@@ -19,7 +19,7 @@ use wire_reading::{Apc, Extent, Verdict};
 
 // What `wuraketozo_read` answers.
 #[repr(C)]
-#[derive(Drop)]
+#[derive(Clone, Copy)]
 pub struct Reading {
     pub refusal: u32,
     pub verdict: u32,

@@ -13,7 +13,7 @@ use wire_reading::Apc;
 
 // What `wuraketozo_reread` answers.
 #[repr(C)]
-#[derive(Drop)]
+#[derive(Clone, Copy)]
 pub struct Rereading {
     pub refusal: u32,
     pub verdict: u32,

@@ -18,14 +18,14 @@ use number_offsets::OriginalOffset;
 
 // An IPv4 address.
 #[repr(C)]
-#[derive(Drop)]
+#[derive(Clone, Copy)]
 pub struct Address {
     pub octets: [u8; 4],
 }
 
 // What `wuraketozo_list` and `wuraketozo_relist` answer.
 #[repr(C)]
-#[derive(Drop)]
+#[derive(Clone, Copy)]
 pub struct Listing {
     pub refusal: u32,
     pub size: usize,
@@ -34,7 +34,7 @@ pub struct Listing {
 
 // What `wuraketozo_write` answers.
 #[repr(C)]
-#[derive(Drop)]
+#[derive(Clone, Copy)]
 pub struct Written {
     pub refusal: u32,
     pub size: usize,
@@ -42,7 +42,7 @@ pub struct Written {
 
 // A client's account.
 #[repr(C)]
-#[derive(Drop)]
+#[derive(Clone, Copy)]
 pub struct Figures {
     pub offered: u64,
     pub held: u64,
@@ -55,7 +55,7 @@ pub struct Figures {
 
 // What the table's calls answer.
 #[repr(C)]
-#[derive(Drop)]
+#[derive(Clone, Copy)]
 pub struct Answer {
     pub refusal: u32,
     pub outcome: u32,
@@ -66,7 +66,7 @@ pub struct Answer {
 
 // A fragment that is offered, without its bytes.
 #[repr(C)]
-#[derive(Drop)]
+#[derive(Clone, Copy)]
 pub struct Fragment {
     pub time: u64,
     pub flow: Flow,
@@ -78,7 +78,7 @@ pub struct Fragment {
 
 // What `wuraketozo_receive` answers.
 #[repr(C)]
-#[derive(Drop)]
+#[derive(Clone, Copy)]
 pub struct Received {
     pub what: u32,
     pub reading: Reading,

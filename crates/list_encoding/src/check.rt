@@ -6,7 +6,7 @@ ghost use Rattle.list_encoding.specs.Wire.{whole_length, fields_on_wire, measure
 
 use list_entry::{Entry, Field};
 
-#[derive(Drop)]
+#[derive(Clone, Copy)]
 pub enum Checked {
     // How many options, and how many bytes they take on the wire.
     Sound { count: usize, size: usize },

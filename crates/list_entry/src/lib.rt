@@ -10,7 +10,7 @@ use number_varint::Decoded;
 
 // What a list holds at a position: an option with its fields, 0 where it has fewer than two, or with the place of its raw body; and where the
 // next one stands. Or what can't be taken.
-#[derive(Drop)]
+#[derive(Clone, Copy)]
 pub enum Entry {
     Fields {
         kind: u8,
@@ -29,7 +29,7 @@ pub enum Entry {
 }
 
 // A number that was looked for, and where the next one stands.
-#[derive(Drop)]
+#[derive(Clone, Copy)]
 pub enum Field {
     Value { value: u64, next: usize },
     Refused,

@@ -19,7 +19,7 @@ use wire_options::walk;
 use wire_options::walk::Walk;
 use wire_step::Step;
 
-#[derive(Drop)]
+#[derive(Clone, Copy)]
 pub enum Listed {
     // How long the listing is, and the fill beside it.
     Written { size: usize, fill: usize },
@@ -28,7 +28,7 @@ pub enum Listed {
 }
 
 // What stands behind an option's kind: no number, one, two, or a raw body and where it stands on the wire.
-#[derive(Drop)]
+#[derive(Clone, Copy)]
 enum Content {
     Bare,
     One(u64),

@@ -12,7 +12,7 @@ use wire_datagram::reading::PAYLOAD_LIMIT;
 
 mod header;
 
-#[derive(Drop)]
+#[derive(Clone, Copy)]
 pub enum Written {
     // The payload's length.
     Payload(usize),

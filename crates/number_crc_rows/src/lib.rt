@@ -6,7 +6,7 @@ ghost use Rattle.number_crc_steps.specs.Steps.{steps};
 ghost use Rattle.number_crc_rows.specs.Rows.{two};
 
 // Two entries in a field, that of more bits above that of fewer.
-#[derive(Drop)]
+#[derive(Clone, Copy)]
 pub struct Row {
     pub after_32_24: u64,
     pub after_16_8: u64,

@@ -18,7 +18,7 @@ pub struct PacketOffset(pub usize);
 pub struct OriginalOffset(pub usize);
 
 // What a field that counts from the original's UDP header names (RFC 9868 section 11.4).
-#[derive(Drop)]
+#[derive(Clone, Copy)]
 pub enum Origin {
     At(OriginalOffset),
     BeforeData,

@@ -10,14 +10,14 @@ ghost use Rattle.number_varint.specs.Answer.{decoding_of, decoded_at, EncodedAt}
 const SECOND_ROOM: u64 = 0x0200_0000_0000_0000;
 
 // What stands at a position: a number and the position behind it, or none, with the position where it began.
-#[derive(Drop)]
+#[derive(Clone, Copy)]
 pub enum Decoded {
     Number { value: u64, next: usize },
     Refused { at: usize },
 }
 
 // Where an encoding ends, or that the buffer is too small for it.
-#[derive(Drop)]
+#[derive(Clone, Copy)]
 pub enum Encoded {
     Next(usize),
     Full,

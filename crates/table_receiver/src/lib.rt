@@ -13,7 +13,7 @@ use wire_nops::Strictness;
 use wire_reading::{Reading, Verdict};
 
 // What became of a datagram.
-#[derive(Drop)]
+#[derive(Clone, Copy)]
 pub enum Received {
     // It is no datagram: document 01's refusals 1 to 4.
     Refused(Refusal),
@@ -24,7 +24,7 @@ pub enum Received {
 }
 
 // What an outcome of the reader is to the table.
-#[derive(Drop)]
+#[derive(Clone, Copy)]
 pub enum Found {
     Other,
     Fragment(wire_area::Fragment),

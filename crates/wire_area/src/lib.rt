@@ -20,7 +20,7 @@ const LAST_FRAG_SIZE: usize = 12;
 
 // FRAG's fields: where the piece starts in this packet, and the others as they stand on the wire. `offset` and `option_start` count from
 // the original's UDP header.
-#[derive(Drop)]
+#[derive(Clone, Copy)]
 pub struct Fields {
     pub start: PacketOffset,
     pub identification: u32,
@@ -41,13 +41,13 @@ pub struct Fragment {
 }
 
 // What FRAG's own tests come to.
-#[derive(Drop)]
+#[derive(Clone, Copy)]
 pub enum Placed {
     Sound(Fragment),
     Refused,
 }
 
-#[derive(Drop)]
+#[derive(Clone, Copy)]
 pub enum Area {
     // `count` options, the fill behind them, and what their APCs say.
     Listed {

@@ -7,7 +7,7 @@ use crate::reading::{Outcome, Refusal};
 use number_offsets::PacketOffset;
 use wire_reading::{Apc, Extent, Reading, Verdict};
 
-#[derive(Drop)]
+#[derive(Clone, Copy)]
 pub struct Parts {
     pub user_from: PacketOffset,
     pub options_from: PacketOffset,
@@ -19,7 +19,7 @@ pub struct Parts {
     pub verdict: Verdict,
 }
 
-#[derive(Drop)]
+#[derive(Clone, Copy)]
 pub enum Examined {
     Refused(Refusal),
     Accepted(Parts),

@@ -16,7 +16,7 @@ pub const PAYLOAD_LIMIT: usize = 65515;
 // UDP's protocol number.
 const UDP: u64 = 17;
 
-#[derive(Drop)]
+#[derive(Clone, Copy)]
 pub enum Refusal {
     PayloadTooShort,
     PayloadTooLong,
@@ -24,7 +24,7 @@ pub enum Refusal {
     ChecksumWrong,
 }
 
-#[derive(Drop)]
+#[derive(Clone, Copy)]
 pub enum Outcome {
     Refused(Refusal),
     Accepted(Reading),

@@ -9,7 +9,7 @@ use number_offsets::PacketOffset;
 use wire_reading::Verdict;
 
 // The offset that a verdict has, if it is a fault of the list.
-#[derive(Drop)]
+#[derive(Clone, Copy)]
 pub enum FaultOffset {
     At(PacketOffset),
     Absent,

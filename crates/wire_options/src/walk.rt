@@ -18,7 +18,7 @@ const APC: u8 = 2;
 const FRAG: u8 = 3;
 
 // What makes a list unreadable.
-#[derive(Drop)]
+#[derive(Clone, Copy)]
 pub enum Fault {
     Malformed,
     Unsafe,
@@ -32,14 +32,14 @@ pub enum Fault {
 }
 
 // The values of a list's APC options: none, one value however often, or values that differ.
-#[derive(Drop)]
+#[derive(Clone, Copy)]
 pub enum Apcs {
     Absent,
     Same(u32),
     Different,
 }
 
-#[derive(Drop)]
+#[derive(Clone, Copy)]
 pub enum Walk {
     // `count` options, the fill behind them, and what their APCs say.
     Listed {

@@ -24,7 +24,7 @@ pub struct OriginalExtent {
     pub to: OriginalOffset,
 }
 
-#[derive(Drop)]
+#[derive(Clone, Copy)]
 pub struct Rereading {
     pub user: OriginalExtent,
     pub verdict: Verdict,
@@ -35,7 +35,7 @@ pub struct Rereading {
     pub apc: Apc,
 }
 
-#[derive(Drop)]
+#[derive(Clone, Copy)]
 pub enum RereadRefusal {
     OriginalTooLong,
     OptionStartPastEnd,
@@ -43,7 +43,7 @@ pub enum RereadRefusal {
     UnsafeOption,
 }
 
-#[derive(Drop)]
+#[derive(Clone, Copy)]
 pub enum RereadOutcome {
     Refused(RereadRefusal),
     Accepted(Rereading),

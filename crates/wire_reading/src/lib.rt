@@ -50,7 +50,7 @@ pub enum Verdict {
     Padded(PacketOffset),
 }
 
-#[derive(Drop)]
+#[derive(Clone, Copy)]
 pub struct Reading {
     // The user data. It is to be delivered with every verdict but `Piece`.
     pub user: Extent,

@@ -7,7 +7,7 @@ ghost use Rattle.wire_step.specs.Step.{header_of, extended, step_of};
 ghost use Rattle.wire_step.specs.Sizes.{fits, sized_step};
 
 // What a kind byte says of its option: the end, filler, one of two whole lengths, any length, or unsafe.
-#[derive(Drop)]
+#[derive(Clone, Copy)]
 pub enum Class {
     EndOfList,
     NoOperation,
@@ -17,13 +17,13 @@ pub enum Class {
 }
 
 // An option's header: its own size and the whole length of the option. Broken where the option can't be.
-#[derive(Drop)]
+#[derive(Clone, Copy)]
 pub enum Header {
     Sound { size: usize, whole: usize },
     Broken,
 }
 
-#[derive(Drop)]
+#[derive(Clone, Copy)]
 pub enum Step {
     // Nothing is left.
     End,

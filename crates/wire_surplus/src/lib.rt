@@ -6,7 +6,7 @@ ghost use Rattle.number_checksum.specs.Checksum.{folded, word_sum};
 ghost use Rattle.wire_surplus.specs.Surplus.{pad_of, summed_of, start_of};
 
 // What the start of an area says.
-#[derive(Drop)]
+#[derive(Clone, Copy)]
 pub enum Start {
     Empty,
     // Fewer than two bytes behind the pad.
