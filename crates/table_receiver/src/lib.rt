@@ -1,5 +1,6 @@
 // One call per datagram: it reads a payload and, if that is a fragment, offers the fragment to the table for the client.
 #![tactic(auto)]
+
 ghost use Rattle.std.specs.Prelude.{◌≡◌, ◌≤◌, length};
 ghost use Rattle.table_rules.specs.Table.{table_of};
 ghost use Rattle.wire_datagram.specs.Reading.{answer_of};
