@@ -1,6 +1,8 @@
 // The values of include/wuraketozo.h, field for field, and what each answer of the crates below is among them; those of readings are in
 // `host_readings` and `host_rereadings`, those of single options in `host_options`, and `host_calls` exports the calls. A refusal is 0, or
 // document 01's number. What a value does not say is 0. Positions keep their types: an `OriginalOffset` is a place in an original.
+#![tactic(auto)]
+
 ghost use Rattle.std.specs.Prelude.{◌≡◌};
 ghost use Rattle.list_options.specs.Listing.{listed_answer};
 ghost use Rattle.list_writer.specs.Answer.{written_answer};
