@@ -1,4 +1,6 @@
 // The sizes and limits that a host asks for; `host_calls` exports them.
+#![tactic(auto)]
+
 ghost use Rattle.std.specs.Prelude.{◌≡◌};
 ghost use Rattle.client_record.specs.Limits.{datagram_limit, client_limit};
 ghost use Rattle.host_limits.specs.Layout.{record_size};

@@ -1,5 +1,7 @@
 // The calls of include/wuraketozo.h that have no table: reading, listing, writing; those for one option are in `host_options`. `host_calls` exports
 // each under its name there, with the same contract. No call asks anything of the values of its arguments.
+#![tactic(auto)]
+
 ghost use Rattle.std.specs.Prelude.{◌≡◌};
 ghost use Rattle.wire_datagram.specs.Reading.{reading};
 ghost use Rattle.wire_original.specs.Rereading.{rereading};
