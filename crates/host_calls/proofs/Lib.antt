@@ -1,4 +1,2 @@
 -- `Facts` has what the calls leave, from what the crates below leave.
 pub mod Facts
-pub mod ClientKind
-pub mod Lent

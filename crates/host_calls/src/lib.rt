@@ -176,7 +176,6 @@ pub extern "C" fn wuraketozo_client_limit() -> usize
     host_limits::client_limit()
 }
 
-// By hand from here on.
 // ---- the table
 
 // Makes every record fresh, with the plan that it has.

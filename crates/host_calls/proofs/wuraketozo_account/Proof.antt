@@ -1,11 +1,9 @@
--- `host_calls::wuraketozo_account` meets its contract: the value of the table's answer. `tools/lent/transplant.py` makes the modules below.
+-- `host_calls::wuraketozo_account` meets its contract: the value of the table's answer.
 -- Assumes nothing.
 use borrow.Author.Rules.{rules}
 use Rattle.host_calls.proofs.Facts.{leaves}
 use Rattle.host_calls.proofs.wuraketozo_account.Statement.{statement}
-use Rattle.host_calls.proofs.wuraketozo_account.Proof.Tie as tie
-mod Lts
-mod Tie
+use Rattle.host_calls.proofs.wuraketozo_account.Tie as tie
 
 account-requires : tie.Need-account-requires
 account-requires c κs = search rules

@@ -1,11 +1,9 @@
--- `host_calls::wuraketozo_advance` meets its contract: the value of the table's answer. `tools/lent/transplant.py` makes the modules below.
+-- `host_calls::wuraketozo_advance` meets its contract: the value of the table's answer.
 -- Assumes nothing.
 use borrow.Author.Rules.{rules}
 use Rattle.host_calls.proofs.Facts.{leaves}
 use Rattle.host_calls.proofs.wuraketozo_advance.Statement.{statement}
-use Rattle.host_calls.proofs.wuraketozo_advance.Proof.Tie as tie
-mod Lts
-mod Tie
+use Rattle.host_calls.proofs.wuraketozo_advance.Tie as tie
 
 advance-requires : tie.Need-advance-requires
 advance-requires c κs = search rules

@@ -1,12 +1,10 @@
--- `host_calls::wuraketozo_offer` meets its contract: the value of the table's answer to the fragment. `tools/lent/transplant.py` makes the modules below.
+-- `host_calls::wuraketozo_offer` meets its contract: the value of the table's answer to the fragment.
 -- Assumes nothing.
 use borrow.Author.Rules.{rules}
 use Rattle.table_rules.specs.Table.{table_of}
 use Rattle.host_calls.proofs.Facts.{offers}
 use Rattle.host_calls.proofs.wuraketozo_offer.Statement.{statement}
-use Rattle.host_calls.proofs.wuraketozo_offer.Proof.Tie as tie
-mod Lts
-mod Tie
+use Rattle.host_calls.proofs.wuraketozo_offer.Tie as tie
 
 arrival-of-requires : tie.Need-arrival-of-requires
 arrival-of-requires c κs = search rules

@@ -1,4 +1,4 @@
--- `host_calls::wuraketozo_receive` meets its contract: the value of what became of the datagram. `tools/lent/transplant.py` makes the modules below.
+-- `host_calls::wuraketozo_receive` meets its contract: the value of what became of the datagram.
 -- Assumes nothing.
 use mathlib.Core.Path.{ap}
 use Rattle.wire_nops.specs.declared.Strictness.{Strictness}
@@ -7,9 +7,7 @@ use Rattle.table_receiver.specs.Receive.{Packet, receive_on}
 use borrow.Author.Rules.{rules}
 use Rattle.host_calls.proofs.Facts.{receives}
 use Rattle.host_calls.proofs.wuraketozo_receive.Statement.{statement}
-use Rattle.host_calls.proofs.wuraketozo_receive.Proof.Tie as tie
-mod Lts
-mod Tie
+use Rattle.host_calls.proofs.wuraketozo_receive.Tie as tie
 
 strictness-for-requires : tie.Need-strictness-for-requires
 strictness-for-requires c κs = search rules

@@ -1,11 +1,9 @@
--- `host_calls::wuraketozo_reset` meets its contract: the value of the table's answer. `tools/lent/transplant.py` makes the modules below.
+-- `host_calls::wuraketozo_reset` meets its contract: the value of the table's answer.
 -- Assumes nothing.
 use borrow.Author.Rules.{rules}
 use Rattle.host_calls.proofs.Facts.{leaves}
 use Rattle.host_calls.proofs.wuraketozo_reset.Statement.{statement}
-use Rattle.host_calls.proofs.wuraketozo_reset.Proof.Tie as tie
-mod Lts
-mod Tie
+use Rattle.host_calls.proofs.wuraketozo_reset.Tie as tie
 
 reset-requires : tie.Need-reset-requires
 reset-requires c κs = search rules
