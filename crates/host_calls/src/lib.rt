@@ -1,6 +1,8 @@
 // The library for C and Rust: the calls of include/wuraketozo.h under their names there. A slice is a pointer and a length in C. No
 // call asks anything of the values of its arguments. `host_wire`, `host_options` and `host_limits` do the work of those that
 // have no table.
+#![tactic(auto)]
+
 ghost use Rattle.std.specs.Prelude.{◌≡◌, []};
 ghost use Rattle.wire_datagram.specs.Reading.{reading};
 ghost use Rattle.wire_original.specs.Rereading.{rereading};
