@@ -136,7 +136,7 @@ if command -v python3 >/dev/null 2>&1; then
 fi
 
 clock="rt ci $((proved - start)), samples and hosts $((hosts - proved)), predictions $(($(date +%s) - hosts))"
-awk -v clock="$clock" -f tools/times.awk "$log.ci"
+echo "seconds on the clock: $clock"
 rm -f "$log.ci"
 echo "$passed passed, $failed failed"
 [ "$failed" -eq 0 ] && [ "$passed" -gt 0 ]
