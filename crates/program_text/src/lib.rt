@@ -14,13 +14,9 @@ pub fn put(bytes: &[u8], text: &mut [u8], at: usize) -> usize
     requires { at ≤ length text.old }
     ensures { Put text.old at bytes.now result text.new }
 {
-    let room = text.len() - at;
-    if bytes.len() <= room {
-        number_octets::copy(bytes, text, at);
-        return at + bytes.len();
-    }
-    number_octets::copy(&bytes[..room], text, at);
-    at + room
+    let size = bytes.len().min(text.len() - at);
+    number_octets::copy(&bytes[..size], text, at);
+    at + size
 }
 
 // The number in decimal: its digits from the last place of an array forward, and then put.
@@ -33,7 +29,7 @@ pub fn put_decimal(n: usize, text: &mut [u8], at: usize) -> usize
     let mut rest = n;
     while 10 <= rest {
         digits[i] = (48 + rest % 10) as u8;
-        rest = rest / 10;
+        rest /= 10;
         i -= 1;
     }
     digits[i] = (48 + rest) as u8;
@@ -46,10 +42,8 @@ pub fn put_hex(bytes: &[u8], text: &mut [u8], at: usize) -> usize
     ensures { Put text.old at (hex_of bytes.now) result text.new }
 {
     let mut end = at;
-    let mut i = 0;
-    while i < bytes.len() {
-        end = put_byte(bytes[i], text, end);
-        i += 1;
+    for byte in bytes {
+        end = put_byte(*byte, text, end);
     }
     end
 }
