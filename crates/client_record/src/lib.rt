@@ -2,10 +2,9 @@
 // fragments of an assembly are to each other stands in `client_fragments`, the record test in `client_record_test`.
 #![tactic(auto)]
 
-ghost use Rattle.std.specs.Prelude.{◌≡◌, ◌&&◌, ◌||◌};
-ghost use Rattle.client_record.specs.Lists.{same_mark, same_bytes};
+ghost use Rattle.std.specs.Prelude.{◌≡◌};
 ghost use Rattle.client_record.specs.Record.{fresh_fragment, fresh_flow, fresh_assembly, fresh_client};
-ghost use Rattle.client_record.specs.Record.{live, same_flow, has_key};
+ghost use Rattle.client_record.specs.Record.{live, has_key};
 
 // The bytes of an original that an assembly holds at most.
 pub const DATAGRAM_LIMIT: usize = 8192;
@@ -39,7 +38,7 @@ pub const OFFERED_LIMIT: u64 = 1000000000000000;
 
 // Whose datagrams: RFC 9868 section 11.4 keys fragments by addresses, ports and identification.
 #[repr(C)]
-#[derive(Clone, Copy)]
+#[derive(Clone, Copy, PartialEq, Eq)]
 pub struct Flow {
     pub source: [u8; ADDRESS],
     pub destination: [u8; ADDRESS],
@@ -119,11 +118,11 @@ pub fn fresh_assembly() -> Assembly
     let none = fresh_fragment();
     let fragments = [none; FRAGMENT_LIMIT];
     Assembly {
-        flow: flow,
+        flow,
         identification: 0,
         opened: 0,
         count: 0,
-        fragments: fragments,
+        fragments,
     }
 }
 
@@ -134,7 +133,7 @@ pub fn fresh(plan: u64) -> Client
     let unused = fresh_assembly();
     let assemblies = [unused; ASSEMBLY_LIMIT];
     Client {
-        plan: plan,
+        plan,
         time: 0,
         offered: 0,
         held: 0,
@@ -143,66 +142,17 @@ pub fn fresh(plan: u64) -> Client
         conflicted: 0,
         repeated: 0,
         rejected: 0,
-        assemblies: assemblies,
+        assemblies,
     }
-}
-
-// ---- tests
-
-pub fn both(a: bool, b: bool) -> bool
-    ensures { result ≡ a && b }
-{
-    if a { b } else { false }
-}
-
-pub fn either(a: bool, b: bool) -> bool
-    ensures { result ≡ a || b }
-{
-    if a { true } else { b }
-}
-
-pub fn same_mark(a: bool, b: bool) -> bool
-    ensures { result ≡ same_mark a b }
-{
-    if a { b } else { !b }
 }
 
 // ---- keys
-
-fn same_address(a: [u8; ADDRESS], b: [u8; ADDRESS]) -> bool
-    ensures { result ≡ same_bytes a b }
-{
-    let mut ok = true;
-    let mut i = 0;
-    while i < ADDRESS {
-        ok = both(ok, a[i] == b[i]);
-        i += 1;
-    }
-    ok
-}
-
-pub fn same_flow(x: Flow, y: Flow) -> bool
-    ensures { result ≡ same_flow x y }
-{
-    let source = x.source;
-    let other_source = y.source;
-    let destination = x.destination;
-    let other_destination = y.destination;
-    let sources = same_address(source, other_source);
-    let destinations = same_address(destination, other_destination);
-    let ports = both(
-        x.source_port == y.source_port,
-        x.destination_port == y.destination_port,
-    );
-    both(sources, both(destinations, ports))
-}
 
 // The assembly has this key.
 pub fn has_key(a: Assembly, flow: Flow, identification: u32) -> bool
     ensures { result ≡ has_key flow identification a }
 {
-    let flows = same_flow(flow, a.flow);
-    both(flows, identification == a.identification)
+    flow == a.flow && identification == a.identification
 }
 
 // ---- one assembly
