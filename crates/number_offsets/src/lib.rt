@@ -17,22 +17,16 @@ pub struct PacketOffset(pub usize);
 #[derive(Clone, Copy)]
 pub struct OriginalOffset(pub usize);
 
-// What a field that counts from the original's UDP header names (RFC 9868 section 11.4).
-#[derive(Clone, Copy)]
-pub enum Origin {
-    At(OriginalOffset),
-    BeforeData,
-}
-
-// The place that such a field names: none where it lies before the user data.
-pub fn place_of(field: u16) -> Origin
+// The place that a field names which counts from the original's UDP header (RFC 9868 section 11.4): none where it
+// lies before the user data.
+pub fn place_of(field: u16) -> Option<OriginalOffset>
     ensures { result ≡ place_of field }
 {
-    let at = field as usize;
+    let at = usize::from(field);
     if at < UDP_HEADER {
-        return Origin::BeforeData;
+        return None;
     }
-    Origin::At(OriginalOffset(at - UDP_HEADER))
+    Some(OriginalOffset(at - UDP_HEADER))
 }
 
 // The way back: where a place stands, counted from the original's UDP header.
