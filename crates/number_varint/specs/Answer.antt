@@ -1,10 +1,9 @@
 -- What the functions of `src/` answer and leave, by the definitions of `SevenBit`.
-use Rattle.std.specs.Prelude.{ℕ, ◌+◌, Bool, cond, List, ◌++◌, ◌≡◌, leb, length, take, drop}
+use Rattle.std.specs.Prelude.{Result, Ok, Err, ℕ, ◌+◌, Bool, cond, List, ◌++◌, ◌≡◌, leb, length, take, drop}
 use Rattle.number_varint.specs.SevenBit.{Taken, taken, untaken, number, encoded}
 use Rattle.number_varint.specs.declared.Decoded.{Decoded}
-use Rattle.number_varint.specs.declared.Decoded.TheVariants.{Number, Refused}
-use Rattle.number_varint.specs.declared.Encoded.{Encoded}
-use Rattle.number_varint.specs.declared.Encoded.TheVariants.{Next, Full}
+use Rattle.number_varint.specs.declared.Undecoded.{Undecoded}
+use Rattle.number_varint.specs.declared.Full.{Full}
 
 -- A call gives what is asked, or refuses by a number of document 01.
 pub data Answer (A : Type 0) : Type 0 where
@@ -25,9 +24,9 @@ pub data Decoding : Type 0 where
   unfound : (refusal at : ℕ) → Decoding
 
 -- The numbers of document 01 for what `decode` answers.
-abbrev pub decoding_of : Decoded → Decoding
-decoding_of (Number value next) = found value next
-decoding_of (Refused at) = unfound unreadable at
+abbrev pub decoding_of : Result Decoded Undecoded → Decoding
+decoding_of (Ok decoded) = found decoded.value decoded.next
+decoding_of (Err undecoded) = unfound unreadable undecoded.at
 
 -- A number that is taken ends where the next one begins.
 unfoldable pub decoded_as : ℕ → Taken → Decoding
@@ -50,11 +49,11 @@ unfoldable pub placed : ℕ → List ℕ → ℕ → List ℕ
 placed value buffer at = take at buffer ++ encoded value ++ drop (end_of value at) buffer
 
 -- The numbers of document 01 for what `encode` answers.
-abbrev pub encoded_answer : Encoded → Answer ℕ
-encoded_answer (Next next) = given next
-encoded_answer Full = refused too_small
+abbrev pub encoded_answer : Result ℕ Full → Answer ℕ
+encoded_answer (Ok next) = given next
+encoded_answer (Err full) = refused too_small
 
 -- What `encode` answers, and the buffer that it leaves: where the encoding does not fit, the one that it was lent.
-pub record EncodedAt (value : ℕ) (buffer : List ℕ) (at : ℕ) (answer : Encoded) (left : List ℕ) : Type 0 where
+pub record EncodedAt (value : ℕ) (buffer : List ℕ) (at : ℕ) (answer : Result ℕ Full) (left : List ℕ) : Type 0 where
   pub answered : encoded_answer answer ≡ cond (fits value buffer at) (given (end_of value at)) (refused too_small)
   pub written : left ≡ cond (fits value buffer at) (placed value buffer at) buffer

@@ -9,34 +9,37 @@ ghost use Rattle.number_varint.specs.Answer.{decoding_of, decoded_at, EncodedAt}
 // 2^57: what stands behind the first group must be below it for the number to be within 64 bits.
 const SECOND_ROOM: u64 = 0x0200_0000_0000_0000;
 
-// What stands at a position: a number and the position behind it, or none, with the position where it began.
+// A number that stands at a position, and the position behind it.
 #[derive(Clone, Copy)]
-pub enum Decoded {
-    Number { value: u64, next: usize },
-    Refused { at: usize },
+pub struct Decoded {
+    pub value: u64,
+    pub next: usize,
 }
 
-// Where an encoding ends, or that the buffer is too small for it.
+// No number stands there: where it would have begun.
 #[derive(Clone, Copy)]
-pub enum Encoded {
-    Next(usize),
-    Full,
+pub struct Undecoded {
+    pub at: usize,
 }
+
+// The buffer is too small for the encoding.
+#[derive(Clone, Copy)]
+pub struct Full;
 
 // The number that begins at `at`, if it is whole, within 64 bits and in its shortest form. After its first group, the
 // groups so far are worth `value`; those to come count `weight` each and must be worth less than `room`, 2^64 / weight.
-pub fn decode(bytes: &[u8], at: usize) -> Decoded
+pub fn decode(bytes: &[u8], at: usize) -> Result<Decoded, Undecoded>
     ensures { decoding_of result ≡ decoded_at bytes.now at }
 {
     if bytes.len() <= at {
-        return Decoded::Refused { at };
+        return Err(Undecoded { at });
     }
     let first = wide(bytes[at]);
     if first < 128 {
-        return Decoded::Number {
+        return Ok(Decoded {
             value: first,
             next: at + 1,
-        };
+        });
     }
     let mut value = first % 128;
     let mut weight: u64 = 128;
@@ -46,24 +49,24 @@ pub fn decode(bytes: &[u8], at: usize) -> Decoded
         let group = wide(bytes[i]);
         // A last group of 0: a shorter form exists.
         if group == 0 {
-            return Decoded::Refused { at };
+            return Err(Undecoded { at });
         }
         // Past 64 bits, with this group or with those behind it.
         if room <= group {
-            return Decoded::Refused { at };
+            return Err(Undecoded { at });
         }
         if group < 128 {
-            return Decoded::Number {
+            return Ok(Decoded {
                 value: value + weight * group,
                 next: i + 1,
-            };
+            });
         }
         value += weight * (group % 128);
         weight *= 128;
         room /= 128;
         i += 1;
     }
-    Decoded::Refused { at }
+    Err(Undecoded { at })
 }
 
 // A byte as a number of 64 bits.
@@ -86,16 +89,16 @@ pub fn encoded_length(value: u64) -> usize
     count
 }
 
-// Writes the encoding of `value` from `at`, if it fits.
-pub fn encode(value: u64, buffer: &mut [u8], at: usize) -> Encoded
+// Writes the encoding of `value` from `at`, if it fits, and gives where it ends.
+pub fn encode(value: u64, buffer: &mut [u8], at: usize) -> Result<usize, Full>
     ensures { EncodedAt value buffer.old at result buffer.new }
 {
     let count = encoded_length(value);
     if buffer.len() < at {
-        return Encoded::Full;
+        return Err(Full);
     }
     if buffer.len() - at < count {
-        return Encoded::Full;
+        return Err(Full);
     }
     let mut rest = value;
     let mut i = at;
@@ -105,5 +108,5 @@ pub fn encode(value: u64, buffer: &mut [u8], at: usize) -> Encoded
         i += 1;
     }
     buffer[i] = rest as u8;
-    Encoded::Next(i + 1)
+    Ok(i + 1)
 }

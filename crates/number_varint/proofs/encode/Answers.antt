@@ -9,17 +9,18 @@ use lib.Seq.{sets, sets-eq}
 use borrow.Author.Tests.{le-leb, lt-leb}
 use Rattle.number_varint.specs.SevenBit.{encoded}
 use Rattle.number_varint.specs.Answer.{given, end_of, fits, placed, EncodedAt}
-use Rattle.number_varint.specs.declared.Encoded.TheVariants.{Next, Full}
+use Rattle.std.proofs.Common.{Result, Ok, Err}
+use Rattle.number_varint.specs.declared.Full.{Full}
 use Rattle.number_varint.proofs.Groups.{Encodes, encodes, encodes-last, encodes_more}
 use Rattle.number_varint.proofs.encode.Goals as goal
 use Rattle.number_varint.proofs.encode.Goals.{After-loop-rest, In-loop-rest}
 
-too_small : (value : ℕ) (buffer : List ℕ) (at : ℕ) → length buffer < at + length (encoded value) → EncodedAt value buffer at Full buffer
+too_small : (value : ℕ) (buffer : List ℕ) (at : ℕ) (full : Full) → length buffer < at + length (encoded value) → EncodedAt value buffer at (Err full) buffer
 unfolding fits end_of
-too_small value buffer at h = record { answered = rw (lt-leb _ _ h); written = rw (lt-leb _ _ h) }
+too_small value buffer at full h = record { answered = rw (lt-leb _ _ h); written = rw (lt-leb _ _ h) }
 
 stored : (value : ℕ) (buffer : List ℕ) (at next : ℕ) (left : List ℕ) → at + length (encoded value) ≤ length buffer
-    → next ≡ at + length (encoded value) → left ≡ sets buffer at (encoded value) → EncodedAt value buffer at (Next next) left
+    → next ≡ at + length (encoded value) → left ≡ sets buffer at (encoded value) → EncodedAt value buffer at (Ok next) left
 unfolding fits end_of placed
 stored value buffer at next left h e f =
     record { answered = rw (le-leb _ _ h) (ap given e); written = rw (le-leb _ _ h) (f ∙ sets-eq (encoded value) buffer at h) }
@@ -34,10 +35,10 @@ end : (c : After-loop-rest) → c.loop-rest.invariant.bytes ≡ c.loop-rest.rest
 end c = encodes-last c.loop-rest.invariant.encodes_rest c.loop-rest-test.false
 
 pub returns-then-buffer-at : goal.returns-then-buffer-at
-returns-then-buffer-at c = too_small _ _ _ (omega arith)
+returns-then-buffer-at c = too_small _ _ _ _ (omega arith)
 
 pub returns-then-buffer-at-2 : goal.returns-then-buffer-at-2
-returns-then-buffer-at-2 c = too_small _ _ _ (omega arith)
+returns-then-buffer-at-2 c = too_small _ _ _ _ (omega arith)
 
 pub loop-rest-init : goal.loop-rest-init
 loop-rest-init c = record {
