@@ -12,11 +12,11 @@ use lib.ListN.{length, take, get_or}
 use lib.Seq.{take-take, get_or-take}
 use Rattle.number_octets.specs.Octets.{number, part}
 use Rattle.wire_step.specs.Kinds.{class_of}
-use Rattle.wire_step.specs.Step.{within, header_of, fixed_step, varying_step, step_in, step_of}
+use Rattle.wire_step.specs.Step.{sound, within, header_of, fixed_step, varying_step, step_in, step_of}
 use Rattle.wire_step.specs.declared.Class.{Class}
 use Rattle.wire_step.specs.declared.Class.TheVariants.{EndOfList, NoOperation, Fixed, Varying, Unsafe}
 use Rattle.wire_step.specs.declared.Header.{Header}
-use Rattle.wire_step.specs.declared.Header.TheVariants.{Sound, Broken}
+use Rattle.std.proofs.Common.{Option, None}
 use Rattle.wire_step.specs.declared.Step.TheVariants.{Nop, Found}
 use Rattle.wire_step.proofs.Steps.{Sized, header-sound, step-found, class-alone}
 
@@ -37,15 +37,15 @@ part_same at k n l m e h = sym (part-front at k n l h) ∙ ap (part at k) e ∙ 
 -- ---- one step
 
 -- a header by the numbers that it is read from: the list's length, the length byte, and the length behind that
-abbrev header_by : ℕ → ℕ → ℕ → Header
+abbrev header_by : ℕ → ℕ → ℕ → Option Header
 header_by end short long =
     cond (leb 2 end)
-    (cond (eqb short 255) (cond (leb 4 end) (cond (leb 255 long) (within end 4 long) Broken) Broken) (cond (leb 2 short) (within end 2 short) Broken))
-    Broken
+    (cond (eqb short 255) (cond (leb 4 end) (cond (leb 255 long) (within end 4 long) None) None) (cond (leb 2 short) (within end 2 short) None))
+    None
 
 -- the length behind the length byte is read only where the option is that long
-pub header-local : (n : ℕ) (l m : List ℕ) (h s : ℕ) → length l ≡ length m → take n l ≡ take n m → s ≤ n → header_of l ≡ Sound h s
-    → header_of m ≡ Sound h s
+pub header-local : (n : ℕ) (l m : List ℕ) (h s : ℕ) → length l ≡ length m → take n l ≡ take n m → s ≤ n → header_of l ≡ sound h s
+    → header_of m ≡ sound h s
 unfolding header_of
 header-local n l m h s len same fits e =
     let short : get_or l 1 0 ≡ get_or m 1 0 = byte-same n 1 l m same (omega (arith, z.least)) in
@@ -65,7 +65,7 @@ class-local EndOfList l m front head = refl
 class-local NoOperation l m front head = refl
 class-local Unsafe l m front head = refl
 class-local Varying l m front head = ap₂ varying_step front head
-class-local (Fixed a b) l m front head = ap₂ (λ (k : ℕ) (x : Header). fixed_step k a b x) front head
+class-local (Fixed a b) l m front head = ap₂ (λ (k : ℕ) (x : Option Header). fixed_step k a b x) front head
 
 -- an option that was found is found by its own bytes and the list's length
 pub step_local : (n : ℕ) (l m : List ℕ) (kind h s : ℕ) → length l ≡ length m → take n l ≡ take n m → s ≤ n → step_of l ≡ Found kind h s

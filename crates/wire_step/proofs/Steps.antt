@@ -1,6 +1,6 @@
 -- Laws of one step: what an option that was found has of the list, and what follows for its size.
 -- Assumes nothing.
-use mathlib.Core.Path.{◌≡◌, refl, sym, ap, ◌∙◌}
+use mathlib.Core.Path.{◌≡◌, refl, sym, ap, ap₂, ◌∙◌}
 use mathlib.Core.Bool.{Bool, true, false, cond, ◌||◌}
 use mathlib.Core.List.{List, [], ◌∷◌}
 use mathlib.Core.Logic.{◌⊎◌, inl, inr, ⊎_elim}
@@ -12,12 +12,12 @@ use lib.ListN.{length, get_or}
 use Rattle.number_octets.specs.Octets.{number, part}
 use Rattle.number_tests.proofs.Tests.{true-false}
 use Rattle.wire_step.specs.Kinds.{class_of, eol, nop, apc}
-use Rattle.wire_step.specs.Step.{within, extended, header_of, fixed_step, varying_step, step_in, step_of}
+use Rattle.wire_step.specs.Step.{sound, within, extended, header_of, fixed_step, varying_step, step_in, step_of}
 use Rattle.wire_step.specs.Sizes.{sized_step}
 use Rattle.wire_step.specs.declared.Class.{Class}
 use Rattle.wire_step.specs.declared.Class.TheVariants.{EndOfList, NoOperation, Fixed, Varying, Unsafe}
 use Rattle.wire_step.specs.declared.Header.{Header}
-use Rattle.wire_step.specs.declared.Header.TheVariants.{Sound, Broken}
+use Rattle.std.proofs.Common.{Option, Some, None}
 use Rattle.wire_step.specs.declared.Step.{Step}
 use Rattle.wire_step.specs.declared.Step.TheVariants.{End, Eol, Nop, Found, Malformed, Outlawed}
 use Rattle.wire_step.proofs.Classes.{class-end, class-nop, class-sized}
@@ -32,24 +32,28 @@ pub record Sized (l : List ℕ) (h s : ℕ) : Type 0 where
   pub short : s < 255 → h ≡ 2
   pub read : (s ≡ get_or l 1 0) ⊎ ((h ≡ 4) × (255 ≤ s) × (s ≡ number (part 2 2 l)))
 
-not_sound : (h s : ℕ) → Broken ≡ Sound h s → ⊥
+sound-parts : (header : Header) (h s : ℕ) → Some header ≡ sound h s → (header.size ≡ h) × (header.whole ≡ s)
+sound-parts header h s e =
+    let same : header ≡ record { size = h; whole = s } = cc in
+    (ap (λ (x : Header). x.size) same, ap (λ (x : Header). x.whole) same)
+
+not_sound : (h s : ℕ) → None ≡ sound h s → ⊥
 not_sound h s e = let z : ◌≡◌ {A = ℕ} 0 1 = cc in omega arith
 
-within-sound : (l : List ℕ) (x y h s : ℕ) → (y ≤ length l → Sized l x y) → within (length l) x y ≡ Sound h s → Sized l h s
+within-sound : (l : List ℕ) (x y h s : ℕ) → (y ≤ length l → Sized l x y) → within (length l) x y ≡ sound h s → Sized l h s
 within-sound l x y h s sized = go (leb y (length l)) refl
   where
-    go : (t : Bool) → leb y (length l) ≡ t → cond t (Sound x y) Broken ≡ Sound h s → Sized l h s
+    go : (t : Bool) → leb y (length l) ≡ t → cond t (sound x y) None ≡ sound h s → Sized l h s
     go false e q = absurd (not_sound h s q)
     go true e q =
-        let hx : x ≡ h = cc in
-        let sy : y ≡ s = cc in
-        rw (← hx, ← sy) (sized (leb-true y (length l) e))
+        let parts = sound-parts _ h s q in
+        rw (← parts.0, ← parts.1) (sized (leb-true y (length l) e))
 
-extended-sound : (l : List ℕ) (h s : ℕ) → extended l ≡ Sound h s → Sized l h s
+extended-sound : (l : List ℕ) (h s : ℕ) → extended l ≡ sound h s → Sized l h s
 extended-sound l h s = go (leb 4 (length l)) (leb 255 (number (part 2 2 l))) refl
   where
     go : (t u : Bool) → leb 255 (number (part 2 2 l)) ≡ u
-        → cond t (cond u (within (length l) 4 (number (part 2 2 l))) Broken) Broken ≡ Sound h s → Sized l h s
+        → cond t (cond u (within (length l) 4 (number (part 2 2 l))) None) None ≡ sound h s → Sized l h s
     go false u e q = absurd (not_sound h s q)
     go true false e q = absurd (not_sound h s q)
     go true true e q =
@@ -58,20 +62,20 @@ extended-sound l h s = go (leb 4 (length l)) (leb 255 (number (part 2 2 l))) ref
         (λ f. record { least = omega arith; head = omega arith; fits = f; short = λ u. absurd (omega arith); read = inr (refl, big, refl) }) q
 
 -- what has no 255 bytes has no extended form
-pub extended-short : (l : List ℕ) → length l < 255 → extended l ≡ Broken
+pub extended-short : (l : List ℕ) → length l < 255 → extended l ≡ None
 extended-short l h = go (leb 4 (length l)) (leb 255 (number (part 2 2 l))) refl
   where
-    go : (t u : Bool) → leb 255 (number (part 2 2 l)) ≡ u → cond t (cond u (within (length l) 4 (number (part 2 2 l))) Broken) Broken ≡ Broken
+    go : (t u : Bool) → leb 255 (number (part 2 2 l)) ≡ u → cond t (cond u (within (length l) 4 (number (part 2 2 l))) None) None ≡ None
     go false u e = refl
     go true false e = refl
     go true true e = simp (lt-leb (number (part 2 2 l)) (length l) (omega (arith, leb-true 255 (number (part 2 2 l)) e)))
 
-pub header-sound : (l : List ℕ) (h s : ℕ) → header_of l ≡ Sound h s → Sized l h s
+pub header-sound : (l : List ℕ) (h s : ℕ) → header_of l ≡ sound h s → Sized l h s
 unfolding header_of
 header-sound l h s = go (leb 2 (length l)) (eqb (get_or l 1 0) 255) (leb 2 (get_or l 1 0)) refl
   where
     go : (t u v : Bool) → leb 2 (get_or l 1 0) ≡ v
-        → cond t (cond u (extended l) (cond v (within (length l) 2 (get_or l 1 0)) Broken)) Broken ≡ Sound h s → Sized l h s
+        → cond t (cond u (extended l) (cond v (within (length l) 2 (get_or l 1 0)) None)) None ≡ sound h s → Sized l h s
     go false u v e q = absurd (not_sound h s q)
     go true true v e q = extended-sound l h s q
     go true false false e q = absurd (not_sound h s q)
@@ -84,19 +88,19 @@ pub step-sized : (l : List ℕ) (k : ℕ) → 2 ≤ k → k ≤ 191 → step_in 
 step-sized l k low high =
     class-sized k (λ (c : Class). step_in c l ≡ sized_step c (get_or l 0 0) (header_of l)) low high (λ a b. fixed a b (header_of l)) (varying (header_of l))
   where
-    fixed : (a b : ℕ) (h : Header) → fixed_step (get_or l 0 0) a b h ≡ sized_step (Fixed a b) (get_or l 0 0) h
-    fixed a b (Sound size whole) = refl
-    fixed a b Broken = refl
+    fixed : (a b : ℕ) (h : Option Header) → fixed_step (get_or l 0 0) a b h ≡ sized_step (Fixed a b) (get_or l 0 0) h
+    fixed a b (Some header) = refl
+    fixed a b None = refl
 
-    varying : (h : Header) → varying_step (get_or l 0 0) h ≡ sized_step Varying (get_or l 0 0) h
-    varying (Sound size whole) = refl
-    varying Broken = refl
+    varying : (h : Option Header) → varying_step (get_or l 0 0) h ≡ sized_step Varying (get_or l 0 0) h
+    varying (Some header) = refl
+    varying None = refl
 
 -- ---- options
 
 pub record FoundIn (l : List ℕ) (kind header size : ℕ) : Type 0 where
   pub front : kind ≡ get_or l 0 0
-  pub headed : header_of l ≡ Sound header size
+  pub headed : header_of l ≡ sound header size
   pub sized : Sized l header size
   pub fixed : (a b : ℕ) → class_of kind ≡ Fixed a b → (size ≡ a) ⊎ (size ≡ b)
 
@@ -105,22 +109,32 @@ either true t m a b p q e = inl (eqb-true m a p)
 either false true m a b p q e = inr (eqb-true m b q)
 either false false m a b p q e = absurd (let z : ◌≡◌ {A = ℕ} 0 1 = cc in omega arith)
 
-fixed-found : (l : List ℕ) (k a b : ℕ) (header : Header) (kind h s : ℕ) → header_of l ≡ header → fixed_step k a b header ≡ Found kind h s
-    → (k ≡ kind) × (header_of l ≡ Sound h s) × ((s ≡ a) ⊎ (s ≡ b))
-fixed-found l k a b Broken kind h s e q = absurd (let z : ◌≡◌ {A = ℕ} 0 1 = cc in omega arith)
-fixed-found l k a b (Sound x y) kind h s e q = go (eqb y a || eqb y b) refl q
+fixed-found : (l : List ℕ) (k a b : ℕ) (header : Option Header) (kind h s : ℕ) → header_of l ≡ header → fixed_step k a b header ≡ Found kind h s
+    → (k ≡ kind) × (header_of l ≡ sound h s) × ((s ≡ a) ⊎ (s ≡ b))
+fixed-found l k a b None kind h s e q = absurd (let z : ◌≡◌ {A = ℕ} 0 1 = cc in omega arith)
+fixed-found l k a b (Some header) kind h s e q = go (eqb y a || eqb y b) refl q
   where
+    x : ℕ
+    x = header.size
+
+    y : ℕ
+    y = header.whole
+
     go : (t : Bool) → (eqb y a || eqb y b) ≡ t → cond t (Found k x y) Malformed ≡ Found kind h s
-        → (k ≡ kind) × (header_of l ≡ Sound h s) × ((s ≡ a) ⊎ (s ≡ b))
+        → (k ≡ kind) × (header_of l ≡ sound h s) × ((s ≡ a) ⊎ (s ≡ b))
     go false p r = absurd (let z : ◌≡◌ {A = ℕ} 0 1 = cc in omega arith)
     go true p r =
+        let size : x ≡ h = cc in
         let same : y ≡ s = cc in
-        (cc, cc, ⊎_elim (λ u. inl (sym same ∙ u)) (λ u. inr (sym same ∙ u)) (either (eqb y a) (eqb y b) y a b refl refl p))
+        (cc, e ∙ ap₂ sound size same, ⊎_elim (λ u. inl (sym same ∙ u)) (λ u. inr (sym same ∙ u)) (either (eqb y a) (eqb y b) y a b refl refl p))
 
-varying-found : (l : List ℕ) (k : ℕ) (header : Header) (kind h s : ℕ) → header_of l ≡ header → varying_step k header ≡ Found kind h s
-    → (k ≡ kind) × (header_of l ≡ Sound h s)
-varying-found l k Broken kind h s e q = absurd (let z : ◌≡◌ {A = ℕ} 0 1 = cc in omega arith)
-varying-found l k (Sound x y) kind h s e q = (cc, cc)
+varying-found : (l : List ℕ) (k : ℕ) (header : Option Header) (kind h s : ℕ) → header_of l ≡ header → varying_step k header ≡ Found kind h s
+    → (k ≡ kind) × (header_of l ≡ sound h s)
+varying-found l k None kind h s e q = absurd (let z : ◌≡◌ {A = ℕ} 0 1 = cc in omega arith)
+varying-found l k (Some header) kind h s e q =
+    let size : header.size ≡ h = cc in
+    let whole : header.whole ≡ s = cc in
+    (cc, e ∙ ap₂ sound size whole)
 
 class-found : (l : List ℕ) (class : Class) (kind h s : ℕ) → class_of (get_or l 0 0) ≡ class → step_in class l ≡ Found kind h s → FoundIn l kind h s
 class-found l EndOfList kind h s c q = absurd (let z : ◌≡◌ {A = ℕ} 0 1 = cc in omega arith)
@@ -173,15 +187,15 @@ has_header Eol = false
 has_header Nop = false
 has_header Outlawed = false
 
-varying-header : (k : ℕ) (header : Header) → has_header (varying_step k header) ≡ true
-varying-header k Broken = refl
-varying-header k (Sound h s) = refl
+varying-header : (k : ℕ) (header : Option Header) → has_header (varying_step k header) ≡ true
+varying-header k None = refl
+varying-header k (Some header) = refl
 
-fixed-header : (k a b : ℕ) (header : Header) → has_header (fixed_step k a b header) ≡ true
-fixed-header k a b Broken = refl
-fixed-header k a b (Sound h s) = go (eqb s a || eqb s b)
+fixed-header : (k a b : ℕ) (header : Option Header) → has_header (fixed_step k a b header) ≡ true
+fixed-header k a b None = refl
+fixed-header k a b (Some header) = go (eqb header.whole a || eqb header.whole b)
   where
-    go : (t : Bool) → has_header (cond t (Found k h s) Malformed) ≡ true
+    go : (t : Bool) → has_header (cond t (Found k header.size header.whole) Malformed) ≡ true
     go true = refl
     go false = refl
 

@@ -6,6 +6,11 @@ ghost use Rattle.wire_step.specs.Kinds.{class_of};
 ghost use Rattle.wire_step.specs.Step.{header_of, extended, step_of};
 ghost use Rattle.wire_step.specs.Sizes.{fits, sized_step};
 
+// The kinds that rules name. A kind stays a number: each of the 256 bytes is one, and rules speak of ranges of them.
+pub const APC: u8 = 2;
+
+pub const FRAG: u8 = 3;
+
 // What a kind byte says of its option: the end, filler, one of two whole lengths, any length, or unsafe.
 #[derive(Clone, Copy)]
 pub enum Class {
@@ -16,11 +21,11 @@ pub enum Class {
     Unsafe,
 }
 
-// An option's header: its own size and the whole length of the option. Broken where the option can't be.
+// An option's header: its own size and the whole length of the option.
 #[derive(Clone, Copy)]
-pub enum Header {
-    Sound { size: usize, whole: usize },
-    Broken,
+pub struct Header {
+    pub size: usize,
+    pub whole: usize,
 }
 
 #[derive(Clone, Copy)]
@@ -57,18 +62,18 @@ pub fn next(rest: &[u8]) -> Step
     }
 }
 
-// An option with a header.
-fn sized_step(kind: u8, header: Header) -> Step
+// An option with a header, where it has a sound one.
+fn sized_step(kind: u8, header: Option<Header>) -> Step
     ensures { result ≡ sized_step (class_of kind) kind header }
 {
     match header {
-        Header::Sound { size, whole } => {
+        Some(Header { size, whole }) => {
             if fits(class_of(kind), whole) {
                 return found(kind, size, whole);
             }
             Step::Malformed
         }
-        Header::Broken => Step::Malformed,
+        None => Step::Malformed,
     }
 }
 
@@ -108,42 +113,42 @@ fn class_of(kind: u8) -> Class
     }
 }
 
-// The length byte is looked at before the extended form is: an option of that form has 255 bytes at least.
-fn header_of(rest: &[u8]) -> Header
+// The header at the front: none where the option can't be. The length byte is looked at before the extended form is: an option of that form has 255 bytes at least.
+fn header_of(rest: &[u8]) -> Option<Header>
     ensures { result ≡ header_of rest.now }
 {
     if rest.len() < 2 {
-        return Header::Broken;
+        return None;
     }
     let short = rest[1] as usize;
     if short < 2 {
-        return Header::Broken;
+        return None;
     }
     if rest.len() < short {
-        return Header::Broken;
+        return None;
     }
     if short == 255 {
         return extended(rest);
     }
-    Header::Sound {
+    Some(Header {
         size: 2,
         whole: short,
-    }
+    })
 }
 
 // The extended form: a length byte of 255, and the whole length in the next two bytes.
-fn extended(rest: &[u8]) -> Header
+fn extended(rest: &[u8]) -> Option<Header>
     requires { 255 ≤ length rest.now }
     ensures { result ≡ extended rest.now }
 {
     let whole = number_octets::get_u16(rest, 2) as usize;
     if whole < 255 {
-        return Header::Broken;
+        return None;
     }
     if rest.len() < whole {
-        return Header::Broken;
+        return None;
     }
-    Header::Sound { size: 4, whole }
+    Some(Header { size: 4, whole })
 }
 
 fn found(kind: u8, header: usize, size: usize) -> Step

@@ -5,7 +5,7 @@ use native.Mathlib.Omega.{arith}
 use lib.ListN.{length}
 use borrow.Author.Tests.{le-leb, lt-leb}
 use Rattle.number_octets.specs.Octets.{number, part}
-use Rattle.wire_step.specs.declared.Header.TheVariants.{Sound}
+use Rattle.wire_step.specs.Step.{sound}
 use Rattle.wire_step.proofs.extended.Goals as goal
 use Rattle.wire_step.proofs.extended.Goals.{Else-rest-whole, Then-rest-whole, Then-whole-lt255}
 
@@ -37,4 +37,4 @@ pub returns : goal.returns
 returns c = let l = c.args.rest.now in
     let e = whole-3 c in
     let n : ℕ = number (part 2 2 l) in
-    ap (Sound 4) e ∙ sym (simp (le-leb 4 (length l) (omega arith), le-leb 255 n (omega arith), le-leb n (length l) (omega arith)))
+    ap (sound 4) e ∙ sym (simp (le-leb 4 (length l) (omega arith), le-leb 255 n (omega arith), le-leb n (length l) (omega arith)))

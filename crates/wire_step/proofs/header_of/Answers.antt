@@ -9,19 +9,19 @@ use lib.Dec.{eqb, leb}
 use lib.ListN.{length, get_or}
 use Rattle.wire_step.specs.Step.{within, extended, header_of}
 use Rattle.wire_step.specs.declared.Header.{Header}
-use Rattle.wire_step.specs.declared.Header.TheVariants.{Broken}
+use Rattle.std.proofs.Common.{Option, None}
 use Rattle.wire_step.proofs.Steps.{extended-short}
 use Rattle.wire_step.proofs.header_of.Goals as goal
 
 -- a list shorter than its length byte says
-short-list : (l : List ℕ) → 2 ≤ length l → 2 ≤ get_or l 1 0 → length l < get_or l 1 0 → header_of l ≡ Broken
+short-list : (l : List ℕ) → 2 ≤ length l → 2 ≤ get_or l 1 0 → length l < get_or l 1 0 → header_of l ≡ None
 unfolding header_of
 short-list l two least short = go (eqb (get_or l 1 0) 255) refl
   where
-    rest : Header
-    rest = cond (leb 2 (get_or l 1 0)) (within (length l) 2 (get_or l 1 0)) Broken
+    rest : Option Header
+    rest = cond (leb 2 (get_or l 1 0)) (within (length l) 2 (get_or l 1 0)) None
 
-    go : (t : Bool) → eqb (get_or l 1 0) 255 ≡ t → cond (leb 2 (length l)) (cond t (extended l) rest) Broken ≡ Broken
+    go : (t : Bool) → eqb (get_or l 1 0) 255 ≡ t → cond (leb 2 (length l)) (cond t (extended l) rest) None ≡ None
     go true e = simp (le-leb 2 (length l) two, extended-short l (omega (arith, eqb-true (get_or l 1 0) 255 e)))
     go false e = simp (le-leb 2 (length l) two, le-leb 2 (get_or l 1 0) least, lt-leb (get_or l 1 0) (length l) short)
 
