@@ -31,8 +31,9 @@ use Rattle.wire_options.specs.declared.walk.Apcs.{Apcs}
 use Rattle.wire_options.specs.declared.walk.Apcs.TheVariants.{Absent, Same, Different}
 use Rattle.wire_options.specs.declared.walk.Progress.{Progress}
 use Rattle.wire_options.specs.declared.walk.Progress.TheVariants.{On, Apc, Ended, Failed}
-use Rattle.wire_options.specs.declared.walk.Walk.{Walk}
-use Rattle.wire_options.specs.declared.walk.Walk.TheVariants.{Listed, Faulty}
+use Rattle.wire_options.specs.declared.walk.Listed.{Listed}
+use Rattle.wire_options.specs.declared.walk.Met.{Met}
+use Rattle.std.proofs.Common.{Result, Ok, Err}
 use Rattle.wire_options.proofs.Stricts.{by-skip, walk-other}
 use Rattle.wire_options.proofs.Runs.{run-passed, run-padded}
 
@@ -79,22 +80,28 @@ joined-assoc (Same v) (Same w) c = go (eqb v w) refl
 
 -- ---- what a walk tells, with options before it
 
-abbrev pub behind : ℕ → Apcs → Walk → Walk
-behind n a (Listed count fill b) = Listed (n + count) fill (joined a b)
-behind n a (Faulty fault at) = Faulty fault at
+abbrev pub Answer : Type 0
+Answer = Result Listed Met
 
-pub behind-none : (w : Walk) → behind 0 Absent w ≡ w
-behind-none (Listed count fill b) = ap (λ (n : ℕ). Listed n fill b) (zero-add count)
-behind-none (Faulty fault at) = refl
+abbrev pub readable : ℕ → ℕ → Apcs → Answer
+readable count fill apcs = Ok (record { count = count; fill = fill; apcs = apcs })
 
-pub behind-behind : (n m : ℕ) (a b : Apcs) (w : Walk) → behind n a (behind m b w) ≡ behind (n + m) (joined a b) w
-behind-behind n m a b (Listed count fill c) =
-    ap₂ (λ (k : ℕ) (x : Apcs). Listed k fill x) (sym (add_assoc n m count)) (joined-assoc a b c)
-behind-behind n m a b (Faulty fault at) = refl
+abbrev pub behind : ℕ → Apcs → Answer → Answer
+behind n a (Ok list) = readable (n + list.count) list.fill (joined a list.apcs)
+behind n a (Err met) = Err met
+
+pub behind-none : (w : Answer) → behind 0 Absent w ≡ w
+behind-none (Ok list) = ap (λ (n : ℕ). readable n list.fill list.apcs) (zero-add list.count)
+behind-none (Err met) = refl
+
+pub behind-behind : (n m : ℕ) (a b : Apcs) (w : Answer) → behind n a (behind m b w) ≡ behind (n + m) (joined a b) w
+behind-behind n m a b (Ok list) =
+    ap₂ (λ (k : ℕ) (x : Apcs). readable k list.fill x) (sym (add_assoc n m list.count)) (joined-assoc a b list.apcs)
+behind-behind n m a b (Err met) = refl
 
 answer-before : (end : ℕ) (option : Located) (w : Walked) → walk_answer end (before option w) ≡ behind 1 (apc_of option.item) (walk_answer end w)
 unfolding apcs_of
-answer-before end option (listed options fill) = ap (λ (n : ℕ). Listed n fill (joined (apc_of option.item) (apcs_of (items_in options)))) (omega arith)
+answer-before end option (listed options fill) = ap (λ (n : ℕ). readable n fill (joined (apc_of option.item) (apcs_of (items_in options)))) (omega arith)
 answer-before end option (faulty fault remains) = refl
 
 -- ---- one turn
@@ -127,7 +134,7 @@ module _ (s : Strictness) (b : ℕ) (bs : List ℕ) where
   tells-nops : (room : ℕ) → 0 < nops_of l → nops_of l ≤ length l → Tells s room l (nop_progress s room (nops_of l))
   tells-nops room some fits = go (is_padding s (nops_of l)) refl
     where
-      behind-run : ℕ → Walk
+      behind-run : ℕ → Answer
       behind-run end = walk_answer end (walk_by s room 0 (drop (nops_of l) l))
 
       go : (t : Bool) → is_padding s (nops_of l) ≡ t → Tells s room l (cond t (Failed Padded nop_limit) (On room (nops_of l)))
@@ -193,31 +200,31 @@ unfolding progress_of
 tells s room [] progress h q = absurd (omega arith)
 tells s room (b ∷ bs) progress h q = subst (Tells s room (b ∷ bs)) q (tells-step s b bs room (step_of (b ∷ bs)) refl)
 
-pub answer-none : (s : Strictness) (end room skip : ℕ) → walk_answer end (walk_by s room skip []) ≡ Listed 0 0 Absent
+pub answer-none : (s : Strictness) (end room skip : ℕ) → walk_answer end (walk_by s room skip []) ≡ readable 0 0 Absent
 unfolding walk_from strict_from apcs_of
 answer-none Plain end room skip = refl
 answer-none Strict end room skip = refl
 
 -- the list ends, or a fault is met, behind the first `at` bytes
 pub answer-ended : (s : Strictness) (end room : ℕ) (l : List ℕ) (fill : ℕ) → walk_by s room 0 l ≡ listed [] fill
-    → walk_answer end (walk_by s room 0 l) ≡ Listed 0 fill Absent
+    → walk_answer end (walk_by s room 0 l) ≡ readable 0 fill Absent
 unfolding apcs_of
 answer-ended s end room l fill w = ap (walk_answer end) w
 
 pub answer-failed : (s : Strictness) (base room : ℕ) (l : List ℕ) (at : ℕ) (fault : Fault) (ahead : ℕ) → at ≤ length l
     → Tells s room (drop at l) (Failed fault ahead)
-    → walk_answer (base + length l) (walk_by s room 0 (drop at l)) ≡ Faulty fault (record { 0 = base + at + ahead })
+    → walk_answer (base + length l) (walk_by s room 0 (drop at l)) ≡ Err (record { fault = fault; at = record { 0 = base + at + ahead } })
 answer-failed s base room l at fault ahead h t =
     let left : length (drop at l) ≡ length l - at = length-drop at l in
     let offset : base + length l - (length (drop at l) - ahead) ≡ base + at + ahead = omega (arith, t.0) in
-    ap (walk_answer (base + length l)) t.1 ∙ ap (λ (n : ℕ). Faulty fault (record { 0 = n })) offset
+    ap (walk_answer (base + length l)) t.1 ∙ ap (λ (n : ℕ). Err (record { fault = fault; at = record { 0 = n } })) offset
 
 -- a loop's turn: what was told of the whole by the rest is told by what is left of it
-pub turn_on : (s : Strictness) (end : ℕ) (whole : Walk) (l : List ℕ) (room left next at size : ℕ) (passed apcs sum : Apcs) → left ≤ room
+pub turn_on : (s : Strictness) (end : ℕ) (whole : Answer) (l : List ℕ) (room left next at size : ℕ) (passed apcs sum : Apcs) → left ≤ room
     → whole ≡ behind (room - left) passed (walk_answer end (walk_by s left 0 (drop at l))) → Goes s left (drop at l) next size apcs → sum ≡ joined passed apcs
     → whole ≡ behind (room - next) sum (walk_answer end (walk_by s next 0 (drop (at + size) l)))
 turn_on s end whole l room left next at size passed apcs sum h e g j =
-    let rest : Walk = walk_answer end (walk_by s next 0 (drop size (drop at l))) in
+    let rest : Answer = walk_answer end (walk_by s next 0 (drop size (drop at l))) in
     let count : room - left + (left - next) ≡ room - next = omega (arith, g.less) in
     e ∙ ap (behind (room - left) passed) (g.carries end) ∙ behind-behind (room - left) (left - next) passed apcs rest
     ∙ ap₂ (λ (n : ℕ) (a : Apcs). behind n a rest) count (sym j)

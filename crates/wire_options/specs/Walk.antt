@@ -1,5 +1,5 @@
 -- The walk over a list of options (document 01, "Walking the list"), and where each option and each fault stands (document 02, R-7).
-use Rattle.std.specs.Prelude.{Bool, cond, List, [], ◌∷◌, ℕ, zero, suc, ◌-◌, eqb, length}
+use Rattle.std.specs.Prelude.{Bool, cond, Result, Ok, Err, List, [], ◌∷◌, ℕ, zero, suc, ◌-◌, eqb, length}
 use Rattle.number_octets.specs.Octets.{number, part}
 use Rattle.number_octets.specs.Zeros.{all_zero, zeros_of}
 use Rattle.number_offsets.specs.declared.PacketOffset.{PacketOffset}
@@ -11,8 +11,8 @@ use Rattle.wire_options.specs.declared.walk.Fault.{Fault}
 use Rattle.wire_options.specs.declared.walk.Fault.TheVariants.{Malformed, Unsafe, Crowded, Tail}
 use Rattle.wire_options.specs.declared.walk.Apcs.{Apcs}
 use Rattle.wire_options.specs.declared.walk.Apcs.TheVariants.{Absent, Same, Different}
-use Rattle.wire_options.specs.declared.walk.Walk.{Walk}
-use Rattle.wire_options.specs.declared.walk.Walk.TheVariants.{Listed, Faulty}
+use Rattle.wire_options.specs.declared.walk.Listed.{Listed}
+use Rattle.wire_options.specs.declared.walk.Met.{Met}
 
 -- how many options besides NOP and EOL a list may have
 unfoldable pub option_limit : ℕ
@@ -112,6 +112,6 @@ abbrev pub offset_before : ℕ → ℕ → PacketOffset
 offset_before end remains = record { 0 = end - remains }
 
 -- of a list that ends at the packet offset `end`
-abbrev pub walk_answer : ℕ → Walked → Walk
-walk_answer end (listed options fill) = Listed (length options) fill (apcs_of (items_in options))
-walk_answer end (faulty fault remains) = Faulty fault (offset_before end remains)
+abbrev pub walk_answer : ℕ → Walked → Result Listed Met
+walk_answer end (listed options fill) = Ok (record { count = length options; fill = fill; apcs = apcs_of (items_in options) })
+walk_answer end (faulty fault remains) = Err (record { fault = fault; at = offset_before end remains })

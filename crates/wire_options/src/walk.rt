@@ -8,14 +8,10 @@ ghost use Rattle.wire_options.specs.Progress.{end_progress, nop_progress, progre
 use number_octets::zeros;
 use number_offsets::PacketOffset;
 use wire_nops::Strictness;
-use wire_step::Step;
+use wire_step::{APC, FRAG, Step};
 
 // How many options besides NOP and EOL a list may have: a house rule.
 pub const OPTION_LIMIT: usize = 32;
-
-const APC: u8 = 2;
-
-const FRAG: u8 = 3;
 
 // What makes a list unreadable.
 #[derive(Clone, Copy)]
@@ -39,16 +35,19 @@ pub enum Apcs {
     Different,
 }
 
+// What a readable list has: `count` options, the fill behind them, and what their APCs say.
 #[derive(Clone, Copy)]
-pub enum Walk {
-    // `count` options, the fill behind them, and what their APCs say.
-    Listed {
-        count: usize,
-        fill: usize,
-        apcs: Apcs,
-    },
-    // The fault met first, and where.
-    Faulty(Fault, PacketOffset),
+pub struct Listed {
+    pub count: usize,
+    pub fill: usize,
+    pub apcs: Apcs,
+}
+
+// The fault met first, and where.
+#[derive(Clone, Copy)]
+pub struct Met {
+    pub fault: Fault,
+    pub at: PacketOffset,
 }
 
 // What one step of the walk comes to.
@@ -73,7 +72,7 @@ enum Progress {
 }
 
 // Walks the list that stands at packet offset `base` and may have `room` options.
-pub fn walk_list(list: &[u8], base: PacketOffset, room: usize, strictness: Strictness) -> Walk
+pub fn walk_list(list: &[u8], base: PacketOffset, room: usize, strictness: Strictness) -> Result<Listed, Met>
     requires { base.0 + length list.now < 18446744073709551616 }
     ensures { result ≡ walk_answer (base.0 + length list.now) (walk_by strictness room 0 list.now) }
 {
@@ -97,22 +96,25 @@ pub fn walk_list(list: &[u8], base: PacketOffset, room: usize, strictness: Stric
                 apcs = join(apcs, value);
             }
             Progress::Ended { fill } => {
-                return Walk::Listed {
+                return Ok(Listed {
                     count: room - left,
                     fill,
                     apcs,
-                };
+                });
             }
             Progress::Failed(fault, ahead) => {
-                return Walk::Faulty(fault, PacketOffset(base.0 + at + ahead));
+                return Err(Met {
+                    fault,
+                    at: PacketOffset(base.0 + at + ahead),
+                });
             }
         }
     }
-    Walk::Listed {
+    Ok(Listed {
         count: room - left,
         fill: 0,
         apcs,
-    }
+    })
 }
 
 // One step of the walk.

@@ -16,9 +16,7 @@ use Rattle.wire_options.specs.declared.walk.Progress.{Progress}
 use Rattle.wire_options.specs.declared.walk.Apcs.{Apcs}
 use Rattle.wire_options.specs.declared.walk.Apcs.TheVariants.{Absent, Same}
 use Rattle.wire_options.specs.declared.walk.Progress.TheVariants.{On, Apc, Ended, Failed}
-use Rattle.wire_options.specs.declared.walk.Walk.{Walk}
-use Rattle.wire_options.specs.declared.walk.Walk.TheVariants.{Listed}
-use Rattle.wire_options.proofs.Walks.{Tells, behind, behind-none, turn_on, joined-absent, tells, answer-none, answer-ended, answer-failed}
+use Rattle.wire_options.proofs.Walks.{Answer, readable, Tells, behind, behind-none, turn_on, joined-absent, tells, answer-none, answer-ended, answer-failed}
 use Rattle.wire_options.proofs.walk.walk_list.Goals as goal
 
 -- the turn that was made, over the rest of the list
@@ -34,7 +32,7 @@ bound list at size h f = omega (arith, simp length-drop at f)
 pub loop-at-init : goal.loop-at-init
 loop-at-init c = let a = c.args in
     let none : a.room - a.room ≡ 0 = omega arith in
-    let whole : Walk = walk_answer (a.base.0 + length a.list.now) (walk_by a.strictness a.room 0 a.list.now) in
+    let whole : Answer = walk_answer (a.base.0 + length a.list.now) (walk_by a.strictness a.room 0 a.list.now) in
     (omega arith, omega arith, sym (ap (λ (n : ℕ). behind n Absent whole) none ∙ behind-none whole))
 
 pub overflow_add-at : goal.overflow_add-at
@@ -99,7 +97,7 @@ returns-in-Ended c =
     let n : ℕ = a.room - w.left in
     sym (w.invariant.2
     ∙ ap (behind n w.apcs) (answer-ended a.strictness (a.base.0 + length a.list.now) w.left (drop w.at a.list.now) _ g)
-    ∙ ap₂ (λ (k : ℕ) (x : Apcs). Listed k c.in-Ended.fill x) (add-zero n) (joined-absent w.apcs))
+    ∙ ap₂ (λ (k : ℕ) (x : Apcs). readable k c.in-Ended.fill x) (add-zero n) (joined-absent w.apcs))
 
 pub overflow_add-result-in-Failed : goal.overflow_add-result-in-Failed
 overflow_add-result-in-Failed c =
@@ -132,4 +130,4 @@ returns c = let a = c.args in
     sym (c.loop-at.invariant.2
     ∙ ap (λ (l : List ℕ). behind n c.loop-at.apcs (walk_answer (a.base.0 + length a.list.now) (walk_by a.strictness c.loop-at.left 0 l))) (drop_of_length-le a.list.now c.loop-at-test.false)
     ∙ ap (behind n c.loop-at.apcs) (answer-none a.strictness (a.base.0 + length a.list.now) c.loop-at.left 0)
-    ∙ ap₂ (λ (k : ℕ) (x : Apcs). Listed k 0 x) (add-zero n) (joined-absent c.loop-at.apcs))
+    ∙ ap₂ (λ (k : ℕ) (x : Apcs). readable k 0 x) (add-zero n) (joined-absent c.loop-at.apcs))
