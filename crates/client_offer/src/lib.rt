@@ -14,43 +14,37 @@ use number_offsets::OriginalOffset;
 
 // ---- what is asked of an offer
 
-#[derive(Clone, Copy)]
-enum Checked {
-    Refused(Refusal),
-    Passed,
-}
-
 // Refusals 22 to 28, with an out buffer of `out_length` bytes and a fragment of `n` bytes.
-fn check(client: Client, out_length: usize, o: Arrival, n: usize) -> Checked
+fn check(client: Client, out_length: usize, o: Arrival, n: usize) -> Result<(), Refusal>
     ensures { checked_number result ≡ first_of (offer_tests client out_length o n) }
 {
     if client_record_test::sound(client) {
         let offset = o.offset.0;
         let options = o.option_start.0;
         if out_length < client_record::DATAGRAM_LIMIT {
-            return Checked::Refused(Refusal::OutTooShort);
+            return Err(Refusal::OutTooShort);
         }
         if n == 0 {
-            return Checked::Refused(Refusal::EmptyFragment);
+            return Err(Refusal::EmptyFragment);
         }
         if client_record::DATAGRAM_LIMIT < offset {
-            return Checked::Refused(Refusal::EndPastLimit);
+            return Err(Refusal::EndPastLimit);
         }
         if client_record::DATAGRAM_LIMIT - offset < n {
-            return Checked::Refused(Refusal::EndPastLimit);
+            return Err(Refusal::EndPastLimit);
         }
-        if client_record::both(o.last, offset + n < options) {
-            return Checked::Refused(Refusal::OptionStartPastEnd);
+        if o.last && offset + n < options {
+            return Err(Refusal::OptionStartPastEnd);
         }
         if o.time < client.time {
-            return Checked::Refused(Refusal::TimeBeforeLast);
+            return Err(Refusal::TimeBeforeLast);
         }
         if client_record::OFFERED_LIMIT - client.offered < n as u64 {
-            return Checked::Refused(Refusal::OfferedPastLimit);
+            return Err(Refusal::OfferedPastLimit);
         }
-        return Checked::Passed;
+        return Ok(());
     }
-    Checked::Refused(Refusal::UnsoundRecord)
+    Err(Refusal::UnsoundRecord)
 }
 
 // The offer as a fragment of `n` bytes to be held. The option start is 0 unless it is the last one.
@@ -94,15 +88,15 @@ fn join(c: Client, share: &[u8], out: &mut [u8], p: usize, a: Assembly, f: Fragm
         number_octets::copy(&share[start..stop], out, 0);
         return Step {
             client: client_placement::delivering(c, p, a, n),
-            answer: Answer::Delivered {
-                length: length,
+            answer: Ok(Answer::Delivered {
+                length,
                 option_start: OriginalOffset(options),
-            },
+            }),
         };
     }
     Step {
         client: client_placement::storing(c, p, b, n),
-        answer: Answer::Stored,
+        answer: Ok(Answer::Stored),
     }
 }
 
@@ -125,20 +119,20 @@ fn place(
     if client_placement::repeats(a, f, &share[start..stop], bytes) {
         return Step {
             client: client_placement::repeating(c, n),
-            answer: Answer::Repeated,
+            answer: Ok(Answer::Repeated),
         };
     }
     if client_fragments::conflicts_any(a, f) {
         return Step {
             client: client_placement::conflicting(c, p, a, n),
-            answer: Answer::Conflict,
+            answer: Ok(Answer::Conflict),
         };
     }
     let count = a.count as usize;
     if count == client_record::FRAGMENT_LIMIT {
         return Step {
             client: client_placement::rejecting(c, n),
-            answer: Answer::Refused(Refusal::AssemblyFull),
+            answer: Err(Refusal::AssemblyFull),
         };
     }
     number_octets::copy(bytes, share, start);
@@ -156,7 +150,7 @@ fn take(c: Client, share: &mut [u8], out: &mut [u8], o: Arrival, bytes: &[u8]) -
     if plan <= p {
         return Step {
             client: client_placement::rejecting(c, bytes.len() as u64),
-            answer: Answer::Refused(Refusal::NoFreeAssembly),
+            answer: Err(Refusal::NoFreeAssembly),
         };
     }
     let a = client_placement::assembly_for(c, p, o);
@@ -170,11 +164,11 @@ pub fn offer(client: Client, share: &mut [u8], out: &mut [u8], o: Arrival, bytes
 {
     let checked = check(client, out.len(), o, bytes.len());
     match checked {
-        Checked::Refused(r) => Step {
-            client: client,
-            answer: Answer::Refused(r),
+        Err(refusal) => Step {
+            client,
+            answer: Err(refusal),
         },
-        Checked::Passed => {
+        Ok(_) => {
             let c = client_reassembly::elapsed(client, o.time);
             take(c, share, out, o, bytes)
         }

@@ -1,5 +1,5 @@
--- What a call answers, in document 01's numbers and values, and the cases of the code's enums that stand for them.
-use Rattle.std.specs.Prelude.{ℕ, List, [], ◌∷◌}
+-- What a call answers, in document 01's numbers and values, and the cases of the code's types that stand for them.
+use Rattle.std.specs.Prelude.{ℕ, List, [], ◌∷◌, Result, Ok, Err}
 use Rattle.client_reassembly.specs.declared.Refusal.{Refusal}
 use Rattle.client_reassembly.specs.declared.Refusal.TheVariants.{
   TableMisfit,
@@ -17,7 +17,7 @@ use Rattle.client_reassembly.specs.declared.Refusal.TheVariants.{
 }
 use Rattle.client_reassembly.specs.declared.Figures.{Figures}
 use Rattle.client_reassembly.specs.declared.Answer.{Answer}
-use Rattle.client_reassembly.specs.declared.Answer.TheVariants.{Refused, Reset, Stored, Repeated, Conflict, Delivered, Advanced, Account}
+use Rattle.client_reassembly.specs.declared.Answer.TheVariants.{Reset, Stored, Repeated, Conflict, Delivered, Advanced, Account}
 
 -- `ready` is the answer of a set-up; `delivered` has T and r; `account` has offered, held, delivered, expired, conflicted, repeated and rejected
 pub data Reply : Type 0 where
@@ -48,12 +48,12 @@ number_of PlanOutOfRange = 32
 abbrev pub figures_of : Figures → List ℕ
 figures_of f = f.offered ∷ f.held ∷ f.delivered ∷ f.expired ∷ f.conflicted ∷ f.repeated ∷ f.rejected ∷ []
 
-abbrev pub reply_of : Answer → Reply
-reply_of (Refused r) = refused (number_of r)
-reply_of Reset = ready
-reply_of Stored = stored
-reply_of Repeated = repeated
-reply_of Conflict = conflict
-reply_of (Delivered n s) = delivered n s.0
-reply_of Advanced = advanced
-reply_of (Account f) = account (figures_of f)
+abbrev pub reply_of : Result Answer Refusal → Reply
+reply_of (Err r) = refused (number_of r)
+reply_of (Ok Reset) = ready
+reply_of (Ok Stored) = stored
+reply_of (Ok Repeated) = repeated
+reply_of (Ok Conflict) = conflict
+reply_of (Ok (Delivered n s)) = delivered n s.0
+reply_of (Ok Advanced) = advanced
+reply_of (Ok (Account f)) = account (figures_of f)

@@ -6,6 +6,7 @@ ghost use Rattle.std.specs.Prelude.{◌≡◌, true, map};
 ghost use Rattle.client_record.specs.Lists.{sum};
 ghost use Rattle.client_record.specs.Record.{sound_record};
 ghost use Rattle.client_reassembly.specs.Advance.{old, expire, lost, elapse, advance_on, account_on};
+ghost use Rattle.client_reassembly.specs.Answer.{number_of};
 ghost use Rattle.client_reassembly.specs.Post.{StepGives};
 
 use client_record::{Assembly, Client, Flow};
@@ -29,6 +30,28 @@ pub enum Refusal {
     PlanOutOfRange,
 }
 
+// The refusal's number.
+impl From<Refusal> for u32 {
+    ghost from_gives = { λ refusal number. number ≡ number_of refusal };
+
+    fn from(refusal: Refusal) -> u32 {
+        match refusal {
+            Refusal::TableMisfit => 20,
+            Refusal::NoSuchClient => 21,
+            Refusal::UnsoundRecord => 22,
+            Refusal::OutTooShort => 23,
+            Refusal::EmptyFragment => 24,
+            Refusal::EndPastLimit => 25,
+            Refusal::OptionStartPastEnd => 26,
+            Refusal::TimeBeforeLast => 27,
+            Refusal::OfferedPastLimit => 28,
+            Refusal::NoFreeAssembly => 29,
+            Refusal::AssemblyFull => 30,
+            Refusal::PlanOutOfRange => 32,
+        }
+    }
+}
+
 // A client's account (document 01's bill).
 #[derive(Clone, Copy)]
 pub struct Figures {
@@ -41,10 +64,9 @@ pub struct Figures {
     pub rejected: u64,
 }
 
-// What the table's calls answer; `Reset` is that of a set-up.
+// What the table's calls answer where they refuse nothing; `Reset` is that of a set-up.
 #[derive(Clone, Copy)]
 pub enum Answer {
-    Refused(Refusal),
     Reset,
     Stored,
     Repeated,
@@ -61,7 +83,7 @@ pub enum Answer {
 #[derive(Clone, Copy)]
 pub struct Step {
     pub client: Client,
-    pub answer: Answer,
+    pub answer: Result<Answer, Refusal>,
 }
 
 // A fragment that a client offers (document 01's piece call), without its bytes.
@@ -85,10 +107,7 @@ fn old(a: Assembly, time: u64) -> bool
     if time < opened {
         return false;
     }
-    client_record::both(
-        client_record::live(a),
-        client_record::LIFETIME <= time - opened,
-    )
+    client_record::live(a) && client_record::LIFETIME <= time - opened
 }
 
 fn expired(a: Assembly, time: u64) -> Assembly
@@ -171,17 +190,17 @@ pub fn advance(client: Client, time: u64) -> Step
         if time < client.time {
             return Step {
                 client: client,
-                answer: Answer::Refused(Refusal::TimeBeforeLast),
+                answer: Err(Refusal::TimeBeforeLast),
             };
         }
         return Step {
             client: elapsed(client, time),
-            answer: Answer::Advanced,
+            answer: Ok(Answer::Advanced),
         };
     }
     Step {
         client: client,
-        answer: Answer::Refused(Refusal::UnsoundRecord),
+        answer: Err(Refusal::UnsoundRecord),
     }
 }
 
@@ -201,11 +220,11 @@ pub fn account(client: Client) -> Step
         };
         return Step {
             client: client,
-            answer: Answer::Account(figures),
+            answer: Ok(Answer::Account(figures)),
         };
     }
     Step {
         client: client,
-        answer: Answer::Refused(Refusal::UnsoundRecord),
+        answer: Err(Refusal::UnsoundRecord),
     }
 }

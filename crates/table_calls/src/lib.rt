@@ -10,7 +10,7 @@ ghost use Rattle.client_record.specs.Record.{fresh_client};
 ghost use Rattle.client_ledger.specs.History.{offering, advancing, accounting};
 ghost use Rattle.table_rules.specs.Table.{table_of, reset_on, ask_on, Leaves};
 
-use client_reassembly::{Answer, Arrival, Step};
+use client_reassembly::{Answer, Arrival, Refusal};
 use client_record::Client;
 
 // The bytes of a client's share of the store.
@@ -29,34 +29,11 @@ fn fresh_of(client: Client) -> Client
     client_record::fresh(client.plan)
 }
 
-fn was_reset() -> Answer
-    ensures { result ≡ Answer.Reset }
-{
-    Answer::Reset
-}
-
-fn client_of(step: Step) -> Client
-    ensures { result ≡ step.client }
-{
-    let client = step.client;
-    client
-}
-
-fn answer_of(step: Step) -> Answer
-    ensures { result ≡ step.answer }
-{
-    let answer = step.answer;
-    answer
-}
-
 // Document 01's set-up: every record is fresh, with the plan that it has, and the store stays.
-pub fn reset(records: &mut [Client], store: &[u8]) -> Answer
+pub fn reset(records: &mut [Client], store: &[u8]) -> Result<Answer, Refusal>
     ensures { Leaves (reset_on (table_of records.old store.now)) result records.new store.now [] }
 {
-    let admission = table_admission::admit(records, store.len(), 0);
-    if !table_admission::is_granted(admission) {
-        return table_admission::refusal_of(admission);
-    }
+    table_admission::admit(records, store.len(), 0)?;
     let mut i = 0;
     while i < records.len() {
         let client = records[i];
@@ -64,7 +41,7 @@ pub fn reset(records: &mut [Client], store: &[u8]) -> Answer
         records[i] = next;
         i += 1;
     }
-    was_reset()
+    Ok(Answer::Reset)
 }
 
 // Document 01's piece call of client `k`: `out` gets an original that the fragment completes.
@@ -75,45 +52,36 @@ pub fn offer(
     arrival: Arrival,
     bytes: &[u8],
     out: &mut [u8],
-) -> Answer
+) -> Result<Answer, Refusal>
     ensures { Leaves (ask_on k (offering arrival bytes.now out.old) (table_of records.old store.old)) result records.new store.new out.new }
 {
-    let admission = table_admission::admit(records, store.len(), k);
-    if !table_admission::is_granted(admission) {
-        return table_admission::refusal_of(admission);
-    }
+    let start = table_admission::admit(records, store.len(), k)?;
     let client = records[k];
-    let start = table_admission::start_of(admission);
     let end = start + share_of(client);
     let step = client_offer::offer(client, &mut store[start..end], out, arrival, bytes);
-    let next = client_of(step);
+    let next = step.client;
     records[k] = next;
-    answer_of(step)
+    step.answer
 }
 
 // Document 01's clock of client `k`.
-pub fn advance(records: &mut [Client], store: &[u8], k: usize, time: u64) -> Answer
+pub fn advance(records: &mut [Client], store: &[u8], k: usize, time: u64) -> Result<Answer, Refusal>
     ensures { Leaves (ask_on k (advancing time) (table_of records.old store.now)) result records.new store.now [] }
 {
-    let admission = table_admission::admit(records, store.len(), k);
-    if !table_admission::is_granted(admission) {
-        return table_admission::refusal_of(admission);
-    }
+    table_admission::admit(records, store.len(), k)?;
     let client = records[k];
     let step = client_reassembly::advance(client, time);
-    let next = client_of(step);
+    let next = step.client;
     records[k] = next;
-    answer_of(step)
+    step.answer
 }
 
 // Document 01's bill of client `k`.
-pub fn account(records: &[Client], store: &[u8], k: usize) -> Answer
+pub fn account(records: &[Client], store: &[u8], k: usize) -> Result<Answer, Refusal>
     ensures { Leaves (ask_on k accounting (table_of records.now store.now)) result records.now store.now [] }
 {
-    let admission = table_admission::admit(records, store.len(), k);
-    if !table_admission::is_granted(admission) {
-        return table_admission::refusal_of(admission);
-    }
+    table_admission::admit(records, store.len(), k)?;
     let client = records[k];
-    answer_of(client_reassembly::account(client))
+    let step = client_reassembly::account(client);
+    step.answer
 }

@@ -1,7 +1,6 @@
 -- Demand 3 over demand 2's reading: lists in which `receive` and the table's four calls may be mixed. The fragments are those that `reading` finds in
 -- payloads as they arrive, and those that a host offers itself.
-use Rattle.std.specs.Prelude.{ℕ, ◌<◌, ◌≡◌, List, [], ◌∷◌, ◌++◌, ◌↔◌, eqb, length, cond}
-use Rattle.std.proofs.Math.Option.{Option, none, some}
+use Rattle.std.specs.Prelude.{ℕ, ◌<◌, ◌≡◌, List, [], ◌∷◌, ◌++◌, ◌↔◌, eqb, length, cond, Option, Some, None}
 use Rattle.number_octets.specs.Octets.{part}
 use Rattle.client_reassembly.specs.Answer.{refused, delivered}
 use Rattle.client_reassembly.specs.Advance.{figures}
@@ -76,8 +75,8 @@ answers_to k t (c ∷ cs) = answered_to k t c ++ answers_to k (after t c) cs
 
 -- a datagram that is no fragment is none
 abbrev pub offers : Lending → ℕ → Packet → List ℕ → Option Fragment → List Event
-offers g k p out none = []
-offers g k p out (some f) = asking g k (offer_of p f out) ∷ []
+offers g k p out None = []
+offers g k p out (Some f) = asking g k (offer_of p f out) ∷ []
 
 abbrev pub events_of : Call → List Event
 events_of (set_up g) = resetting g ∷ []
@@ -116,7 +115,7 @@ offer_in p f = Stands.offer_of (arrival_of p.payload p.source p.destination p.ti
 
 pub record OverPayloads : Type 0 where
   -- a datagram that is no fragment leaves every record, the store and out as they were
-  pub no_fragment : (k : ℕ) (p : Packet) (out : List ℕ) (t : Table) → piece_in (reading_of p) ≡ none
+  pub no_fragment : (k : ℕ) (p : Packet) (out : List ℕ) (t : Table) → piece_in (reading_of p) ≡ None
       → receive_on k p out t ≡ record { table = t; out = out; fate = fate_of (reading_of p) }
   -- the table after a mixed list is the one that its fragments and its other calls leave: so what demand 3 says of any call that follows holds here
   pub events : (t : Table) (cs : List Call) → Terms t (all_events cs) → table_after t cs ≡ Table.table_after t (all_events cs)
@@ -128,15 +127,15 @@ pub record OverPayloads : Type 0 where
       → Sums (record_of k (table_after t cs))
   -- of a datagram that follows: its fragment is delivered exactly when it is taken and whole
   pub delivery : (t : Table) (cs : List Call) → Terms t (all_events cs) → (k : ℕ) (p : Packet) (out : List ℕ) (f : Fragment) (n r : ℕ)
-      → piece_in (reading_of p) ≡ some f
+      → piece_in (reading_of p) ≡ Some f
       → ((receive_on k p out (table_after t cs)).fate ≡ offered (delivered n r))
       ↔ (Taken (lent_of (table_after t cs)) k (offer_in p f) (length out) (book_from k t cs) × Whole (assembled (offer_in p f) (book_from k t cs)) n r)
   -- then the bytes of out before n are the original's, and the rest of out is as it was
   pub delivered_bytes : (t : Table) (cs : List Call) → Terms t (all_events cs) → (k : ℕ) (p : Packet) (out : List ℕ) (f : Fragment) (n r : ℕ)
-      → piece_in (reading_of p) ≡ some f → (receive_on k p out (table_after t cs)).fate ≡ offered (delivered n r)
+      → piece_in (reading_of p) ≡ Some f → (receive_on k p out (table_after t cs)).fate ≡ offered (delivered n r)
       → (receive_on k p out (table_after t cs)).out ≡ handed (assembled (offer_in p f) (book_from k t cs)) n out
   pub placed : (t : Table) (cs : List Call) → Terms t (all_events cs) → (k : ℕ) (p : Packet) (out : List ℕ) (f : Fragment) (n r : ℕ)
-      → piece_in (reading_of p) ≡ some f → (receive_on k p out (table_after t cs)).fate ≡ offered (delivered n r)
+      → piece_in (reading_of p) ≡ Some f → (receive_on k p out (table_after t cs)).fate ≡ offered (delivered n r)
       → (before : List Content) (g : Content) (behind : List Content)
       → assembled (offer_in p f) (book_from k t cs) ≡ before ++ g ∷ behind
       → part g.place (size g) (receive_on k p out (table_after t cs)).out ≡ g.bytes

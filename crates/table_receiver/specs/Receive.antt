@@ -1,6 +1,5 @@
 -- One call per datagram: the payload is read (demand 2) and, if it is a fragment, offered to the table for the client.
-use Rattle.std.specs.Prelude.{ℕ, ◌-◌, ◌≡◌, List}
-use Rattle.std.proofs.Math.Option.{Option, none, some}
+use Rattle.std.specs.Prelude.{ℕ, ◌-◌, ◌≡◌, List, Option, Some, None, Result, Ok, Err}
 use Rattle.number_octets.specs.Octets.{number, part}
 use Rattle.wire_nops.specs.declared.Strictness.{Strictness}
 use Rattle.wire_area.specs.declared.Fragment.{Fragment}
@@ -9,17 +8,14 @@ use Rattle.wire_datagram.specs.Reading as Reading
 use Rattle.wire_datagram.specs.Reading.{Answer, reading, refusal_number}
 use Rattle.wire_reading.specs.declared.Verdict.{Verdict}
 use Rattle.wire_reading.specs.declared.Reading.{Reading}
-use Rattle.wire_datagram.specs.declared.reading.Outcome.{Outcome}
-use Rattle.wire_datagram.specs.declared.reading.Outcome.TheVariants.{Refused as Unread, Accepted}
+use Rattle.wire_datagram.specs.declared.reading.Refusal.{Refusal}
 use Rattle.client_record.specs.declared.Client.{Client}
 use Rattle.client_reassembly.specs.declared.Arrival.{Arrival}
 use Rattle.client_reassembly.specs.Answer.{Reply, reply_of}
 use Rattle.client_ledger.specs.History.{Ask, offering}
 use Rattle.table_rules.specs.Table.{Table, After, ask_on}
-use Rattle.table_receiver.specs.declared.Found.{Found}
-use Rattle.table_receiver.specs.declared.Found.TheVariants.{Other, Fragment as FoundFragment}
 use Rattle.table_receiver.specs.declared.Received.{Received}
-use Rattle.table_receiver.specs.declared.Received.TheVariants.{Refused, Datagram, Fragment as Offered}
+use Rattle.table_receiver.specs.declared.Received.TheVariants.{Datagram, Fragment as Offered}
 
 -- the fragment of a verdict "piece"
 abbrev pub piece_of : Verdict → Option Fragment
@@ -27,7 +23,7 @@ piece_of verdict = (verdict_says verdict).values
 
 -- the fragment that a payload is, if it is one
 abbrev pub piece_in : Answer → Option Fragment
-piece_in (Reading.refused n) = none
+piece_in (Reading.refused n) = None
 piece_in (Reading.reads r) = piece_of r.verdict
 
 abbrev pub with_ports : List ℕ → List ℕ → ℕ → Fragment → ℕ → ℕ → Arrival
@@ -83,30 +79,21 @@ taking a = record { table = a.table; out = a.out; fate = offered a.reply }
 
 -- what is no fragment leaves every record, the store and out as they were
 abbrev pub receiving : ℕ → Packet → List ℕ → Table → Option Fragment → Receipt
-receiving k p out t none = record { table = t; out = out; fate = fate_of (reading_of p) }
-receiving k p out t (some f) = taking (ask_on k (offer_of p f out) t)
+receiving k p out t None = record { table = t; out = out; fate = fate_of (reading_of p) }
+receiving k p out t (Some f) = taking (ask_on k (offer_of p f out) t)
 
 unfoldable pub receive_on : ℕ → Packet → List ℕ → Table → Receipt
 receive_on k p out t = receiving k p out t (piece_in (reading_of p))
 
 -- ---- what the contracts say
 
--- what the code finds in an outcome
-abbrev pub found_by : Option Fragment → Found
-found_by none = Other
-found_by (some f) = FoundFragment f
-
-abbrev pub found_in : Outcome → Found
-found_in (Unread refusal) = Other
-found_in (Accepted r) = found_by (piece_of r.verdict)
-
 -- the paper's numbers and values of what `receive` answers
-abbrev pub fate_in : Received → Fate
-fate_in (Refused refusal) = unread (refusal_number refusal)
-fate_in (Datagram r) = whole r
-fate_in (Offered answer) = offered (reply_of answer)
+abbrev pub fate_in : Result Received Refusal → Fate
+fate_in (Err refusal) = unread (refusal_number refusal)
+fate_in (Ok (Datagram r)) = whole r
+fate_in (Ok (Offered answer)) = offered (reply_of answer)
 
-pub record Leaves (o : Receipt) (answer : Received) (records : List Client) (store out : List ℕ) : Type 0 where
+pub record Leaves (o : Receipt) (answer : Result Received Refusal) (records : List Client) (store out : List ℕ) : Type 0 where
   pub answers : fate_in answer ≡ o.fate
   pub records_left : records ≡ o.table.records
   pub store_left : store ≡ o.table.store

@@ -1,5 +1,5 @@
 -- The table (document 01, "The table"): what each of the four calls answers, and what it leaves of the records, the store and out.
-use Rattle.std.specs.Prelude.{ℕ, ◌≡◌, Bool, not, ◌&&◌, List, [], ◌∷◌, ◌++◌, map, leb, eqb, length, get_or, set, take}
+use Rattle.std.specs.Prelude.{ℕ, ◌≡◌, Bool, not, ◌&&◌, List, [], ◌∷◌, ◌++◌, map, leb, eqb, length, get_or, set, take, Result}
 use Rattle.std.proofs.Math.Option.{Option, none, some}
 use Rattle.number_tests.specs.Tests.{first_of}
 use Rattle.number_octets.specs.Octets.{part, overlay}
@@ -8,6 +8,7 @@ use Rattle.client_record.specs.Limits.{share_size, assembly_limit, client_limit}
 use Rattle.client_record.specs.Lists.{all, sum}
 use Rattle.client_record.specs.Record.{fresh_client, blank_client}
 use Rattle.client_reassembly.specs.declared.Answer.{Answer}
+use Rattle.client_reassembly.specs.declared.Refusal.{Refusal}
 use Rattle.client_reassembly.specs.Answer.{Reply, refused, ready, reply_of}
 use Rattle.client_reassembly.specs.Offer.{Outcome}
 use Rattle.client_ledger.specs.History.{Lent, Ask, offering, advancing, accounting, call_on}
@@ -103,7 +104,7 @@ abbrev pub table_of : List Client → List ℕ → Table
 table_of records store = record { records = records; store = store }
 
 -- a call that is lent everything leaves what `a` has
-pub record Leaves (a : After) (answer : Answer) (records : List Client) (store out : List ℕ) : Type 0 where
+pub record Leaves (a : After) (answer : Result Answer Refusal) (records : List Client) (store out : List ℕ) : Type 0 where
   pub answers : reply_of answer ≡ a.reply
   pub records_left : records ≡ a.table.records
   pub store_left : store ≡ a.table.store
