@@ -23,6 +23,7 @@ ghost use Rattle.host_limits.specs.Layout.{record_size};
 ghost use Rattle.host_limits.specs.Plans.{share_for};
 ghost use Rattle.host_calls.specs.Left.{Leaves, Receives};
 
+use client_reassembly::Arrival;
 use client_record::Client;
 use host_options::{OriginalOption, PacketOption};
 use host_readings::Reading;
@@ -185,8 +186,7 @@ pub extern "C" fn wuraketozo_client_limit() -> usize
 pub extern "C" fn wuraketozo_reset(records: &mut [Client], store: &[u8]) -> Answer
     ensures { Leaves (reset_on (table_of records.old store.now)) result records.new store.now [] }
 {
-    let answer = table_calls::reset(records, store);
-    host_values::answer_of(answer)
+    Answer::from(table_calls::reset(records, store))
 }
 
 // Offers a fragment for client `k`.
@@ -201,9 +201,8 @@ pub extern "C" fn wuraketozo_offer(
 ) -> Answer
     ensures { Leaves (ask_on k (offering (arrival_from fragment) bytes.now out.old) (table_of records.old store.old)) result records.new store.new out.new }
 {
-    let arrival = host_values::arrival_of(fragment);
-    let answer = table_calls::offer(records, store, k, arrival, bytes, out);
-    host_values::answer_of(answer)
+    let arrival = Arrival::from(fragment);
+    Answer::from(table_calls::offer(records, store, k, arrival, bytes, out))
 }
 
 // Moves the time of client `k` on.
@@ -216,8 +215,7 @@ pub extern "C" fn wuraketozo_advance(
 ) -> Answer
     ensures { Leaves (ask_on k (advancing time) (table_of records.old store.now)) result records.new store.now [] }
 {
-    let answer = table_calls::advance(records, store, k, time);
-    host_values::answer_of(answer)
+    Answer::from(table_calls::advance(records, store, k, time))
 }
 
 // The account of client `k`.
@@ -225,8 +223,7 @@ pub extern "C" fn wuraketozo_advance(
 pub extern "C" fn wuraketozo_account(records: &[Client], store: &[u8], k: usize) -> Answer
     ensures { Leaves (ask_on k accounting (table_of records.now store.now)) result records.now store.now [] }
 {
-    let answer = table_calls::account(records, store, k);
-    host_values::answer_of(answer)
+    Answer::from(table_calls::account(records, store, k))
 }
 
 // ---- one call for each datagram
@@ -250,5 +247,5 @@ pub extern "C" fn wuraketozo_receive(
     let to = destination.octets;
     let how = host_readings::strictness_for(strictness);
     let received = table_receiver::receive(records, store, k, time, from, to, how, payload, out);
-    host_values::received_of(received)
+    Received::from(received)
 }

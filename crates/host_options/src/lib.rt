@@ -6,7 +6,7 @@ ghost use Rattle.host_readings.specs.Listable.{verdict_for};
 ghost use Rattle.host_options.specs.Options.{no_packet_option, packet_option, next_in, no_original_option, original_option, renext_in, Fits};
 
 use number_offsets::{OriginalOffset, PacketOffset};
-use wire_offsets::Next;
+use wire_offsets::Found;
 use wire_original::OriginalExtent;
 use wire_reading::Extent;
 
@@ -36,8 +36,7 @@ pub fn next(payload: &[u8], verdict: u32, rest: Extent) -> PacketOption
 {
     if list_readings::is_listed(host_readings::verdict_for(verdict), rest, payload.len()) {
         let from = rest.from.0;
-        let to = rest.to.0;
-        return packet_option(from, wire_offsets::next_option(&payload[from..to]));
+        return packet_option(from, wire_offsets::next_option(&payload[from..rest.to.0]));
     }
     no_packet_option()
 }
@@ -47,31 +46,25 @@ pub fn renext(original: &[u8], verdict: u32, rest: OriginalExtent) -> OriginalOp
     ensures { result ≡ renext_in original.now (verdict_for verdict) rest }
 {
     if list_readings::is_relisted(host_readings::verdict_for(verdict), rest, original.len()) {
-        let start = rest.from.0;
-        let end = rest.to.0;
-        return original_option(start, wire_offsets::next_option(&original[start..end]));
+        let from = rest.from.0;
+        return original_option(from, wire_offsets::next_option(&original[from..rest.to.0]));
     }
     no_original_option()
 }
 
 // An option of a list that starts `from` bytes into the payload.
-fn packet_option(from: usize, next: Next) -> PacketOption
+fn packet_option(from: usize, next: Option<Found>) -> PacketOption
     requires { Fits from next }
     ensures { result ≡ packet_option from next }
 {
     match next {
-        Next::Found {
-            at,
-            kind,
-            header,
-            size,
-        } => {
-            let place = from + at;
-            let body = place + header;
-            let end = place + size;
+        Some(found) => {
+            let place = from + found.at;
+            let body = place + found.header;
+            let end = place + found.size;
             PacketOption {
                 found: 1,
-                kind: kind as u32,
+                kind: u32::from(found.kind),
                 offset: PacketOffset(place),
                 body: Extent {
                     from: PacketOffset(body),
@@ -79,28 +72,23 @@ fn packet_option(from: usize, next: Next) -> PacketOption
                 },
             }
         }
-        Next::Nothing => no_packet_option(),
+        None => no_packet_option(),
     }
 }
 
 // An option of a list that starts `from` bytes into the original.
-fn original_option(from: usize, next: Next) -> OriginalOption
+fn original_option(from: usize, next: Option<Found>) -> OriginalOption
     requires { Fits from next }
     ensures { result ≡ original_option from next }
 {
     match next {
-        Next::Found {
-            at,
-            kind,
-            header,
-            size,
-        } => {
-            let place = from + at;
-            let body = place + header;
-            let end = place + size;
+        Some(found) => {
+            let place = from + found.at;
+            let body = place + found.header;
+            let end = place + found.size;
             OriginalOption {
                 found: 1,
-                kind: kind as u32,
+                kind: u32::from(found.kind),
                 offset: number_offsets::offset_of(OriginalOffset(place)),
                 body: OriginalExtent {
                     from: OriginalOffset(body),
@@ -108,7 +96,7 @@ fn original_option(from: usize, next: Next) -> OriginalOption
                 },
             }
         }
-        Next::Nothing => no_original_option(),
+        None => no_original_option(),
     }
 }
 

@@ -1,6 +1,5 @@
 -- A reading as a value of include/wuraketozo.h. What a value does not say is 0.
-use Rattle.std.specs.Prelude.{ℕ, Bool, true, false}
-use Rattle.std.proofs.Math.Option.{Option, none, some}
+use Rattle.std.specs.Prelude.{ℕ, Bool, true, false, Option, Some, None}
 use Rattle.number_offsets.specs.declared.PacketOffset.{PacketOffset}
 use Rattle.wire_area.specs.declared.Fragment.{Fragment}
 use Rattle.wire_reading.specs.Verdict.{verdict_says, fault_at, apc_says}
@@ -25,13 +24,13 @@ no_fragment = record {
 }
 
 abbrev pub fragment_or : Option Fragment → Fragment
-fragment_or none = no_fragment
-fragment_or (some fragment) = fragment
+fragment_or None = no_fragment
+fragment_or (Some fragment) = fragment
 
 -- where a fault was met
 abbrev pub offset_or : Option PacketOffset → PacketOffset
-offset_or none = record { 0 = 0 }
-offset_or (some at) = at
+offset_or None = record { 0 = 0 }
+offset_or (Some at) = at
 
 -- the fragment of a verdict "piece"
 abbrev pub fragment_in : Verdict → Fragment

@@ -3,12 +3,12 @@
 #![tactic(auto)]
 
 ghost use Rattle.std.specs.Prelude.{◌≡◌};
-ghost use Rattle.wire_original.specs.Rereading.{places, re_answer_of, re_refusal_number};
+ghost use Rattle.wire_original.specs.Rereading.{places, re_answer_of};
 ghost use Rattle.host_rereadings.specs.Rereading.{unreread, rereading_from, host_rereading};
 ghost use Rattle.host_rereadings.specs.Listable.{rereading_for};
 
 use number_offsets::{OriginalOffset, PacketOffset};
-use wire_original::{OriginalExtent, RereadOutcome, RereadRefusal};
+use wire_original::{OriginalExtent, RereadRefusal};
 use wire_reading::Apc;
 
 // What `wuraketozo_reread` answers.
@@ -25,16 +25,6 @@ pub struct Rereading {
     pub apc: u32,
 }
 
-fn reread_number(refusal: RereadRefusal) -> u32
-    ensures { result ≡ re_refusal_number refusal }
-{
-    match refusal {
-        RereadRefusal::OriginalTooLong => 2,
-        RereadRefusal::OptionStartPastEnd => 6,
-        RereadRefusal::UnsafeOption => 5,
-    }
-}
-
 fn no_places() -> OriginalExtent
     ensures { result ≡ places 0 0 }
 {
@@ -49,7 +39,7 @@ fn unreread(refusal: u32) -> Rereading
 {
     let none = no_places();
     Rereading {
-        refusal: refusal,
+        refusal,
         verdict: 0,
         user: none,
         options: none,
@@ -60,31 +50,32 @@ fn unreread(refusal: u32) -> Rereading
     }
 }
 
-fn rereading_from(rereading: wire_original::Rereading) -> Rereading
-    ensures { result ≡ rereading_from rereading }
-{
-    let verdict = rereading.verdict;
-    let user = rereading.user;
-    let options = rereading.options;
-    let apc = rereading.apc;
-    Rereading {
-        refusal: 0,
-        verdict: host_readings::verdict_number(verdict),
-        user: user,
-        options: options,
-        count: rereading.count,
-        fill: rereading.fill,
-        fault_at: host_readings::fault_offset(verdict),
-        apc: host_readings::apc_number(apc),
+impl From<wire_original::Rereading> for Rereading {
+    ghost from_gives = { λ rereading value. value ≡ rereading_from rereading };
+
+    fn from(rereading: wire_original::Rereading) -> Rereading {
+        let verdict = rereading.verdict;
+        Rereading {
+            refusal: 0,
+            verdict: u32::from(verdict),
+            user: rereading.user,
+            options: rereading.options,
+            count: rereading.count,
+            fill: rereading.fill,
+            fault_at: host_readings::fault_offset(verdict),
+            apc: u32::from(rereading.apc),
+        }
     }
 }
 
-pub fn rereading_of(outcome: RereadOutcome) -> Rereading
-    ensures { result ≡ host_rereading (re_answer_of outcome) }
-{
-    match outcome {
-        RereadOutcome::Refused(refusal) => unreread(reread_number(refusal)),
-        RereadOutcome::Accepted(rereading) => rereading_from(rereading),
+impl From<Result<wire_original::Rereading, RereadRefusal>> for Rereading {
+    ghost from_gives = { λ outcome value. value ≡ host_rereading (re_answer_of outcome) };
+
+    fn from(outcome: Result<wire_original::Rereading, RereadRefusal>) -> Rereading {
+        match outcome {
+            Ok(rereading) => Rereading::from(rereading),
+            Err(refusal) => unreread(u32::from(refusal)),
+        }
     }
 }
 
@@ -94,12 +85,10 @@ pub fn rereading_of(outcome: RereadOutcome) -> Rereading
 pub fn rereading_for(number: u32, options: OriginalExtent) -> wire_original::Rereading
     ensures { result ≡ rereading_for number options }
 {
-    let verdict = host_readings::verdict_for(number);
-    let none = no_places();
     wire_original::Rereading {
-        user: none,
-        verdict: verdict,
-        options: options,
+        user: no_places(),
+        verdict: host_readings::verdict_for(number),
+        options,
         count: 0,
         fill: 0,
         apc: Apc::Absent,

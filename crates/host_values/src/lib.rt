@@ -6,7 +6,7 @@
 ghost use Rattle.std.specs.Prelude.{◌≡◌};
 ghost use Rattle.list_options.specs.Listing.{listed_answer};
 ghost use Rattle.list_writer.specs.Answer.{written_answer};
-ghost use Rattle.client_reassembly.specs.Answer.{number_of, figures_of, reply_of};
+ghost use Rattle.client_reassembly.specs.Answer.{figures_of, reply_of};
 ghost use Rattle.table_receiver.specs.Receive.{fate_in};
 ghost use Rattle.host_values.specs.Lists.{host_listing, host_written};
 ghost use Rattle.host_values.specs.Answer.{no_figures, figures_from, plain, handed_out, accounted, host_answer, arrival_from};
@@ -15,8 +15,8 @@ ghost use Rattle.host_values.specs.Answer.{read_alone, offered_alone, host_fate}
 use client_reassembly::Arrival;
 use client_record::Flow;
 use host_readings::Reading;
-use list_options::Listed;
 use number_offsets::OriginalOffset;
+use number_varint::Full;
 
 // An IPv4 address.
 #[repr(C)]
@@ -89,66 +89,51 @@ pub struct Received {
 
 // ---- lists and payloads
 
-pub fn listing_of(listed: Listed) -> Listing
-    ensures { result ≡ host_listing (listed_answer listed) }
-{
-    match listed {
-        Listed::Written { size, fill } => Listing {
-            refusal: 0,
-            size: size,
-            fill: fill,
-        },
-        Listed::Full => Listing {
-            refusal: 8,
-            size: 0,
-            fill: 0,
-        },
+impl From<Result<list_options::Listing, Full>> for Listing {
+    ghost from_gives = { λ listed value. value ≡ host_listing (listed_answer listed) };
+
+    fn from(listed: Result<list_options::Listing, Full>) -> Listing {
+        match listed {
+            Ok(list_options::Listing { size, fill }) => Listing {
+                refusal: 0,
+                size,
+                fill,
+            },
+            Err(_) => Listing {
+                refusal: 8,
+                size: 0,
+                fill: 0,
+            },
+        }
     }
 }
 
-pub fn written_of(written: list_writer::Written) -> Written
-    ensures { result ≡ host_written (written_answer written) }
-{
-    match written {
-        list_writer::Written::Payload(size) => Written {
-            refusal: 0,
-            size: size,
-        },
-        list_writer::Written::Unreadable => Written {
-            refusal: 7,
-            size: 0,
-        },
-        list_writer::Written::Forbidden => Written {
-            refusal: 9,
-            size: 0,
-        },
-        list_writer::Written::TooLarge => Written {
-            refusal: 8,
-            size: 0,
-        },
+impl From<Result<usize, list_writer::Refusal>> for Written {
+    ghost from_gives = { λ written value. value ≡ host_written (written_answer written) };
+
+    fn from(written: Result<usize, list_writer::Refusal>) -> Written {
+        match written {
+            Ok(size) => Written {
+                refusal: 0,
+                size,
+            },
+            Err(list_writer::Refusal::Unreadable) => Written {
+                refusal: 7,
+                size: 0,
+            },
+            Err(list_writer::Refusal::Forbidden) => Written {
+                refusal: 9,
+                size: 0,
+            },
+            Err(list_writer::Refusal::TooLarge) => Written {
+                refusal: 8,
+                size: 0,
+            },
+        }
     }
 }
 
 // ---- the table
-
-fn table_number(refusal: client_reassembly::Refusal) -> u32
-    ensures { result ≡ number_of refusal }
-{
-    match refusal {
-        client_reassembly::Refusal::TableMisfit => 20,
-        client_reassembly::Refusal::NoSuchClient => 21,
-        client_reassembly::Refusal::UnsoundRecord => 22,
-        client_reassembly::Refusal::OutTooShort => 23,
-        client_reassembly::Refusal::EmptyFragment => 24,
-        client_reassembly::Refusal::EndPastLimit => 25,
-        client_reassembly::Refusal::OptionStartPastEnd => 26,
-        client_reassembly::Refusal::TimeBeforeLast => 27,
-        client_reassembly::Refusal::OfferedPastLimit => 28,
-        client_reassembly::Refusal::NoFreeAssembly => 29,
-        client_reassembly::Refusal::AssemblyFull => 30,
-        client_reassembly::Refusal::PlanOutOfRange => 32,
-    }
-}
 
 fn no_figures() -> Figures
     ensures { result ≡ no_figures }
@@ -164,17 +149,19 @@ fn no_figures() -> Figures
     }
 }
 
-fn figures_of(figures: client_reassembly::Figures) -> Figures
-    ensures { result ≡ figures_from (figures_of figures) }
-{
-    Figures {
-        offered: figures.offered,
-        held: figures.held,
-        delivered: figures.delivered,
-        expired: figures.expired,
-        conflicted: figures.conflicted,
-        repeated: figures.repeated,
-        rejected: figures.rejected,
+impl From<client_reassembly::Figures> for Figures {
+    ghost from_gives = { λ figures value. value ≡ figures_from (figures_of figures) };
+
+    fn from(figures: client_reassembly::Figures) -> Figures {
+        Figures {
+            offered: figures.offered,
+            held: figures.held,
+            delivered: figures.delivered,
+            expired: figures.expired,
+            conflicted: figures.conflicted,
+            repeated: figures.repeated,
+            rejected: figures.rejected,
+        }
     }
 }
 
@@ -182,74 +169,72 @@ fn figures_of(figures: client_reassembly::Figures) -> Figures
 fn plain(refusal: u32, outcome: u32) -> Answer
     ensures { result ≡ plain refusal outcome }
 {
-    let figures = no_figures();
     Answer {
-        refusal: refusal,
-        outcome: outcome,
+        refusal,
+        outcome,
         length: 0,
         option_start: OriginalOffset(0),
-        figures: figures,
+        figures: no_figures(),
     }
 }
 
 fn handed_out(length: usize, option_start: OriginalOffset) -> Answer
     ensures { result ≡ handed_out length option_start.0 }
 {
-    let figures = no_figures();
     Answer {
         refusal: 0,
         outcome: 5,
-        length: length,
-        option_start: option_start,
-        figures: figures,
+        length,
+        option_start,
+        figures: no_figures(),
     }
 }
 
 fn accounted(figures: client_reassembly::Figures) -> Answer
     ensures { result ≡ accounted (figures_of figures) }
 {
-    let mapped = figures_of(figures);
     Answer {
         refusal: 0,
         outcome: 7,
         length: 0,
         option_start: OriginalOffset(0),
-        figures: mapped,
+        figures: Figures::from(figures),
     }
 }
 
-pub fn answer_of(answer: client_reassembly::Answer) -> Answer
-    ensures { result ≡ host_answer (reply_of answer) }
-{
-    match answer {
-        client_reassembly::Answer::Refused(refusal) => plain(table_number(refusal), 0),
-        client_reassembly::Answer::Reset => plain(0, 1),
-        client_reassembly::Answer::Stored => plain(0, 2),
-        client_reassembly::Answer::Repeated => plain(0, 3),
-        client_reassembly::Answer::Conflict => plain(0, 4),
-        client_reassembly::Answer::Delivered {
-            length,
-            option_start,
-        } => handed_out(length, option_start),
-        client_reassembly::Answer::Advanced => plain(0, 6),
-        client_reassembly::Answer::Account(figures) => accounted(figures),
+impl From<Result<client_reassembly::Answer, client_reassembly::Refusal>> for Answer {
+    ghost from_gives = { λ answer value. value ≡ host_answer (reply_of answer) };
+
+    fn from(answer: Result<client_reassembly::Answer, client_reassembly::Refusal>) -> Answer {
+        match answer {
+            Err(refusal) => plain(u32::from(refusal), 0),
+            Ok(client_reassembly::Answer::Reset) => plain(0, 1),
+            Ok(client_reassembly::Answer::Stored) => plain(0, 2),
+            Ok(client_reassembly::Answer::Repeated) => plain(0, 3),
+            Ok(client_reassembly::Answer::Conflict) => plain(0, 4),
+            Ok(client_reassembly::Answer::Delivered {
+                length,
+                option_start,
+            }) => handed_out(length, option_start),
+            Ok(client_reassembly::Answer::Advanced) => plain(0, 6),
+            Ok(client_reassembly::Answer::Account(figures)) => accounted(figures),
+        }
     }
 }
 
 // The fragment as the table takes it: with any `last` but 0 it is the last one.
-pub fn arrival_of(fragment: Fragment) -> Arrival
-    ensures { result ≡ arrival_from fragment }
-{
-    let flow = fragment.flow;
-    let place = fragment.place;
-    let option_start = fragment.option_start;
-    Arrival {
-        time: fragment.time,
-        flow: flow,
-        identification: fragment.identification,
-        offset: place,
-        option_start: option_start,
-        last: fragment.last != 0,
+impl From<Fragment> for Arrival {
+    ghost from_gives = { λ fragment arrival. arrival ≡ arrival_from fragment };
+
+    fn from(fragment: Fragment) -> Arrival {
+        Arrival {
+            time: fragment.time,
+            flow: fragment.flow,
+            identification: fragment.identification,
+            offset: fragment.place,
+            option_start: fragment.option_start,
+            last: fragment.last != 0,
+        }
     }
 }
 
@@ -259,37 +244,31 @@ pub fn arrival_of(fragment: Fragment) -> Arrival
 fn read_alone(what: u32, reading: Reading) -> Received
     ensures { result ≡ read_alone what reading }
 {
-    let answer = plain(0, 0);
     Received {
-        what: what,
-        reading: reading,
-        answer: answer,
+        what,
+        reading,
+        answer: plain(0, 0),
     }
 }
 
 fn offered_alone(answer: Answer) -> Received
     ensures { result ≡ offered_alone answer }
 {
-    let reading = host_readings::unread(0);
     Received {
         what: 2,
-        reading: reading,
-        answer: answer,
+        reading: host_readings::unread(0),
+        answer,
     }
 }
 
-pub fn received_of(received: table_receiver::Received) -> Received
-    ensures { result ≡ host_fate (fate_in received) }
-{
-    match received {
-        table_receiver::Received::Refused(refusal) => read_alone(
-            0,
-            host_readings::unread(host_readings::refusal_number(refusal)),
-        ),
-        table_receiver::Received::Datagram(reading) => read_alone(
-            1,
-            host_readings::reading_from(reading),
-        ),
-        table_receiver::Received::Fragment(answer) => offered_alone(answer_of(answer)),
+impl From<Result<table_receiver::Received, wire_datagram::reading::Refusal>> for Received {
+    ghost from_gives = { λ received value. value ≡ host_fate (fate_in received) };
+
+    fn from(received: Result<table_receiver::Received, wire_datagram::reading::Refusal>) -> Received {
+        match received {
+            Err(refusal) => read_alone(0, host_readings::unread(u32::from(refusal))),
+            Ok(table_receiver::Received::Datagram(reading)) => read_alone(1, Reading::from(reading)),
+            Ok(table_receiver::Received::Fragment(answer)) => offered_alone(Answer::from(answer)),
+        }
     }
 }

@@ -30,18 +30,15 @@ pub fn read(payload: &[u8], source: Address, destination: Address, strictness: u
     let from = source.octets;
     let to = destination.octets;
     let how = host_readings::strictness_for(strictness);
-    host_readings::reading_of(parts::outcome_of(reading::examine(payload, from, to, how)))
+    Reading::from(parts::outcome_of(reading::examine(payload, from, to, how)))
 }
 
 // Reads an original again that was put together from fragments, plainly or strictly.
 pub fn reread(original: &[u8], option_start: OriginalOffset, strictness: u32) -> Rereading
     ensures { result ≡ host_rereading (rereading (strictness_for strictness) original.now option_start.0) }
 {
-    host_rereadings::rereading_of(wire_original::reread(
-        original,
-        option_start,
-        host_readings::strictness_for(strictness),
-    ))
+    let how = host_readings::strictness_for(strictness);
+    Rereading::from(wire_original::reread(original, option_start, how))
 }
 
 // ---- option lists and payloads
@@ -51,7 +48,7 @@ pub fn list(payload: &[u8], verdict: u32, options: Extent, buffer: &mut [u8]) ->
     ensures { Lists (walk_of_value payload.now (verdict_for verdict) options.from.0 options.to.0) buffer.old result buffer.new }
 {
     let reading = host_readings::reading_for(verdict, options);
-    host_values::listing_of(list_readings::list_reading(payload, reading, buffer))
+    Listing::from(list_readings::list_reading(payload, reading, buffer))
 }
 
 // Lists the options of a rereading of `original`.
@@ -59,7 +56,7 @@ pub fn relist(original: &[u8], verdict: u32, options: OriginalExtent, buffer: &m
     ensures { Lists (walk_of_value original.now (verdict_for verdict) options.from.0 options.to.0) buffer.old result buffer.new }
 {
     let rereading = host_rereadings::rereading_for(verdict, options);
-    host_values::listing_of(list_readings::list_rereading(original, rereading, buffer))
+    Listing::from(list_readings::list_rereading(original, rereading, buffer))
 }
 
 // Writes a whole payload.
@@ -79,7 +76,7 @@ pub fn write(
 {
     let from = source.octets;
     let to = destination.octets;
-    host_values::written_of(list_writer::write(
+    Written::from(list_writer::write(
         from,
         to,
         source_port,

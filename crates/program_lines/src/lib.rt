@@ -12,7 +12,6 @@ ghost use Rattle.program_text.specs.Put.{Put};
 ghost use Rattle.program_lines.specs.Lines.{body_of, fields_of, option_line, option_lines, is_listed};
 
 use number_offsets::PacketOffset;
-use wire_offsets::Next;
 
 // A line for each option of a list in which the walk meets no fault. The list stands at packet offset `base`.
 pub fn put_items(list: &[u8], base: PacketOffset, text: &mut [u8], at: usize) -> usize
@@ -22,24 +21,11 @@ pub fn put_items(list: &[u8], base: PacketOffset, text: &mut [u8], at: usize) ->
 {
     let mut end = at;
     let mut from = 0;
-    while from < list.len() {
-        let next = wire_offsets::next_option(&list[from..]);
-        match next {
-            Next::Found {
-                at: nops,
-                kind,
-                header,
-                size,
-            } => {
-                from += nops;
-                let offset = PacketOffset(base.0 + from);
-                end = put_item(&list[from..], offset, kind, header, size, text, end);
-                from += size;
-            }
-            Next::Nothing => {
-                return end;
-            }
-        }
+    while let Some(found) = wire_offsets::next_option(&list[from..]) {
+        from += found.at;
+        let offset = PacketOffset(base.0 + from);
+        end = put_item(&list[from..], offset, found.kind, found.header, found.size, text, end);
+        from += found.size;
     }
     end
 }

@@ -2,13 +2,11 @@
 #![tactic(auto)]
 
 ghost use Rattle.std.specs.Prelude.{◌≡◌, ◌≤◌, length};
-ghost use Rattle.wire_datagram.specs.Reading.{refusal_number};
 ghost use Rattle.program_text.specs.Put.{Put};
 ghost use Rattle.program_report.specs.Report.{listing_of, reading_text, report_of};
 ghost use Rattle.program_report.specs.Sound.{Listable, Sound};
 
 use wire_datagram::reading;
-use wire_datagram::reading::{Outcome, Refusal};
 use wire_nops::Strictness;
 use wire_reading::{Extent, Reading};
 
@@ -16,26 +14,9 @@ use wire_reading::{Extent, Reading};
 pub fn report(payload: &[u8], source: [u8; 4], destination: [u8; 4], text: &mut [u8]) -> usize
     ensures { Put text.old 0 (report_of payload.now source destination) result text.new }
 {
-    let outcome = reading::read(payload, source, destination, Strictness::Plain);
-    match outcome {
-        Outcome::Refused(refusal) => program_text::put_line(
-            b"refused ",
-            number_of(refusal),
-            text,
-            0,
-        ),
-        Outcome::Accepted(reading) => put_reading(payload, reading, text),
-    }
-}
-
-fn number_of(refusal: Refusal) -> usize
-    ensures { result ≡ refusal_number refusal }
-{
-    match refusal {
-        Refusal::PayloadTooShort => 1,
-        Refusal::PayloadTooLong => 2,
-        Refusal::LengthOutOfRange => 3,
-        Refusal::ChecksumWrong => 4,
+    match reading::read(payload, source, destination, Strictness::Plain) {
+        Ok(reading) => put_reading(payload, reading, text),
+        Err(refusal) => program_text::put_line(b"refused ", u32::from(refusal) as usize, text, 0),
     }
 }
 
@@ -46,11 +27,10 @@ fn put_reading(payload: &[u8], reading: Reading, text: &mut [u8]) -> usize
 {
     let user = reading.user;
     let verdict = reading.verdict;
-    let options = reading.options;
     let counted = program_text::put_line(b"user ", user.to.0 - user.from.0, text, 0);
     let judged = program_verdict::put_verdict(verdict, text, counted);
     if wire_reading::is_read(verdict) {
-        return put_listing(payload, options, reading.fill, text, judged);
+        return put_listing(payload, reading.options, reading.fill, text, judged);
     }
     judged
 }
@@ -61,9 +41,7 @@ fn put_listing(payload: &[u8], options: Extent, fill: usize, text: &mut [u8], at
     ensures { Put text.old at (listing_of payload.now options fill) result text.new }
 {
     let from = options.from;
-    let to = options.to;
-    let start = from.0;
-    let end = to.0;
-    let listed = program_lines::put_items(&payload[start..end], from, text, at);
+    let list = &payload[from.0..options.to.0];
+    let listed = program_lines::put_items(list, from, text, at);
     program_text::put_line(b"fill ", fill, text, listed)
 }

@@ -1,11 +1,10 @@
 // Writes a datagram with options, shows its bytes, reads it back, shows what the reader says, and lists the options back.
 #![tactic(auto)]
 
-use list_options::Listed;
-use list_writer::Written;
+use list_options::Listing;
+use list_writer::Refusal;
 use std::io;
 use wire_datagram::reading;
-use wire_datagram::reading::Outcome;
 use wire_nops::Strictness;
 use wire_reading::Reading;
 
@@ -20,12 +19,11 @@ fn main(rt: HostRuntime) -> io::Result<()> {
     // An encoded option list: three options, APC, REQ with token 300, and kind 9 with a body of two bytes.
     let list = [3, 2, 6, 0xac, 0x02, 9, 2, 0xca, 0xfe];
     let mut buffer = [0u8; ROOM];
-    let written = list_writer::write(source, destination, 4660, 53, user, &list, 1, &mut buffer);
-    match written {
-        Written::Payload(length) => show(&rt, &buffer, length, source, destination),
-        Written::Unreadable => say(&rt, b"refused 7\n"),
-        Written::Forbidden => say(&rt, b"refused 9\n"),
-        Written::TooLarge => say(&rt, b"refused 8\n"),
+    match list_writer::write(source, destination, 4660, 53, user, &list, 1, &mut buffer) {
+        Ok(length) => show(&rt, &buffer, length, source, destination),
+        Err(Refusal::Unreadable) => say(&rt, b"refused 7\n"),
+        Err(Refusal::Forbidden) => say(&rt, b"refused 9\n"),
+        Err(Refusal::TooLarge) => say(&rt, b"refused 8\n"),
     }
 }
 
@@ -50,20 +48,18 @@ fn show(
 }
 
 fn list(rt: &impl Print, payload: &[u8], source: [u8; 4], destination: [u8; 4]) -> io::Result<()> {
-    let outcome = reading::read(payload, source, destination, Strictness::Plain);
-    match outcome {
-        Outcome::Accepted(reading) => list_back(rt, payload, reading),
-        Outcome::Refused(_) => say(rt, b"nothing to list\n"),
+    match reading::read(payload, source, destination, Strictness::Plain) {
+        Ok(reading) => list_back(rt, payload, reading),
+        Err(_) => say(rt, b"nothing to list\n"),
     }
 }
 
 // The reading as an encoded option list.
 fn list_back(rt: &impl Print, payload: &[u8], reading: Reading) -> io::Result<()> {
     let mut buffer = [0u8; ROOM];
-    let listed = list_readings::list_reading(payload, reading, &mut buffer);
-    match listed {
-        Listed::Written { size, fill } => show_list(rt, &buffer, size, fill),
-        Listed::Full => say(rt, b"refused 8\n"),
+    match list_readings::list_reading(payload, reading, &mut buffer) {
+        Ok(Listing { size, fill }) => show_list(rt, &buffer, size, fill),
+        Err(_) => say(rt, b"refused 8\n"),
     }
 }
 
@@ -80,16 +76,10 @@ fn show_list(rt: &impl Print, buffer: &[u8], size: usize, fill: usize) -> io::Re
 }
 
 fn hex(rt: &impl Print, bytes: &[u8]) -> io::Result<()> {
-    let mut i = 0;
-    while i < bytes.len() {
-        one(rt, bytes[i])?;
-        i += 1;
+    for byte in bytes {
+        print!(rt; "{byte:02x}")?;
     }
     say(rt, b"\n")
-}
-
-fn one(rt: &impl Print, byte: u8) -> io::Result<()> {
-    print!(rt; "{byte:02x}")
 }
 
 fn say(rt: &impl Print, text: &[u8]) -> io::Result<()> {

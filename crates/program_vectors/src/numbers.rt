@@ -1,7 +1,7 @@
 // What is printed of CRC32c, checksums and seven-bit numbers.
 ghost use Rattle.std.specs.Prelude.{◌+◌, ◌≤◌, length};
 
-use number_varint::{Decoded, Encoded};
+use number_varint::{Decoded, Undecoded};
 use std::io;
 
 pub fn text(rt: &impl Print, bytes: &[u8]) -> io::Result<()> {
@@ -42,10 +42,8 @@ pub fn prefixes(rt: &impl Print, bytes: &[u8]) -> io::Result<()> {
         return Ok(());
     }
     let running = number_octets::get_u16(bytes, 0);
-    let mut end = 2;
-    while end <= bytes.len() {
+    for end in 2..=bytes.len() {
         prefix(rt, running, &bytes[2..end])?;
-        end += 1;
     }
     Ok(())
 }
@@ -78,13 +76,12 @@ fn summed(rt: &impl Print, total: u16) -> io::Result<()> {
 
 // The number that stands at `at`.
 pub fn decoded(rt: &impl Print, bytes: &[u8], at: usize) -> io::Result<()> {
-    let answer = number_varint::decode(bytes, at);
-    match answer {
-        Decoded::Number { value, next } => {
+    match number_varint::decode(bytes, at) {
+        Ok(Decoded { value, next }) => {
             number(rt, b" value ", value)?;
             number(rt, b" next ", next as u64)
         }
-        Decoded::Refused { at } => number(rt, b" refused ", at as u64),
+        Err(Undecoded { at }) => number(rt, b" refused ", at as u64),
     }
 }
 
@@ -105,15 +102,14 @@ pub fn encoding(rt: &impl Print, bytes: &[u8]) -> io::Result<()> {
 fn wide(bytes: &[u8], at: usize) -> u64
     requires { at + 8 ≤ length bytes.now }
 {
-    number_octets::get_u32(bytes, at) as u64 * 4294967296
-        + number_octets::get_u32(bytes, at + 4) as u64
+    u64::from(number_octets::get_u32(bytes, at)) * 4294967296
+        + u64::from(number_octets::get_u32(bytes, at + 4))
 }
 
 fn encoded(rt: &impl Print, value: u64, buffer: &mut [u8], at: usize) -> io::Result<()> {
-    let answer = number_varint::encode(value, buffer, at);
-    match answer {
-        Encoded::Next(next) => number(rt, b" next ", next as u64)?,
-        Encoded::Full => text(rt, b" full")?,
+    match number_varint::encode(value, buffer, at) {
+        Ok(next) => number(rt, b" next ", next as u64)?,
+        Err(_) => text(rt, b" full")?,
     }
     text(rt, b" bytes ")?;
     all(rt, buffer)?;
@@ -122,14 +118,8 @@ fn encoded(rt: &impl Print, value: u64, buffer: &mut [u8], at: usize) -> io::Res
 
 // All bytes in hexadecimal.
 fn all(rt: &impl Print, bytes: &[u8]) -> io::Result<()> {
-    let mut i = 0;
-    while i < bytes.len() {
-        one(rt, bytes[i])?;
-        i += 1;
+    for byte in bytes {
+        print!(rt; "{byte:02x}")?;
     }
     Ok(())
-}
-
-fn one(rt: &impl Print, byte: u8) -> io::Result<()> {
-    print!(rt; "{byte:02x}")
 }

@@ -23,7 +23,7 @@ fn record(rt: &impl Print, table: &[u8], at: usize) -> io::Result<usize>
         return Ok(table.len());
     }
     let from = gap + 2;
-    let size = wide(table[gap + 1]);
+    let size = usize::from(table[gap + 1]);
     if table.len() - from < size {
         return Ok(table.len());
     }
@@ -34,23 +34,17 @@ fn record(rt: &impl Print, table: &[u8], at: usize) -> io::Result<usize>
     Ok(end)
 }
 
-fn wide(byte: u8) -> usize {
-    byte as usize
-}
-
 // The first blank from `at` on.
 fn blank(table: &[u8], at: usize) -> usize
     requires { at ≤ length table.now }
     ensures { (at ≤ result) × (result ≤ length table.now) }
 {
-    let mut i = at;
-    while i < table.len() {
+    for i in at..table.len() {
         if table[i] == b' ' {
             return i;
         }
-        i += 1;
     }
-    i
+    table.len()
 }
 
 // crc32c, sum, prefixes, add-word, number, encoding

@@ -2,11 +2,10 @@
 #![tactic(auto)]
 
 ghost use Rattle.std.specs.Prelude.{◌≤◌, length};
-ghost use Rattle.wire_faults.specs.Offset.{offset_from};
 ghost use Rattle.program_text.specs.Put.{Put};
 ghost use Rattle.program_verdict.specs.Words.{verdict_line, word_of, end_by};
 
-use wire_faults::FaultOffset;
+use number_offsets::PacketOffset;
 use wire_reading::Verdict;
 
 pub fn put_verdict(verdict: Verdict, text: &mut [u8], at: usize) -> usize
@@ -19,13 +18,13 @@ pub fn put_verdict(verdict: Verdict, text: &mut [u8], at: usize) -> usize
 }
 
 // The end of the line: where the fault was met, if the verdict is one.
-fn put_end(fault: FaultOffset, text: &mut [u8], at: usize) -> usize
+fn put_end(fault: Option<PacketOffset>, text: &mut [u8], at: usize) -> usize
     requires { at ≤ length text.old }
-    ensures { Put text.old at (end_by (offset_from fault)) result text.new }
+    ensures { Put text.old at (end_by fault) result text.new }
 {
     match fault {
-        FaultOffset::At(offset) => program_text::put_offset(offset, text, at),
-        FaultOffset::Absent => program_text::put(b"\n", text, at),
+        Some(offset) => program_text::put_offset(offset, text, at),
+        None => program_text::put(b"\n", text, at),
     }
 }
 
