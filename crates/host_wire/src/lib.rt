@@ -37,8 +37,11 @@ pub fn read(payload: &[u8], source: Address, destination: Address, strictness: u
 pub fn reread(original: &[u8], option_start: OriginalOffset, strictness: u32) -> Rereading
     ensures { result ≡ host_rereading (rereading (strictness_for strictness) original.now option_start.0) }
 {
-    let how = host_readings::strictness_for(strictness);
-    Rereading::from(wire_original::reread(original, option_start, how))
+    Rereading::from(wire_original::reread(
+        original,
+        option_start,
+        host_readings::strictness_for(strictness),
+    ))
 }
 
 // ---- option lists and payloads

@@ -4,7 +4,7 @@
 use mathlib.Core.Path.{◌≡◌, refl}
 use mathlib.Core.Bool.{Bool, true, false, cond}
 use mathlib.Core.List.{List, [], ◌∷◌, ◌++◌}
-use mathlib.Core.Option.{Option, none, some}
+use Rattle.std.proofs.Common.{Option, Some, None}
 use Prim.Native.Nat.{ℕ, zero, suc, ◌+◌, ◌*◌, ◌/◌, ◌%◌, ◌≤◌}
 use native.Mathlib.Omega.{arith}
 use borrow.Author.Tests.{ltb-false}
@@ -145,8 +145,8 @@ word_size Read = omega arith
 word_size (Piece f) = omega arith
 
 end-size : (fault : Option PacketOffset) → length (end_by fault) ≤ 25
-end-size none = omega arith
-end-size (some at) = offset-size at
+end-size None = omega arith
+end-size (Some at) = offset-size at
 
 verdict-size : (verdict : Verdict) → length (verdict_line verdict) ≤ 42
 unfolding verdict_line

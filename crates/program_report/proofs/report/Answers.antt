@@ -1,7 +1,6 @@
 -- `program_report::report` meets its contract: the arm knows the answer of the reading, at which the text computes.
 use mathlib.Core.Path.{sym, ap, ◌∙◌}
 use Rattle.wire_nops.specs.declared.Strictness.TheVariants.{Plain}
-use Rattle.wire_datagram.specs.Reading.{answer_of}
 use Rattle.program_report.specs.Words.{refused_word}
 use Rattle.program_report.specs.Report.{number_line, answer_text, report_of}
 use Rattle.program_text.proofs.Puts.{put_as}
@@ -10,16 +9,13 @@ use Rattle.program_report.proofs.report.Goals as goal
 
 pub put_reading-requires : goal.put_reading-requires
 put_reading-requires c = let a = c.args in
-    let answer = sym c.read-outcome.ensures ∙ ap answer_of c.in-Accepted.is in
-    reading-sound Plain a.payload.now a.source a.destination _ answer
+    reading-sound Plain a.payload.now a.source a.destination _ (sym c.in-Ok.ensures)
 
-pub returns-in-Refused : goal.returns-in-Refused
-unfolding report_of number_line
-returns-in-Refused c = let answer = sym (ap answer_of c.in-Refused.is) ∙ c.read-outcome.ensures in
-    put_as (ap (number_line refused_word) c.number_of.ensures ∙ ap (answer_text c.args.payload.now) answer)
-    c.put_line.ensures
-
-pub returns-in-Accepted : goal.returns-in-Accepted
+pub returns-in-Ok : goal.returns-in-Ok
 unfolding report_of
-returns-in-Accepted c = let answer = sym (ap answer_of c.in-Accepted.is) ∙ c.read-outcome.ensures in
-    put_as (ap (answer_text c.args.payload.now) answer) c.put_reading.ensures
+returns-in-Ok c = put_as (ap (answer_text c.args.payload.now) c.in-Ok.ensures) c.put_reading.ensures
+
+pub returns-in-Err : goal.returns-in-Err
+unfolding report_of number_line
+returns-in-Err c =
+    put_as (ap (number_line refused_word) c.from.ensures ∙ ap (answer_text c.args.payload.now) c.in-Err.ensures) c.put_line.ensures
