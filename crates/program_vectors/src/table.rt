@@ -39,12 +39,10 @@ fn blank(table: &[u8], at: usize) -> usize
     requires { at ≤ length table.now }
     ensures { (at ≤ result) × (result ≤ length table.now) }
 {
-    for i in at..table.len() {
-        if table[i] == b' ' {
-            return i;
-        }
+    match table[at..].iter().position(|byte| *byte == b' ') {
+        Some(i) => at + i,
+        None => table.len(),
     }
-    table.len()
 }
 
 // crc32c, sum, prefixes, add-word, number, encoding
