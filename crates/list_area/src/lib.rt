@@ -8,8 +8,8 @@ ghost use Rattle.wire_reading.specs.Reading.{is_odd};
 ghost use Rattle.list_entry.specs.Option.{read_option};
 ghost use Rattle.list_wire.specs.Parts.{Laid, Passes, wire_read, wires_read, wires_listed, listed_bytes};
 
-use list_entry::{Entry, Field};
-use list_wire::apc::COUNTS;
+use list_encoding::check::COUNTS;
+use list_entry::Entry;
 use list_wire::wire;
 
 // Where the next option stands in the list, and where the one before it ends in the buffer.
@@ -61,8 +61,8 @@ fn put_listed(list: &[u8], crc: u32, buffer: &mut [u8], at: usize) -> usize
 {
     let number = list_entry::number_at(list, 0, COUNTS);
     match number {
-        Field::Value { value, next } => put_options(list, next, value as usize, crc, buffer, at),
-        Field::Refused => at,
+        Some(count) => put_options(list, count.next, count.value as usize, crc, buffer, at),
+        None => at,
     }
 }
 
@@ -80,12 +80,10 @@ fn put_options(
 {
     let mut from = start;
     let mut end = at;
-    let mut left = count;
-    while 0 < left {
+    for _ in 0..count {
         let passed = put_entry(list, from, crc, buffer, end);
         from = passed.next;
         end = passed.end;
-        left -= 1;
     }
     end
 }
@@ -97,29 +95,25 @@ fn put_entry(list: &[u8], from: usize, crc: u32, buffer: &mut [u8], at: usize) -
 {
     let found = list_entry::entry_at(list, from);
     match found {
-        Entry::Fields {
+        Ok(Entry::Fields {
             kind,
             first,
             second,
             next,
-        } => Passed {
+        }) => Passed {
             next,
             end: wire::put_fields(kind, first, second, crc, buffer, at),
         },
-        Entry::Body {
+        Ok(Entry::Body {
             kind,
             start,
             size: _,
             next,
-        } => Passed {
+        }) => Passed {
             next,
             end: wire::put_option(kind, &list[start..next], buffer, at),
         },
-        Entry::Unreadable => Passed {
-            next: from,
-            end: at,
-        },
-        Entry::Forbidden => Passed {
+        Err(_) => Passed {
             next: from,
             end: at,
         },

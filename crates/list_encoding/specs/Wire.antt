@@ -1,13 +1,13 @@
 -- The size of options on the wire: a kind byte, the length and the body. Document 01: "The extended form is used only where the short would pass 254."
-use Rattle.std.specs.Prelude.{ℕ, ◌+◌, ◌-◌, cond, List, [], ◌∷◌, eqb, leb, length, drop}
+use Rattle.std.specs.Prelude.{ℕ, ◌+◌, ◌-◌, Result, Ok, Err, cond, List, [], ◌∷◌, eqb, leb, length, drop}
 use Rattle.wire_step.specs.Kinds.{apc}
 use Rattle.wire_options.specs.Walk.{Item}
 use Rattle.list_entry.specs.Shape.{Shape, fields, raw, barred, shape_of}
-use Rattle.list_entry.specs.Option.{Answer, given, refused, unreadable, forbidden, Read, got, failed, read_option, total}
-use Rattle.list_encoding.specs.declared.check.Checked.{Checked}
-use Rattle.list_encoding.specs.declared.check.Checked.TheVariants.{Sound, Unreadable, Forbidden}
+use Rattle.list_entry.specs.Option.{Answer, given, refused, Read, got, failed, read_option, total}
+use Rattle.list_entry.specs.Answer.{refusal_number}
+use Rattle.list_entry.specs.declared.Refusal.{Refusal}
+use Rattle.list_encoding.specs.declared.check.Measure.{Measure}
 use Rattle.list_encoding.specs.declared.check.Measured.{Measured}
-use Rattle.list_encoding.specs.declared.check.Measured.TheVariants.{Whole, Unreadable as NotRead, Forbidden as NotTaken}
 
 -- the longest whole length that the length byte says by itself
 abbrev pub longest_short : ℕ
@@ -55,10 +55,9 @@ measured (given items) = given (totals_of items)
 measured (refused refusal) = refused refusal
 
 -- The numbers of document 01 for what `check` answers.
-abbrev pub checked_answer : Checked → Answer Totals
-checked_answer (Sound count size) = given (record { count = count; size = size })
-checked_answer Unreadable = refused unreadable
-checked_answer Forbidden = refused forbidden
+abbrev pub checked_answer : Result Measure Refusal → Answer Totals
+checked_answer (Ok measure) = given (record { count = measure.count; size = measure.size })
+checked_answer (Err refusal) = refused (refusal_number refusal)
 
 -- ---- what one step of it answers: the size on the wire of the option at a position, and the position behind it
 
@@ -73,7 +72,6 @@ sized_before end (failed refusal) = refused refusal
 unfoldable pub sized_at : List ℕ → ℕ → Answer Sized
 sized_at s at = sized_before (length s) (read_option (drop at s))
 
-abbrev pub measured_answer : Measured → Answer Sized
-measured_answer (Whole size next) = given (record { size = size; next = next })
-measured_answer NotRead = refused unreadable
-measured_answer NotTaken = refused forbidden
+abbrev pub measured_answer : Result Measured Refusal → Answer Sized
+measured_answer (Ok option) = given (record { size = option.size; next = option.next })
+measured_answer (Err refusal) = refused (refusal_number refusal)

@@ -5,6 +5,7 @@ pub mod Shapes
 pub mod Numbers
 pub mod Parts
 pub mod Places
+pub mod Found
 pub mod Readers
 pub mod Laws
 pub mod Entries

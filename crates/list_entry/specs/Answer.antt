@@ -1,13 +1,14 @@
 -- What the functions answer, by the definitions of `Option`.
-use Rattle.std.specs.Prelude.{ℕ, ◌-◌, List, [], ◌∷◌, length, take, drop, get_or}
+use Rattle.std.specs.Prelude.{ℕ, ◌-◌, Option, Some, None, Result, Ok, Err, List, [], ◌∷◌, length, take, drop, get_or}
 use Rattle.number_octets.specs.Octets.{number}
+use Rattle.number_varint.specs.declared.Decoded.{Decoded}
 use Rattle.wire_options.specs.Walk.{Item}
 use Rattle.list_entry.specs.Shape.{Shape, fields, raw, barred, shape_of}
 use Rattle.list_entry.specs.Option.{Answer, given, refused, unreadable, forbidden, Read, got, failed, and_then, read_as, read_number, read_option}
 use Rattle.list_entry.specs.declared.Entry.{Entry}
-use Rattle.list_entry.specs.declared.Entry.TheVariants.{Fields, Body, Unreadable, Forbidden}
-use Rattle.list_entry.specs.declared.Field.{Field}
-use Rattle.list_entry.specs.declared.Field.TheVariants.{Value, Refused}
+use Rattle.list_entry.specs.declared.Entry.TheVariants.{Fields, Body}
+use Rattle.list_entry.specs.declared.Refusal.{Refusal}
+use Rattle.list_entry.specs.declared.Refusal.TheVariants.{Unreadable, Forbidden}
 
 -- An option as it stands in a list: its kind with its first and second field, or with the start and the size of its raw body; and the position
 -- behind it.
@@ -53,21 +54,25 @@ fields_before end kind (failed refusal) = refused refusal
 unfoldable pub entry_at : List ℕ → ℕ → Answer Spelled
 entry_at s at = spelled_before (length s) (read_option (drop at s))
 
+-- The paper's number of each refusal.
+abbrev pub refusal_number : Refusal → ℕ
+refusal_number Unreadable = unreadable
+refusal_number Forbidden = forbidden
+
 -- The numbers of document 01 for what `entry_at` answers.
-abbrev pub entry_answer : Entry → Answer Spelled
-entry_answer (Fields kind first second next) = given (numbers kind first second next)
-entry_answer (Body kind start size next) = given (body kind start size next)
-entry_answer Unreadable = refused unreadable
-entry_answer Forbidden = refused forbidden
+abbrev pub entry_answer : Result Entry Refusal → Answer Spelled
+entry_answer (Ok (Fields kind first second next)) = given (numbers kind first second next)
+entry_answer (Ok (Body kind start size next)) = given (body kind start size next)
+entry_answer (Err refusal) = refused (refusal_number refusal)
 
 -- a number, and the position behind it
 pub data Located : Type 0 where
   located : (value next : ℕ) → Located
 
 -- The numbers of document 01 for what `number_at` answers.
-abbrev pub field_answer : Field → Answer Located
-field_answer (Value value next) = given (located value next)
-field_answer Refused = refused unreadable
+abbrev pub field_answer : Option Decoded → Answer Located
+field_answer (Some number) = given (located number.value number.next)
+field_answer None = refused unreadable
 
 -- The number below a limit that stands at a position.
 abbrev pub field_before : ℕ → Read ℕ → Answer Located

@@ -9,7 +9,7 @@ ghost use Rattle.list_entry.specs.Answer.{entry_answer, entry_at, field_answer, 
 use number_varint::Decoded;
 
 // What a list holds at a position: an option with its fields, 0 where it has fewer than two, or with the place of its raw body; and where the
-// next one stands. Or what can't be taken.
+// next one stands.
 #[derive(Clone, Copy)]
 pub enum Entry {
     Fields {
@@ -24,15 +24,13 @@ pub enum Entry {
         size: usize,
         next: usize,
     },
-    Unreadable,
-    Forbidden,
 }
 
-// A number that was looked for, and where the next one stands.
+// Why a list can't be taken: a number or a body that can't be read, or a kind that no list may have.
 #[derive(Clone, Copy)]
-pub enum Field {
-    Value { value: u64, next: usize },
-    Refused,
+pub enum Refusal {
+    Unreadable,
+    Forbidden,
 }
 
 // Numbers that stand for something stay below these.
@@ -47,120 +45,110 @@ const BITS_32: u64 = 0x1_0000_0000;
 const BODIES: u64 = 65_532;
 
 // The option that stands at `at`.
-pub fn entry_at(list: &[u8], at: usize) -> Entry
+pub fn entry_at(list: &[u8], at: usize) -> Result<Entry, Refusal>
     ensures { entry_answer result ≡ entry_at list.now at }
 {
-    let number = number_at(list, at, KINDS);
-    match number {
-        Field::Value { value, next } => kind_at(list, next, value as u8),
-        Field::Refused => Entry::Unreadable,
-    }
+    let number = number_at(list, at, KINDS).ok_or(Refusal::Unreadable)?;
+    kind_at(list, number.next, number.value as u8)
 }
 
 // The number below `limit` that stands at `at`.
-pub fn number_at(list: &[u8], at: usize, limit: u64) -> Field
+pub fn number_at(list: &[u8], at: usize, limit: u64) -> Option<Decoded>
     ensures { field_answer result ≡ number_at limit list.now at }
 {
-    let decoded = number_varint::decode(list, at);
-    match decoded {
-        Decoded::Number { value, next } => {
-            if value < limit {
-                return Field::Value { value, next };
-            }
-            Field::Refused
-        }
-        Decoded::Refused { at: _ } => Field::Refused,
+    let decoded = number_varint::decode(list, at).ok()?;
+    if decoded.value < limit {
+        return Some(decoded);
     }
+    None
 }
 
 // What stands behind the kind of an option: the table of document 01.
-fn kind_at(list: &[u8], at: usize, kind: u8) -> Entry
+fn kind_at(list: &[u8], at: usize, kind: u8) -> Result<Entry, Refusal>
     requires { at ≤ length list.now }
     ensures { entry_answer result ≡ spelled_before (length list.now) (read_kind kind (drop at list.now)) }
 {
     match kind {
-        0 | 1 | 3 => Entry::Forbidden,
-        2 => Entry::Fields {
+        0 | 1 | 3 => Err(Refusal::Forbidden),
+        2 => Ok(Entry::Fields {
             kind,
             first: 0,
             second: 0,
             next: at,
-        },
+        }),
         4 => one_field(list, at, kind, BITS_16),
         5 => two_fields(list, at, kind, BITS_16, BITS_8),
         6 | 7 => one_field(list, at, kind, BITS_32),
         8 => two_fields(list, at, kind, BITS_32, BITS_32),
         9..=191 => raw_body(list, at, kind),
-        192..=255 => Entry::Forbidden,
+        192..=255 => Err(Refusal::Forbidden),
     }
 }
 
 // An option of one field.
-fn one_field(list: &[u8], at: usize, kind: u8, limit: u64) -> Entry
+fn one_field(list: &[u8], at: usize, kind: u8, limit: u64) -> Result<Entry, Refusal>
     requires { limit ≤ 4294967296 }
     ensures { entry_answer result ≡ fields_before (length list.now) kind (read_one limit (drop at list.now)) }
 {
-    let number = number_at(list, at, limit);
-    match number {
-        Field::Value { value, next } => Entry::Fields {
-            kind,
-            first: value as u32,
-            second: 0,
-            next,
-        },
-        Field::Refused => Entry::Unreadable,
-    }
+    let number = number_at(list, at, limit).ok_or(Refusal::Unreadable)?;
+    Ok(Entry::Fields {
+        kind,
+        first: number.value as u32,
+        second: 0,
+        next: number.next,
+    })
 }
 
 // An option of two fields.
-fn two_fields(list: &[u8], at: usize, kind: u8, limit: u64, second: u64) -> Entry
+fn two_fields(
+    list: &[u8],
+    at: usize,
+    kind: u8,
+    limit: u64,
+    second: u64,
+) -> Result<Entry, Refusal>
     requires { (limit ≤ 4294967296) × (second ≤ 4294967296) }
     ensures { entry_answer result
         ≡ fields_before (length list.now) kind (read_two limit second (drop at list.now)) }
 {
-    let number = number_at(list, at, limit);
-    match number {
-        Field::Value { value, next } => second_field(list, next, kind, value as u32, second),
-        Field::Refused => Entry::Unreadable,
-    }
+    let number = number_at(list, at, limit).ok_or(Refusal::Unreadable)?;
+    second_field(list, number.next, kind, number.value as u32, second)
 }
 
 // The second field, behind one of value `first`.
-fn second_field(list: &[u8], at: usize, kind: u8, first: u32, limit: u64) -> Entry
+fn second_field(
+    list: &[u8],
+    at: usize,
+    kind: u8,
+    first: u32,
+    limit: u64,
+) -> Result<Entry, Refusal>
     requires { limit ≤ 4294967296 }
     ensures { entry_answer result ≡ fields_before (length list.now) kind (read_behind first limit (drop at list.now)) }
 {
-    let number = number_at(list, at, limit);
-    match number {
-        Field::Value { value, next } => Entry::Fields {
-            kind,
-            first,
-            second: value as u32,
-            next,
-        },
-        Field::Refused => Entry::Unreadable,
-    }
+    let number = number_at(list, at, limit).ok_or(Refusal::Unreadable)?;
+    Ok(Entry::Fields {
+        kind,
+        first,
+        second: number.value as u32,
+        next: number.next,
+    })
 }
 
 // An option with a raw body: the body's length, and the body.
-fn raw_body(list: &[u8], at: usize, kind: u8) -> Entry
+fn raw_body(list: &[u8], at: usize, kind: u8) -> Result<Entry, Refusal>
     requires { shape_of kind ≡ raw }
     ensures { entry_answer result ≡ spelled_before (length list.now) (read_kind kind (drop at list.now)) }
 {
-    let number = number_at(list, at, BODIES);
-    match number {
-        Field::Value { value, next } => {
-            let size = value as usize;
-            if list.len() - next < size {
-                return Entry::Unreadable;
-            }
-            Entry::Body {
-                kind,
-                start: next,
-                size,
-                next: next + size,
-            }
-        }
-        Field::Refused => Entry::Unreadable,
+    let number = number_at(list, at, BODIES).ok_or(Refusal::Unreadable)?;
+    let size = number.value as usize;
+    if list.len() - number.next < size {
+        return Err(Refusal::Unreadable);
     }
+    Ok(Entry::Body {
+        kind,
+        start: number.next,
+        size,
+        next: number.next + size,
+    })
 }

@@ -1,6 +1,6 @@
 -- Listing what was read from the wire. Document 01, "Dockets and the writer": "A reading can be listed as a docket into a lent buffer (8 if too small;
 -- bytes behind stay), with no option and fill 0 unless the verdict is "read"; fill is the count from EOL to the end, 0 without EOL."
-use Rattle.std.specs.Prelude.{ℕ, ◌+◌, ◌≤◌, Bool, cond, List, [], ◌∷◌, ◌++◌, ◌≡◌, eqb, leb, length, drop}
+use Rattle.std.specs.Prelude.{ℕ, ◌+◌, ◌≤◌, Bool, Result, Ok, Err, cond, List, [], ◌∷◌, ◌++◌, ◌≡◌, eqb, leb, length, drop}
 use Rattle.number_octets.specs.Octets.{part, overlay}
 use Rattle.number_varint.specs.SevenBit.{encoded}
 pub use Rattle.number_varint.specs.Answer.{too_small}
@@ -9,8 +9,8 @@ use Rattle.wire_options.specs.Walk.{Item, Walked, listed, faulty, items_of}
 use Rattle.list_entry.specs.Shape.{shape_of}
 use Rattle.list_entry.specs.Option.{item_of, encoded_body, longest_body}
 use Rattle.list_encoding.specs.Encoding.{Answer, given, refused, encoded_list}
-use Rattle.list_options.specs.declared.Listed.{Listed}
-use Rattle.list_options.specs.declared.Listed.TheVariants.{Written, Full}
+use Rattle.number_varint.specs.declared.Full.{Full}
+use Rattle.list_options.specs.declared.Listing as declared
 use Rattle.list_options.specs.declared.Content.{Content}
 use Rattle.list_options.specs.declared.Content.TheVariants.{Bare, One, Two, Raw}
 
@@ -45,12 +45,12 @@ pub record Listing : Type 0 where
   pub fill : ℕ
 
 -- The numbers of document 01 for what `list_options` answers.
-abbrev pub listed_answer : Listed → Answer Listing
-listed_answer (Written size fill) = given (record { size = size; fill = fill })
-listed_answer Full = refused too_small
+abbrev pub listed_answer : Result declared.Listing Full → Answer Listing
+listed_answer (Ok listing) = given (record { size = listing.size; fill = listing.fill })
+listed_answer (Err full) = refused too_small
 
 -- What `list_options` answers, and the buffer that it leaves: the listing from the front, the bytes behind as they were.
-pub record ListedInto (walk : Walked) (buffer : List ℕ) (answer : Listed) (left : List ℕ) : Type 0 where
+pub record ListedInto (walk : Walked) (buffer : List ℕ) (answer : Result declared.Listing Full) (left : List ℕ) : Type 0 where
   pub answered : listed_answer answer
       ≡ cond (room_for walk buffer) (given (record { size = length (listing walk); fill = fill_of walk })) (refused too_small)
   pub written : left ≡ cond (room_for walk buffer) (listing walk ++ drop (length (listing walk)) buffer) buffer

@@ -13,18 +13,16 @@ ghost use Rattle.list_encoding.specs.Encoding.{encoded_options};
 ghost use Rattle.list_options.specs.Listing.{unworked, unworked_all, fill_of, Sound, ListedInto, content_code, Within, ContentOf, WrittenAt};
 
 use number_offsets::PacketOffset;
-use number_varint::Encoded;
+use number_varint::Full;
 use wire_nops::Strictness;
 use wire_options::walk;
-use wire_options::walk::Walk;
 use wire_step::Step;
 
+// How long a listing is, and the fill beside it.
 #[derive(Clone, Copy)]
-pub enum Listed {
-    // How long the listing is, and the fill beside it.
-    Written { size: usize, fill: usize },
-    // The buffer is too small.
-    Full,
+pub struct Listing {
+    pub size: usize,
+    pub fill: usize,
 }
 
 // What stands behind an option's kind: no number, one, two, or a raw body and where it stands on the wire.
@@ -37,7 +35,7 @@ enum Content {
 }
 
 // Lists the options that stand in `options` as on the wire; none where they are faulty.
-pub fn list_options(options: &[u8], buffer: &mut [u8]) -> Listed
+pub fn list_options(options: &[u8], buffer: &mut [u8]) -> Result<Listing, Full>
     ensures { ListedInto (walk_from option_limit 0 options.now) buffer.old result buffer.new }
 {
     let walked = walk::walk_list(
@@ -47,28 +45,29 @@ pub fn list_options(options: &[u8], buffer: &mut [u8]) -> Listed
         Strictness::Plain,
     );
     match walked {
-        Walk::Listed {
-            count,
-            fill,
-            apcs: _,
-        } => list_sound(options, count, fill, buffer),
-        Walk::Faulty(_, _) => list_sound(&options[..0], 0, 0, buffer),
+        Ok(listed) => list_sound(options, listed.count, listed.fill, buffer),
+        Err(_) => list_sound(&options[..0], 0, 0, buffer),
     }
 }
 
 // Lists `count` options that can all be read.
-fn list_sound(options: &[u8], count: usize, fill: usize, buffer: &mut [u8]) -> Listed
+fn list_sound(
+    options: &[u8],
+    count: usize,
+    fill: usize,
+    buffer: &mut [u8],
+) -> Result<Listing, Full>
     requires { Sound (walk_from option_limit 0 options.now) × (count ≡ length (items_of (walk_from option_limit 0 options.now)))
         × (fill ≡ fill_of (walk_from option_limit 0 options.now)) }
     ensures { ListedInto (walk_from option_limit 0 options.now) buffer.old result buffer.new }
 {
     let size = number_varint::encoded_length(count as u64) + options_size(options);
     if buffer.len() < size {
-        return Listed::Full;
+        return Err(Full);
     }
     let at = put(count as u64, buffer, 0);
     put_options(options, buffer, at);
-    Listed::Written { size, fill }
+    Ok(Listing { size, fill })
 }
 
 // How many bytes the options of `options` are when encoded.
@@ -239,9 +238,5 @@ fn put(value: u64, buffer: &mut [u8], at: usize) -> usize
     requires { at + length (encoded value) ≤ length buffer.old }
     ensures { WrittenAt (encoded value) buffer.old at result buffer.new }
 {
-    let written = number_varint::encode(value, buffer, at);
-    match written {
-        Encoded::Next(next) => next,
-        Encoded::Full => at,
-    }
+    number_varint::encode(value, buffer, at).unwrap()
 }

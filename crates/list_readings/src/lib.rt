@@ -5,12 +5,17 @@ ghost use Rattle.std.specs.Prelude.{◌≡◌};
 ghost use Rattle.list_options.specs.Listing.{ListedInto};
 ghost use Rattle.list_readings.specs.Catalogue.{is_listed, walk_of_value};
 
-use list_options::Listed;
+use list_options::Listing;
+use number_varint::Full;
 use wire_original::{OriginalExtent, Rereading};
 use wire_reading::{Extent, Reading, Verdict};
 
 // Lists the options of `payload` that its reading reports, or none where there are none to be listed.
-pub fn list_reading(payload: &[u8], reading: Reading, buffer: &mut [u8]) -> Listed
+pub fn list_reading(
+    payload: &[u8],
+    reading: Reading,
+    buffer: &mut [u8],
+) -> Result<Listing, Full>
     ensures { ListedInto
         (walk_of_value payload.now reading.verdict reading.options.from.0 reading.options.to.0)
         buffer.old result buffer.new }
@@ -26,7 +31,11 @@ pub fn list_reading(payload: &[u8], reading: Reading, buffer: &mut [u8]) -> List
 }
 
 // Lists the options of `original` that its rereading reports, or none where there are none to be listed.
-pub fn list_rereading(original: &[u8], rereading: Rereading, buffer: &mut [u8]) -> Listed
+pub fn list_rereading(
+    original: &[u8],
+    rereading: Rereading,
+    buffer: &mut [u8],
+) -> Result<Listing, Full>
     ensures { ListedInto
         (walk_of_value original.now rereading.verdict rereading.options.from.0 rereading.options.to.0)
         buffer.old result buffer.new }

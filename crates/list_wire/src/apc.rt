@@ -3,12 +3,9 @@ ghost use Rattle.std.specs.Prelude.{◌≡◌, drop};
 ghost use Rattle.number_crc32c.specs.Crc.{crc_of};
 ghost use Rattle.list_wire.specs.Parts.{Sees, apcs_read, wires_listed};
 
-use list_entry::{Entry, Field};
-
-// The count of a list stays below this.
-pub const COUNTS: u64 = 33;
-
-const APC: u8 = 2;
+use list_encoding::check::COUNTS;
+use list_entry::Entry;
+use wire_step::APC;
 
 // Whether an option is an APC, and where the next one stands.
 #[derive(Drop)]
@@ -21,15 +18,11 @@ struct Seen {
 pub fn crc_for(list: &[u8], data: &[u8]) -> u32
     ensures { wires_listed result list.now ≡ wires_listed (crc_of «data».now) list.now }
 {
-    let number = list_entry::number_at(list, 0, COUNTS);
-    match number {
-        Field::Value { value, next } => {
-            if has_apc(list, next, value as usize) {
-                return number_crc32c::crc32c(data);
-            }
-            0
+    match list_entry::number_at(list, 0, COUNTS) {
+        Some(number) if has_apc(list, number.next, number.value as usize) => {
+            number_crc32c::crc32c(data)
         }
-        Field::Refused => 0,
+        _ => 0,
     }
 }
 
@@ -38,14 +31,12 @@ fn has_apc(list: &[u8], start: usize, count: usize) -> bool
     ensures { result ≡ apcs_read count (drop start list.now) }
 {
     let mut from = start;
-    let mut left = count;
-    while 0 < left {
+    for _ in 0..count {
         let seen = look(list, from);
         if seen.apc {
             return true;
         }
         from = seen.next;
-        left -= 1;
     }
     false
 }
@@ -56,26 +47,22 @@ fn look(list: &[u8], from: usize) -> Seen
 {
     let found = list_entry::entry_at(list, from);
     match found {
-        Entry::Fields {
+        Ok(Entry::Fields {
             kind,
             first: _,
             second: _,
             next,
-        } => Seen {
+        }) => Seen {
             next,
             apc: kind == APC,
         },
-        Entry::Body {
+        Ok(Entry::Body {
             kind: _,
             start: _,
             size: _,
             next,
-        } => Seen { next, apc: false },
-        Entry::Unreadable => Seen {
-            next: from,
-            apc: false,
-        },
-        Entry::Forbidden => Seen {
+        }) => Seen { next, apc: false },
+        Err(_) => Seen {
             next: from,
             apc: false,
         },

@@ -6,8 +6,7 @@ ghost use Rattle.list_encoding.specs.Wire.{whole_length, fields_on_wire};
 ghost use Rattle.list_payload.specs.Payload.{wire_of};
 ghost use Rattle.list_wire.specs.Parts.{Laid, head_of, field_body};
 
-// The longest body whose option has the short form, of 254 bytes.
-const LONGEST_SHORT_BODY: usize = 252;
+use list_encoding::check::LONGEST_SHORT_BODY;
 
 // The length byte that says that the length stands in the two bytes behind it.
 const EXTENDED: u8 = 255;
@@ -102,8 +101,7 @@ pub fn put_fields(
             buffer,
             at,
         ),
-        6 => put_wide(kind, first, buffer, at),
-        7 => put_wide(kind, first, buffer, at),
+        6 | 7 => put_wide(kind, first, buffer, at),
         8 => put_pair(kind, first, second, buffer, at),
         _ => put_head(kind, 0, buffer, at),
     }

@@ -1,23 +1,27 @@
 -- What `write` answers and what it leaves in the buffer, by document 01: "Refusals leave the buffer alone: 7 docket unreadable, a field too wide or
 -- bytes left over; 9 kind 0, 1, 3 or 192 to 255 in a docket; 8 payload over 65,515 or over the buffer", and "Bytes behind the payload stay".
-use Rattle.std.specs.Prelude.{◌≡◌, Bool, cond, ◌&&◌, List, ◌++◌, ℕ, leb, length, drop}
+use Rattle.std.specs.Prelude.{◌≡◌, Bool, Result, Ok, Err, cond, ◌&&◌, List, ◌++◌, ℕ, leb, length, drop}
 use Rattle.wire_options.specs.Walk.{Item}
 use Rattle.wire_reading.specs.Reading.{payload_limit}
 use Rattle.list_entry.specs.Option.{forbidden}
 use Rattle.list_encoding.specs.Encoding.{Answer, given, refused, unreadable, decoded_list}
 use Rattle.list_payload.specs.Payload.{Datagram, payload_of}
-use Rattle.list_writer.specs.declared.Written.{Written}
-use Rattle.list_writer.specs.declared.Written.TheVariants.{Payload, Unreadable, Forbidden, TooLarge}
+use Rattle.list_writer.specs.declared.Refusal.{Refusal}
+use Rattle.list_writer.specs.declared.Refusal.TheVariants.{Unreadable, Forbidden, TooLarge}
 
 abbrev pub too_large : ℕ
 too_large = 8
 
--- the paper's number of each refusal, or the payload's length
-abbrev pub written_answer : Written → Answer ℕ
-written_answer (Payload length) = given length
-written_answer Unreadable = refused unreadable
-written_answer Forbidden = refused forbidden
-written_answer TooLarge = refused too_large
+-- the paper's number of each refusal
+abbrev pub refusal_number : Refusal → ℕ
+refusal_number Unreadable = unreadable
+refusal_number Forbidden = forbidden
+refusal_number TooLarge = too_large
+
+-- the paper's number of the refusal, or the payload's length
+abbrev pub written_answer : Result ℕ Refusal → Answer ℕ
+written_answer (Ok length) = given length
+written_answer (Err refusal) = refused (refusal_number refusal)
 
 -- the answer, and the buffer afterwards
 pub record Outcome : Type 0 where
@@ -59,6 +63,6 @@ datagram_for source destination source_port destination_port user fill items = r
 }
 
 -- a call that answers `r` and leaves `buffer` comes to an outcome
-pub record Wrote (outcome : Outcome) (r : Written) (buffer : List ℕ) : Type 0 where
+pub record Wrote (outcome : Outcome) (r : Result ℕ Refusal) (buffer : List ℕ) : Type 0 where
   pub answered : written_answer r ≡ outcome.answer
   pub left : buffer ≡ outcome.buffer

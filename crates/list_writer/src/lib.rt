@@ -2,26 +2,38 @@
 #![tactic(auto)]
 
 ghost use Rattle.std.specs.Prelude.{◌≡◌, ◌++◌, ◌+◌, ◌%◌, ◌≤◌, length};
-ghost use Rattle.list_writer.specs.Answer.{Wrote, fits, written, datagram_for};
+ghost use Rattle.list_entry.specs.Answer.{refusal_number as list_refusal_number};
+ghost use Rattle.list_writer.specs.Answer.{Wrote, fits, written, datagram_for, refusal_number};
 ghost use Rattle.list_wire.specs.Parts.{Laid, plainly, payload_from};
 
 use list_encoding::check;
-use list_encoding::check::Checked;
 use number_offsets::UDP_HEADER;
 use wire_datagram::reading::PAYLOAD_LIMIT;
 
 mod header;
 
+// Why a payload can't be written: its list can't be taken, or it is too large.
 #[derive(Clone, Copy)]
-pub enum Written {
-    // The payload's length.
-    Payload(usize),
+pub enum Refusal {
     Unreadable,
     Forbidden,
     TooLarge,
 }
 
-// Writes a whole payload to the front of `buffer`: header, data, and an area with the options of the encoded list and `fill` zero bytes.
+// What a list is refused for, its datagram is.
+impl From<list_entry::Refusal> for Refusal {
+    ghost from_gives = { λ of_list refusal. refusal_number refusal ≡ list_refusal_number of_list };
+
+    fn from(of_list: list_entry::Refusal) -> Refusal {
+        match of_list {
+            list_entry::Refusal::Unreadable => Refusal::Unreadable,
+            list_entry::Refusal::Forbidden => Refusal::Forbidden,
+        }
+    }
+}
+
+// Writes a whole payload to the front of `buffer`: header, data, and an area with the options of the encoded list and `fill` zero bytes. The
+// answer is the payload's length.
 pub fn write(
     source: [u8; 4],
     destination: [u8; 4],
@@ -31,31 +43,25 @@ pub fn write(
     list: &[u8],
     fill: u8,
     buffer: &mut [u8],
-) -> Written
+) -> Result<usize, Refusal>
     ensures { Wrote
         (written (datagram_for source destination source_port destination_port «data».now fill) list.now buffer.old)
         result buffer.new }
 {
-    let checked = check::check(list);
-    match checked {
-        Checked::Sound { count: _, size } => {
-            if fits(data.len(), size, fill, buffer.len()) {
-                return Written::Payload(put_payload(
-                    source,
-                    destination,
-                    source_port,
-                    destination_port,
-                    data,
-                    list,
-                    fill,
-                    buffer,
-                ));
-            }
-            Written::TooLarge
-        }
-        Checked::Unreadable => Written::Unreadable,
-        Checked::Forbidden => Written::Forbidden,
+    let options = check::check(list)?;
+    if fits(data.len(), options.size, fill, buffer.len()) {
+        return Ok(put_payload(
+            source,
+            destination,
+            source_port,
+            destination_port,
+            data,
+            list,
+            fill,
+            buffer,
+        ));
     }
+    Err(Refusal::TooLarge)
 }
 
 // Whether a payload with `data` bytes of user data and `options` bytes of options is neither over the limit nor over `room`.

@@ -2,37 +2,25 @@
 use mathlib.Core.Path.{sym, ap, ◌∙◌}
 use Prim.Native.Nat.{◌+◌}
 use native.Mathlib.Omega.{arith}
+use Rattle.std.proofs.Common.{Err}
+use Rattle.std.proofs.lemmas.Result.{err_from_is_err_and}
 use Rattle.list_entry.specs.Option.{longest_body}
-use Rattle.list_entry.proofs.Places.{ValueAt, value_there, none-there}
+use Rattle.list_entry.specs.Answer.{entry_answer}
+use Rattle.list_entry.proofs.Found.{number_found, none_found}
 use Rattle.list_entry.proofs.Entries.{raw-cut, raw-there, raw-none}
-use Rattle.list_entry.specs.Answer.{field_answer}
 use Rattle.list_entry.proofs.raw_body.Goals as goal
-use Rattle.list_entry.proofs.raw_body.Goals.{Else-list-next, In-Value, Then-list-next}
 
--- the size that was found
-value : (c : In-Value) → let a = c.args in
-    ValueAt (longest_body + 1) a.list.now a.at c.in-Value.value c.in-Value.next
-value c = value_there _ _ _ _ _ (sym c.number_at-number.ensures ∙ ap field_answer c.in-Value.is)
-
--- the size that was found
-value-2 : (c : Then-list-next) → let a = c.args in
-    ValueAt (longest_body + 1) a.list.now a.at c.in-Value.value c.in-Value.next
-value-2 c = value_there _ _ _ _ _ (sym c.number_at-number.ensures ∙ ap field_answer c.in-Value.is)
-
--- the size that was found
-value-3 : (c : Else-list-next) → let a = c.args in
-    ValueAt (longest_body + 1) a.list.now a.at c.in-Value.value c.in-Value.next
-value-3 c = value_there _ _ _ _ _ (sym c.number_at-number.ensures ∙ ap field_answer c.in-Value.is)
+pub returns-in_err-number : goal.returns-in_err-number
+returns-in_err-number c = let a = c.args in
+    let p = err_from_is_err_and c.from_residual.result c.from_residual.ensures.1 in
+    let n = none_found _ _ _ _ _ _ c.number_at.ensures c.ok_or.ensures.value c.in_err-number.was in
+    ap entry_answer (p.1 ∙ ap Err (p.2 ∙ n.told)) ∙ sym (raw-none a.list.now a.at a.kind c.requires n.reads)
 
 pub overflow_sub-list : goal.overflow_sub-list
-overflow_sub-list c = let v = value c in omega (arith, v.within)
+overflow_sub-list c = let v = number_found _ _ _ _ _ _ c.number_at.ensures c.ok_or.ensures.value c.in_ok-number.was in omega (arith, v.within)
 
-pub returns-then-list-next : goal.returns-then-list-next
-returns-then-list-next c = sym (raw-cut _ _ _ _ _ c.requires (value-2 c) c.if-list-next.true)
+pub returns-then-list-number : goal.returns-then-list-number
+returns-then-list-number c = sym (raw-cut _ _ _ _ _ c.requires (number_found _ _ _ _ _ _ c.number_at.ensures c.ok_or.ensures.value c.in_ok-number.was) c.if-list-number.true)
 
-pub returns-else-list-next : goal.returns-else-list-next
-returns-else-list-next c = sym (raw-there _ _ _ _ _ c.requires (value-3 c) c.if-list-next.false)
-
-pub returns-in-Refused : goal.returns-in-Refused
-returns-in-Refused c = sym (raw-none c.args.list.now c.args.at c.args.kind c.requires
-    (none-there _ _ _ (sym c.number_at-number.ensures ∙ ap field_answer c.in-Refused.is)))
+pub returns : goal.returns
+returns c = sym (raw-there _ _ _ _ _ c.requires (number_found _ _ _ _ _ _ c.number_at.ensures c.ok_or.ensures.value c.in_ok-number.was) c.if-list-number.false)
