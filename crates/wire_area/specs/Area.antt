@@ -1,10 +1,9 @@
 -- The walk over the option list of a surplus area, where FRAG may lead (document 01, "Walking the list"; RFC 9868 section 11.4).
-use Rattle.std.specs.Prelude.{Bool, true, false, cond, ◌&&◌, List, ℕ, ◌+◌, ◌-◌, eqb, leb, length, get_or, drop}
+use Rattle.std.specs.Prelude.{Bool, true, false, cond, ◌&&◌, Option, Some, None, Result, Ok, Err, List, ℕ, ◌+◌, ◌-◌, eqb, leb, length, get_or, drop}
 use Rattle.number_octets.specs.Octets.{number, part}
 use Rattle.number_offsets.specs.Offsets.{udp_header, place_of}
 use Rattle.number_offsets.specs.declared.PacketOffset.{PacketOffset}
-use Rattle.number_offsets.specs.declared.Origin.{Origin}
-use Rattle.number_offsets.specs.declared.Origin.TheVariants.{At, BeforeData}
+use Rattle.number_offsets.specs.declared.OriginalOffset.{OriginalOffset}
 use Rattle.wire_nops.specs.Nops.{nop_limit, nops_of, is_padding}
 use Rattle.wire_nops.specs.declared.Strictness.{Strictness}
 use Rattle.wire_step.specs.Kinds.{eol, frag, last_frag_size}
@@ -15,14 +14,12 @@ use Rattle.wire_options.specs.Walk.{Located, Walked, listed, faulty, items_in, o
 use Rattle.wire_options.specs.Strict.{walk_by}
 use Rattle.wire_options.specs.declared.walk.Fault.{Fault}
 use Rattle.wire_options.specs.declared.walk.Fault.TheVariants.{Malformed, FragData, Padded}
-use Rattle.wire_options.specs.declared.walk.Walk.{Walk}
-use Rattle.wire_options.specs.declared.walk.Walk.TheVariants.{Listed as WalkListed, Faulty as WalkFaulty}
+use Rattle.wire_options.specs.declared.walk.Listed.{Listed}
+use Rattle.wire_options.specs.declared.walk.Met.{Met}
 use Rattle.wire_area.specs.declared.Fields.{Fields}
 use Rattle.wire_area.specs.declared.Fragment.{Fragment}
-use Rattle.wire_area.specs.declared.Placed.{Placed}
-use Rattle.wire_area.specs.declared.Placed.TheVariants.{Sound, Refused}
 use Rattle.wire_area.specs.declared.Area.{Area}
-use Rattle.wire_area.specs.declared.Area.TheVariants.{Listed, Piece, Faulty}
+use Rattle.wire_area.specs.declared.Area.TheVariants.{Listed as Options, Piece}
 
 -- The fields of a FRAG of `size` bytes at the front of a list: Frag. Start, Identification, Frag. Offset and, in the last piece, the
 -- reassembled option start. Where the piece is not the last, that start stands at the origin.
@@ -36,10 +33,10 @@ fields_of size l = record {
 }
 
 -- a value before the origin of user data is malformed
-abbrev pub placed_at : Fields → ℕ → Origin → Origin → Placed
-placed_at fields end BeforeData r = Refused
-placed_at fields end (At place) BeforeData = Refused
-placed_at fields end (At place) (At r) = Sound (record {
+abbrev pub placed_at : Fields → ℕ → Option OriginalOffset → Option OriginalOffset → Option Fragment
+placed_at fields end None r = None
+placed_at fields end (Some place) None = None
+placed_at fields end (Some place) (Some r) = Some (record {
   identification = fields.identification;
   place = place;
   start = fields.start;
@@ -50,11 +47,11 @@ placed_at fields end (At place) (At r) = Sound (record {
 
 -- Frag. Start counts from the UDP header, `base` bytes before the list. It may not lie before FRAG's end, `behind` bytes into the list,
 -- nor past the payload, which ends with the list.
-unfoldable pub fragment_of : Fields → ℕ → ℕ → ℕ → Placed
+unfoldable pub fragment_of : Fields → ℕ → ℕ → ℕ → Option Fragment
 fragment_of fields base behind size =
     cond (leb (base + behind) fields.start.0 && leb fields.start.0 (base + size))
     (placed_at fields (base + size) (place_of fields.offset) (place_of fields.option_start))
-    Refused
+    None
 
 -- what the walk of an area's list comes to: options and fill, a fragment, or the fault met first and where
 pub data AreaWalk : Type 0 where
@@ -82,10 +79,10 @@ offset_in base n = record { 0 = base + n }
 
 -- With user data a FRAG that passes its tests is "fragdata" at once. Else the list is walked up to Frag. Start, its NOPs counted anew; FRAG counts
 -- as one option. FRAG stands `nops` bytes into the list, and its own faults are met there.
-abbrev pub behind_frag : Strictness → Bool → List ℕ → ℕ → ℕ → ℕ → Placed → AreaWalk
-behind_frag how empty l base nops behind Refused = fault Malformed (offset_in base nops)
-behind_frag how false l base nops behind (Sound f) = fault FragData (offset_in base nops)
-behind_frag how true l base nops behind (Sound f) =
+abbrev pub behind_frag : Strictness → Bool → List ℕ → ℕ → ℕ → ℕ → Option Fragment → AreaWalk
+behind_frag how empty l base nops behind None = fault Malformed (offset_in base nops)
+behind_frag how false l base nops behind (Some f) = fault FragData (offset_in base nops)
+behind_frag how true l base nops behind (Some f) =
     piece_with f (walk_by how (option_limit - 1) 0 (up_to_start f base behind l))
 
 -- a list whose first option, behind `nops` NOPs, has the kind of FRAG
@@ -111,17 +108,7 @@ unfoldable pub area_of : Strictness → Bool → ℕ → List ℕ → AreaWalk
 area_of how empty base l = cond (is_padding how (nops_of l)) (fault Padded (offset_in base nop_limit)) (behind_nops how empty base l)
 
 -- what of it the answer tells
-abbrev pub area_answer : AreaWalk → Area
-area_answer (plain options fill) = Listed (length options) fill (apcs_of (items_in options))
-area_answer (piece f) = Piece f
-area_answer (fault f at) = Faulty f at
-
--- ---- what the answer of a list's walk becomes in the answer of an area's walk
-
-abbrev pub as_piece : Fragment → Walk → Area
-as_piece f (WalkListed count fill apcs) = Piece f
-as_piece f (WalkFaulty x at) = Faulty x at
-
-abbrev pub as_area : Walk → Area
-as_area (WalkListed count fill apcs) = Listed count fill apcs
-as_area (WalkFaulty x at) = Faulty x at
+abbrev pub area_answer : AreaWalk → Result Area Met
+area_answer (plain options fill) = Ok (Options (record { count = length options; fill = fill; apcs = apcs_of (items_in options) }))
+area_answer (piece f) = Ok (Piece f)
+area_answer (fault f at) = Err (record { fault = f; at = at })

@@ -1,9 +1,7 @@
 -- The reading and the outcome that parts stand for.
-use Rattle.wire_datagram.specs.declared.parts.Examined.{Examined}
-use Rattle.wire_datagram.specs.declared.parts.Examined.TheVariants.{Refused as refused_parts, Accepted as accepted_parts}
+use Rattle.std.specs.Prelude.{Result, Ok, Err}
 use Rattle.wire_datagram.specs.declared.parts.Parts.{Parts}
-use Rattle.wire_datagram.specs.declared.reading.Outcome.{Outcome}
-use Rattle.wire_datagram.specs.declared.reading.Outcome.TheVariants.{Refused, Accepted}
+use Rattle.wire_datagram.specs.declared.reading.Refusal.{Refusal}
 use Rattle.wire_reading.specs.declared.Reading.{Reading}
 
 abbrev pub gathered : Parts → Reading
@@ -16,6 +14,6 @@ gathered p = record {
   apc = p.apc;
 }
 
-abbrev pub outcome_of : Examined → Outcome
-outcome_of (refused_parts refusal) = Refused refusal
-outcome_of (accepted_parts parts) = Accepted (gathered parts)
+abbrev pub outcome_of : Result Parts Refusal → Result Reading Refusal
+outcome_of (Ok parts) = Ok (gathered parts)
+outcome_of (Err refusal) = Err refusal

@@ -1,5 +1,5 @@
 -- Reading one IPv4 payload (document 01, "Reading one IPv4 payload").
-use Rattle.std.specs.Prelude.{Bool, false, not, ◌&&◌, ◌||◌, List, [], ◌∷◌, ◌++◌, ℕ, eqb, ltb, length, take, drop}
+use Rattle.std.specs.Prelude.{Bool, false, not, ◌&&◌, ◌||◌, Result, Ok, Err, List, [], ◌∷◌, ◌++◌, ℕ, eqb, ltb, length, take, drop}
 use Rattle.std.proofs.Math.Option.{Option, none, some}
 use Rattle.number_octets.specs.Octets.{number, octets, part}
 use Rattle.number_offsets.specs.Offsets.{udp_header}
@@ -11,8 +11,6 @@ use Rattle.wire_reading.specs.Reading.{payload_limit, started, is_odd}
 use Rattle.wire_reading.specs.declared.Reading.{Reading}
 use Rattle.wire_datagram.specs.declared.reading.Refusal.{Refusal}
 use Rattle.wire_datagram.specs.declared.reading.Refusal.TheVariants.{PayloadTooShort, PayloadTooLong, LengthOutOfRange, ChecksumWrong}
-use Rattle.wire_datagram.specs.declared.reading.Outcome.{Outcome}
-use Rattle.wire_datagram.specs.declared.reading.Outcome.TheVariants.{Refused, Accepted}
 
 -- ---- the UDP header (RFC 768)
 
@@ -73,6 +71,6 @@ refusal_number PayloadTooLong = 2
 refusal_number LengthOutOfRange = 3
 refusal_number ChecksumWrong = 4
 
-abbrev pub answer_of : Outcome → Answer
-answer_of (Refused refusal) = refused (refusal_number refusal)
-answer_of (Accepted r) = reads r
+abbrev pub answer_of : Result Reading Refusal → Answer
+answer_of (Ok r) = reads r
+answer_of (Err refusal) = refused (refusal_number refusal)

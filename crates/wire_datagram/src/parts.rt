@@ -3,7 +3,7 @@
 ghost use Rattle.std.specs.Prelude.{◌≡◌};
 ghost use Rattle.wire_datagram.specs.Parts.{gathered, outcome_of};
 
-use crate::reading::{Outcome, Refusal};
+use crate::reading::Refusal;
 use number_offsets::PacketOffset;
 use wire_reading::{Apc, Extent, Reading, Verdict};
 
@@ -19,65 +19,60 @@ pub struct Parts {
     pub verdict: Verdict,
 }
 
-#[derive(Clone, Copy)]
-pub enum Examined {
-    Refused(Refusal),
-    Accepted(Parts),
-}
+impl From<Reading> for Parts {
+    ghost from_gives = { λ reading parts. gathered parts ≡ reading };
 
-pub fn parts_of(reading: Reading) -> Parts
-    ensures { gathered result ≡ reading }
-{
-    let user = reading.user;
-    let options = reading.options;
-    let user_from = user.from;
-    let user_to = user.to;
-    let options_from = options.from;
-    let options_to = options.to;
-    let apc = reading.apc;
-    let verdict = reading.verdict;
-    Parts {
-        user_from,
-        options_from,
-        count: reading.count,
-        user_to,
-        options_to,
-        fill: reading.fill,
-        apc,
-        verdict,
+    fn from(reading: Reading) -> Parts {
+        let user = reading.user;
+        let options = reading.options;
+        let user_from = user.from;
+        let user_to = user.to;
+        let options_from = options.from;
+        let options_to = options.to;
+        let apc = reading.apc;
+        let verdict = reading.verdict;
+        Parts {
+            user_from,
+            options_from,
+            count: reading.count,
+            user_to,
+            options_to,
+            fill: reading.fill,
+            apc,
+            verdict,
+        }
     }
 }
 
-pub fn outcome_of(examined: Examined) -> Outcome
+impl From<Parts> for Reading {
+    ghost from_gives = { λ parts reading. reading ≡ gathered parts };
+
+    fn from(parts: Parts) -> Reading {
+        let user_from = parts.user_from;
+        let user_to = parts.user_to;
+        let options_from = parts.options_from;
+        let options_to = parts.options_to;
+        let apc = parts.apc;
+        let verdict = parts.verdict;
+        Reading {
+            user: Extent {
+                from: user_from,
+                to: user_to,
+            },
+            verdict,
+            options: Extent {
+                from: options_from,
+                to: options_to,
+            },
+            count: parts.count,
+            fill: parts.fill,
+            apc,
+        }
+    }
+}
+
+pub fn outcome_of(examined: Result<Parts, Refusal>) -> Result<Reading, Refusal>
     ensures { result ≡ outcome_of examined }
 {
-    match examined {
-        Examined::Refused(refusal) => Outcome::Refused(refusal),
-        Examined::Accepted(parts) => Outcome::Accepted(gathered(parts)),
-    }
-}
-
-fn gathered(parts: Parts) -> Reading
-    ensures { result ≡ gathered parts }
-{
-    let user_from = parts.user_from;
-    let user_to = parts.user_to;
-    let options_from = parts.options_from;
-    let options_to = parts.options_to;
-    let apc = parts.apc;
-    let verdict = parts.verdict;
-    Reading {
-        user: Extent {
-            from: user_from,
-            to: user_to,
-        },
-        verdict,
-        options: Extent {
-            from: options_from,
-            to: options_to,
-        },
-        count: parts.count,
-        fill: parts.fill,
-        apc,
-    }
+    examined.map(Reading::from)
 }

@@ -1,11 +1,11 @@
 // The reading of a payload: refusals in order, and what `wire_reading` says of a payload that none meets.
 ghost use Rattle.std.specs.Prelude.{◌≡◌, ◌≤◌, length};
-ghost use Rattle.wire_datagram.specs.Reading.{pseudo_header, udp_sum, reading, answer_of};
+ghost use Rattle.wire_datagram.specs.Reading.{pseudo_header, udp_sum, reading, answer_of, refusal_number};
 ghost use Rattle.wire_datagram.specs.Parts.{outcome_of};
 ghost use Rattle.wire_datagram.specs.Sums.{Begins};
 
 use crate::parts;
-use crate::parts::Examined;
+use crate::parts::Parts;
 use number_offsets::UDP_HEADER;
 use wire_nops::Strictness;
 use wire_reading::Reading;
@@ -24,10 +24,18 @@ pub enum Refusal {
     ChecksumWrong,
 }
 
-#[derive(Clone, Copy)]
-pub enum Outcome {
-    Refused(Refusal),
-    Accepted(Reading),
+// The number that a host gets: document 01's.
+impl From<Refusal> for u32 {
+    ghost from_gives = { λ refusal number. number ≡ refusal_number refusal };
+
+    fn from(refusal: Refusal) -> u32 {
+        match refusal {
+            Refusal::PayloadTooShort => 1,
+            Refusal::PayloadTooLong => 2,
+            Refusal::LengthOutOfRange => 3,
+            Refusal::ChecksumWrong => 4,
+        }
+    }
 }
 
 // Reads one IPv4 payload.
@@ -36,7 +44,7 @@ pub fn read(
     source: [u8; 4],
     destination: [u8; 4],
     strictness: Strictness,
-) -> Outcome
+) -> Result<Reading, Refusal>
     ensures { answer_of result ≡ reading strictness payload.now source destination }
 {
     parts::outcome_of(examine(payload, source, destination, strictness))
@@ -48,34 +56,27 @@ pub fn examine(
     source: [u8; 4],
     destination: [u8; 4],
     strictness: Strictness,
-) -> Examined
+) -> Result<Parts, Refusal>
     ensures { answer_of (outcome_of result) ≡ reading strictness payload.now source destination }
 {
     if payload.len() < UDP_HEADER {
-        return Examined::Refused(Refusal::PayloadTooShort);
+        return Err(Refusal::PayloadTooShort);
     }
     if PAYLOAD_LIMIT < payload.len() {
-        return Examined::Refused(Refusal::PayloadTooLong);
+        return Err(Refusal::PayloadTooLong);
     }
     let size = number_octets::get_u16(payload, 4) as usize;
-    if size < UDP_HEADER {
-        return Examined::Refused(Refusal::LengthOutOfRange);
-    }
-    if payload.len() < size {
-        return Examined::Refused(Refusal::LengthOutOfRange);
+    if size < UDP_HEADER || payload.len() < size {
+        return Err(Refusal::LengthOutOfRange);
     }
     let checksum = number_octets::get_u16(payload, 6);
     if checksum != 0 {
         if udp_sum(&payload[..size], source, destination) != 65535 {
-            return Examined::Refused(Refusal::ChecksumWrong);
+            return Err(Refusal::ChecksumWrong);
         }
     }
-    Examined::Accepted(parts::parts_of(wire_reading::accept(
-        payload,
-        size,
-        checksum == 0,
-        strictness,
-    )))
+    let reading = wire_reading::accept(payload, size, checksum == 0, strictness);
+    Ok(Parts::from(reading))
 }
 
 // The sum over the pseudo-header and a datagram.

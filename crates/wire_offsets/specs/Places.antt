@@ -1,14 +1,13 @@
 -- Where the options of a list stand, and where a fault is met (document 02, R-7). A walk says how many bytes of its list remain there; a place is
 -- counted from the start of the list, so that the place of a list's first byte is 0.
-use Rattle.std.specs.Prelude.{◌≡◌, List, [], ◌∷◌, ◌⊎◌, ℕ, ◌+◌, ◌-◌, ◌≤◌, ◌<◌, length, drop, get_or}
+use Rattle.std.specs.Prelude.{◌≡◌, Some, None, List, [], ◌∷◌, ◌⊎◌, ℕ, ◌+◌, ◌-◌, ◌≤◌, ◌<◌, length, drop, get_or}
 pub use Rattle.wire_step.specs.Kinds.{nop, frag}
 use Rattle.wire_step.specs.Step.{step_of}
-use Rattle.wire_step.specs.declared.Step.TheVariants.{Found as Option, Malformed as Unsound, Eol, Outlawed}
+use Rattle.wire_step.specs.declared.Step.TheVariants.{Found as OptionStep, Malformed as Unsound, Eol, Outlawed}
 use Rattle.wire_options.specs.Walk.{Located, item_of}
 use Rattle.wire_options.specs.declared.walk.Fault.{Fault}
 use Rattle.wire_options.specs.declared.walk.Fault.TheVariants.{Malformed, Unsafe, FragData, Crowded, Tail, Padded}
 use Rattle.wire_offsets.specs.Next.{next_of}
-use Rattle.wire_offsets.specs.declared.Next.TheVariants.{Found, Nothing}
 
 -- the place from which so many bytes remain
 abbrev pub place_before : List ℕ → ℕ → ℕ
@@ -33,7 +32,7 @@ pub record Stands (l : List ℕ) (option : Located) : Type 0 where
   pub remaining : option.remains ≡ length (drop (place_in l option) l)
   pub byte : get_or l (place_in l option) 0 ≡ option.item.kind
   pub header : ℕ
-  pub found : step_of (drop (place_in l option) l) ≡ Option option.item.kind header option.size
+  pub found : step_of (drop (place_in l option) l) ≡ OptionStep option.item.kind header option.size
   pub whole : option.item ≡ item_of option.item.kind header option.size (drop (place_in l option) l)
   pub other : option.item.kind ≡ frag → ⊥
 
@@ -55,7 +54,7 @@ pub record StandsFrom (bytes : List ℕ) (from fill : ℕ) (option : Located) : 
   pub ends : place_from bytes from option + option.size + fill ≤ length bytes
   pub byte : get_or bytes (place_from bytes from option) 0 ≡ option.item.kind
   pub header : ℕ
-  pub found : step_of (drop (place_from bytes from option) bytes) ≡ Option option.item.kind header option.size
+  pub found : step_of (drop (place_from bytes from option) bytes) ≡ OptionStep option.item.kind header option.size
   pub whole : option.item ≡ item_of option.item.kind header option.size (drop (place_from bytes from option) bytes)
 
 -- each option ends before every later one starts
@@ -82,8 +81,8 @@ pub record Got (l : List ℕ) (place kind header size : ℕ) (option : Located) 
 
 -- These options are got one by one from `at` on: each behind the NOPs that follow the one before, until none comes any more.
 pub data Turns (l : List ℕ) : ℕ → List Located → Type 0 where
-  done : {at : ℕ} → next_of (drop at l) ≡ Nothing → Turns l at []
-  turn : {at : ℕ} {option : Located} {later : List Located} (n kind header size : ℕ) → next_of (drop at l) ≡ Found n header kind size
+  done : {at : ℕ} → next_of (drop at l) ≡ None → Turns l at []
+  turn : {at : ℕ} {option : Located} {later : List Located} (n kind header size : ℕ) → next_of (drop at l) ≡ Some (record { at = n; header = header; kind = kind; size = size })
       → Got l (at + n) kind header size option → Turns l (at + n + size) later → Turns l at (option ∷ later)
 
 -- ---- faults
@@ -103,9 +102,9 @@ pub record PaddedAt (l : List ℕ) (place : ℕ) : Type 0 where
 
 -- what stands at the place where a fault is met: an option that is none, or FRAG where it has no place; an unsafe kind; one sound option too many
 abbrev pub MetAt : List ℕ → ℕ → Fault → Type 0
-MetAt l place Malformed = (step_of (drop place l) ≡ Unsound) ⊎ ((header size : ℕ) × (step_of (drop place l) ≡ Option frag header size))
+MetAt l place Malformed = (step_of (drop place l) ≡ Unsound) ⊎ ((header size : ℕ) × (step_of (drop place l) ≡ OptionStep frag header size))
 MetAt l place Unsafe = (step_of (drop place l) ≡ Outlawed) × (192 ≤ get_or l place 0)
-MetAt l place Crowded = (header size : ℕ) × (step_of (drop place l) ≡ Option (get_or l place 0) header size) × (get_or l place 0 ≡ frag → ⊥)
+MetAt l place Crowded = (header size : ℕ) × (step_of (drop place l) ≡ OptionStep (get_or l place 0) header size) × (get_or l place 0 ≡ frag → ⊥)
 MetAt l place Tail = TailAt l place
 MetAt l place Padded = PaddedAt l place
 MetAt l place FragData = ⊥

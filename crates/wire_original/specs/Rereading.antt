@@ -1,5 +1,5 @@
 -- Rereading a reassembled original (document 01, end of "Walking the list").
-use Rattle.std.specs.Prelude.{Bool, true, List, [], ◌∷◌, ℕ, ◌+◌, ◌-◌, ltb, length, take, drop}
+use Rattle.std.specs.Prelude.{Bool, true, Result, Ok, Err, List, [], ◌∷◌, ℕ, ◌+◌, ◌-◌, ltb, length, take, drop}
 use Rattle.std.proofs.Math.Option.{Option, none, some}
 use Rattle.number_tests.specs.Tests.{first_of}
 use Rattle.number_offsets.specs.Offsets.{udp_header, offset_of}
@@ -10,25 +10,15 @@ use Rattle.wire_options.specs.Strict.{walk_by}
 use Rattle.wire_options.specs.declared.walk.Fault.{Fault}
 use Rattle.wire_options.specs.declared.walk.Fault.TheVariants.{Malformed as malformed_list, Unsafe as unsafe_list, FragData as frag_data, Crowded as crowded_list, Tail as tailed, Padded as padded_list}
 use Rattle.wire_surplus.specs.Surplus.{start_of}
-use Rattle.wire_reading.specs.Reading.{apc_values, apc_of, is_odd}
-use Rattle.wire_surplus.specs.declared.Start.{Start}
-use Rattle.wire_surplus.specs.declared.Start.TheVariants.{
-  Empty,
-  Short as short_area,
-  Pad as bad_pad,
-  Unsummed as no_sum,
-  BadSum as bad_sum,
-  List as ListAt,
-}
+use Rattle.wire_reading.specs.Reading.{apc_values, apc_of, unlisted_verdict, is_odd}
+use Rattle.wire_surplus.specs.declared.Unlisted.{Unlisted}
 use Rattle.wire_reading.specs.declared.Apc.TheVariants.{Absent}
 use Rattle.wire_reading.specs.declared.Verdict.{Verdict}
-use Rattle.wire_reading.specs.declared.Verdict.TheVariants.{Bare, Short, Pad, Unsummed, BadSum, Malformed, FragData, Crowded, Tail, Padded, Read}
+use Rattle.wire_reading.specs.declared.Verdict.TheVariants.{Malformed, FragData, Crowded, Tail, Padded, Read}
 use Rattle.wire_original.specs.declared.OriginalExtent.{OriginalExtent}
 use Rattle.wire_original.specs.declared.Rereading.{Rereading}
 use Rattle.wire_original.specs.declared.RereadRefusal.{RereadRefusal}
 use Rattle.wire_original.specs.declared.RereadRefusal.TheVariants.{OriginalTooLong, OptionStartPastEnd, UnsafeOption}
-use Rattle.wire_original.specs.declared.RereadOutcome.{RereadOutcome}
-use Rattle.wire_original.specs.declared.RereadOutcome.TheVariants.{Refused, Accepted}
 
 -- the largest payload less a UDP header
 unfoldable pub original_limit : ℕ
@@ -71,13 +61,9 @@ rewalked original r from (listed list fill) = rereads (record {
 })
 rewalked original r from (faulty fault remains) = original_faulty r fault (offset_for original remains)
 
-abbrev pub restarted : Strictness → List ℕ → ℕ → Start → ReAnswer
-restarted how original r Empty = original_optionless r Bare
-restarted how original r short_area = original_optionless r Short
-restarted how original r bad_pad = original_optionless r Pad
-restarted how original r no_sum = original_optionless r Unsummed
-restarted how original r bad_sum = original_optionless r BadSum
-restarted how original r (ListAt at) = rewalked original r (r + at) (walk_by how option_limit 0 (drop (r + at) original))
+abbrev pub restarted : Strictness → List ℕ → ℕ → Result ℕ Unlisted → ReAnswer
+restarted how original r (Ok at) = rewalked original r (r + at) (walk_by how option_limit 0 (drop (r + at) original))
+restarted how original r (Err unlisted) = original_optionless r (unlisted_verdict unlisted)
 
 abbrev pub re_tests : List ℕ → ℕ → List (Bool × ℕ)
 re_tests original r = (ltb original_limit (length original), 2) ∷ (ltb (length original) r, 6) ∷ []
@@ -97,6 +83,6 @@ re_refusal_number OriginalTooLong = 2
 re_refusal_number UnsafeOption = 5
 re_refusal_number OptionStartPastEnd = 6
 
-abbrev pub re_answer_of : RereadOutcome → ReAnswer
-re_answer_of (Refused refusal) = refused (re_refusal_number refusal)
-re_answer_of (Accepted r) = rereads r
+abbrev pub re_answer_of : Result Rereading RereadRefusal → ReAnswer
+re_answer_of (Ok r) = rereads r
+re_answer_of (Err refusal) = refused (re_refusal_number refusal)

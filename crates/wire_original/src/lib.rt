@@ -4,14 +4,13 @@
 ghost use Rattle.std.specs.Prelude.{◌≡◌, ◌≤◌, length, drop};
 ghost use Rattle.wire_options.specs.Walk.{option_limit};
 ghost use Rattle.wire_options.specs.Strict.{walk_by};
-ghost use Rattle.wire_original.specs.Rereading.{original_optionless, original_faulty, rewalked, rereading, re_answer_of};
+ghost use Rattle.wire_original.specs.Rereading.{original_optionless, original_faulty, rewalked, rereading, rereads, re_answer_of, re_refusal_number};
 
-use number_offsets::{OriginalOffset, PacketOffset};
+use number_offsets::OriginalOffset;
 use wire_nops::Strictness;
 use wire_options::walk;
-use wire_options::walk::{Fault, Walk};
+use wire_options::walk::{Fault, Met};
 use wire_reading::{Apc, Verdict};
-use wire_surplus::Start;
 
 // The largest payload less a UDP header.
 pub const ORIGINAL_LIMIT: usize = 65507;
@@ -43,10 +42,17 @@ pub enum RereadRefusal {
     UnsafeOption,
 }
 
-#[derive(Clone, Copy)]
-pub enum RereadOutcome {
-    Refused(RereadRefusal),
-    Accepted(Rereading),
+// The number that a host gets: document 01's.
+impl From<RereadRefusal> for u32 {
+    ghost from_gives = { λ refusal number. number ≡ re_refusal_number refusal };
+
+    fn from(refusal: RereadRefusal) -> u32 {
+        match refusal {
+            RereadRefusal::OriginalTooLong => 2,
+            RereadRefusal::UnsafeOption => 5,
+            RereadRefusal::OptionStartPastEnd => 6,
+        }
+    }
 }
 
 // Reads a reassembled original whose options start at `option_start`, document 01's r.
@@ -54,27 +60,22 @@ pub fn reread(
     original: &[u8],
     option_start: OriginalOffset,
     strictness: Strictness,
-) -> RereadOutcome
+) -> Result<Rereading, RereadRefusal>
     ensures { re_answer_of result ≡ rereading strictness original.now option_start.0 }
 {
     let r = option_start.0;
     if ORIGINAL_LIMIT < original.len() {
-        return RereadOutcome::Refused(RereadRefusal::OriginalTooLong);
+        return Err(RereadRefusal::OriginalTooLong);
     }
     if original.len() < r {
-        return RereadOutcome::Refused(RereadRefusal::OptionStartPastEnd);
+        return Err(RereadRefusal::OptionStartPastEnd);
     }
     if original.len() == r {
-        return optionless(option_start, Verdict::Bare);
+        return Ok(optionless(option_start, Verdict::Bare));
     }
-    let start = wire_surplus::start_of(&original[r..], r % 2 == 1, true);
-    match start {
-        Start::Empty => optionless(option_start, Verdict::Bare),
-        Start::Short => optionless(option_start, Verdict::Short),
-        Start::Pad => optionless(option_start, Verdict::Pad),
-        Start::Unsummed => optionless(option_start, Verdict::Unsummed),
-        Start::BadSum => optionless(option_start, Verdict::BadSum),
-        Start::List(at) => relisted(original, option_start, OriginalOffset(r + at), strictness),
+    match wire_surplus::start_of(&original[r..], r % 2 == 1, true) {
+        Ok(at) => relisted(original, option_start, OriginalOffset(r + at), strictness),
+        Err(unlisted) => Ok(optionless(option_start, Verdict::from(unlisted))),
     }
 }
 
@@ -84,16 +85,14 @@ fn relisted(
     r: OriginalOffset,
     from: OriginalOffset,
     strictness: Strictness,
-) -> RereadOutcome
+) -> Result<Rereading, RereadRefusal>
     requires { (r.0 ≤ from.0) × (from.0 ≤ length original.now) }
     ensures { re_answer_of result ≡ rewalked original.now r.0 from.0 (walk_by strictness option_limit 0 (drop from.0 original.now)) }
 {
-    let at = from.0;
-    let user_end = r.0;
     let base = number_offsets::offset_of(from);
-    let list = walk::walk_list(&original[at..], base, walk::OPTION_LIMIT, strictness);
-    match list {
-        Walk::Listed { count, fill, apcs } => RereadOutcome::Accepted(Rereading {
+    let list = &original[from.0..];
+    match walk::walk_list(list, base, walk::OPTION_LIMIT, strictness) {
+        Ok(list) => Ok(Rereading {
             user: OriginalExtent {
                 from: OriginalOffset(0),
                 to: r,
@@ -103,33 +102,29 @@ fn relisted(
                 from,
                 to: OriginalOffset(original.len()),
             },
-            count,
-            fill,
-            apc: wire_reading::apc_of(original, 0, user_end, apcs),
+            count: list.count,
+            fill: list.fill,
+            apc: wire_reading::apc_of(original, 0, r.0, list.apcs),
         }),
-        Walk::Faulty(fault, met) => faulty(r, fault, met),
+        Err(met) => faulty(r, met),
     }
 }
 
-// A fault that was met at `at`, which counts from the UDP header of the original too.
-fn faulty(r: OriginalOffset, fault: Fault, at: PacketOffset) -> RereadOutcome
-    ensures { re_answer_of result ≡ original_faulty r.0 fault at }
+// A fault of the list. The offset where it was met counts from the UDP header of the original too.
+fn faulty(r: OriginalOffset, met: Met) -> Result<Rereading, RereadRefusal>
+    ensures { re_answer_of result ≡ original_faulty r.0 met.fault met.at }
 {
-    match fault {
-        Fault::Unsafe => RereadOutcome::Refused(RereadRefusal::UnsafeOption),
-        Fault::Malformed => optionless(r, Verdict::Malformed(at)),
-        Fault::FragData => optionless(r, Verdict::FragData(at)),
-        Fault::Crowded => optionless(r, Verdict::Crowded(at)),
-        Fault::Tail => optionless(r, Verdict::Tail(at)),
-        Fault::Padded => optionless(r, Verdict::Padded(at)),
+    match met.fault {
+        Fault::Unsafe => Err(RereadRefusal::UnsafeOption),
+        _ => Ok(optionless(r, Verdict::from(met))),
     }
 }
 
 // A rereading that reports no option.
-fn optionless(r: OriginalOffset, verdict: Verdict) -> RereadOutcome
-    ensures { re_answer_of result ≡ original_optionless r.0 verdict }
+fn optionless(r: OriginalOffset, verdict: Verdict) -> Rereading
+    ensures { rereads result ≡ original_optionless r.0 verdict }
 {
-    RereadOutcome::Accepted(Rereading {
+    Rereading {
         user: OriginalExtent {
             from: OriginalOffset(0),
             to: r,
@@ -142,5 +137,5 @@ fn optionless(r: OriginalOffset, verdict: Verdict) -> RereadOutcome
         count: 0,
         fill: 0,
         apc: Apc::Absent,
-    })
+    }
 }

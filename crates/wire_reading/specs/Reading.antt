@@ -1,5 +1,5 @@
 -- What a reading says (document 01, "Reading one IPv4 payload" and "Walking the list"): by how the surplus area starts, and what the walk of its list comes to.
-use Rattle.std.specs.Prelude.{Bool, true, false, cond, ◌&&◌, List, [], ◌∷◌, ℕ, ◌+◌, ◌-◌, ◌%◌, eqb, length, drop}
+use Rattle.std.specs.Prelude.{Bool, true, false, cond, ◌&&◌, Result, Ok, Err, List, [], ◌∷◌, ℕ, ◌+◌, ◌-◌, ◌%◌, eqb, length, drop}
 use Rattle.number_octets.specs.Octets.{number, part}
 use Rattle.number_offsets.specs.Offsets.{udp_header}
 use Rattle.number_offsets.specs.declared.PacketOffset.{PacketOffset}
@@ -10,14 +10,13 @@ use Rattle.wire_options.specs.Walk.{Item, items_in}
 use Rattle.wire_area.specs.Area.{AreaWalk, plain, piece, fault, area_of}
 use Rattle.wire_options.specs.declared.walk.Fault.{Fault}
 use Rattle.wire_options.specs.declared.walk.Fault.TheVariants.{Malformed as malformed_list, Unsafe as unsafe_list, FragData as frag_data, Crowded as crowded_list, Tail as tailed, Padded as padded_list}
-use Rattle.wire_surplus.specs.declared.Start.{Start}
-use Rattle.wire_surplus.specs.declared.Start.TheVariants.{
+use Rattle.wire_surplus.specs.declared.Unlisted.{Unlisted}
+use Rattle.wire_surplus.specs.declared.Unlisted.TheVariants.{
   Empty,
   Short as short_area,
   Pad as bad_pad,
   Unsummed as no_sum,
   BadSum as bad_sum,
-  List as ListAt,
 }
 use Rattle.wire_reading.specs.declared.Extent.{Extent}
 use Rattle.wire_reading.specs.declared.Apc.{Apc}
@@ -64,6 +63,14 @@ verdict_of crowded_list at = Crowded at
 verdict_of tailed at = Tail at
 verdict_of padded_list at = Padded at
 
+-- an area that has no option list
+abbrev pub unlisted_verdict : Unlisted → Verdict
+unlisted_verdict Empty = Bare
+unlisted_verdict short_area = Short
+unlisted_verdict bad_pad = Pad
+unlisted_verdict no_sum = Unsummed
+unlisted_verdict bad_sum = BadSum
+
 -- the reading after the walk of a list at packet offset `from`
 abbrev pub walked : List ℕ → ℕ → ℕ → AreaWalk → Reading
 walked payload size from (plain list fill) = record {
@@ -81,14 +88,10 @@ walked payload size from (fault f at) = optionless size (verdict_of f at)
 abbrev pub no_data : ℕ → Bool
 no_data size = eqb size udp_header
 
-abbrev pub started : Strictness → List ℕ → ℕ → Start → Reading
-started how payload size Empty = optionless size Bare
-started how payload size short_area = optionless size Short
-started how payload size bad_pad = optionless size Pad
-started how payload size no_sum = optionless size Unsummed
-started how payload size bad_sum = optionless size BadSum
-started how payload size (ListAt at) =
+abbrev pub started : Strictness → List ℕ → ℕ → Result ℕ Unlisted → Reading
+started how payload size (Ok at) =
     walked payload size (size + at) (area_of how (no_data size) (size + at) (drop (size + at) payload))
+started how payload size (Err unlisted) = optionless size (unlisted_verdict unlisted)
 
 -- whether an offset is odd
 abbrev pub is_odd : ℕ → Bool

@@ -1,6 +1,5 @@
 -- What document 01 says of a verdict and of the APCs ("Reading one IPv4 payload"): a number in its order, its word, and the values that it has.
-use Rattle.std.specs.Prelude.{List, [], ◌∷◌, ℕ}
-use Rattle.std.proofs.Math.Option.{Option, none, some}
+use Rattle.std.specs.Prelude.{Option, Some, None, List, [], ◌∷◌, ℕ}
 use Rattle.number_offsets.specs.declared.PacketOffset.{PacketOffset}
 use Rattle.wire_area.specs.declared.Fragment.{Fragment}
 use Rattle.wire_reading.specs.declared.Apc.{Apc}
@@ -78,7 +77,7 @@ pub record Said (Values : Type 0) : Type 0 where
   pub values : Values
 
 abbrev said : ℕ → List ℕ → Said (Option Fragment)
-said number word = record { number = number; word = word; values = none }
+said number word = record { number = number; word = word; values = None }
 
 -- "The verdict is the first of these that applies": numbered in that order from 0, and "tail" and "padded", which came later, behind them all, so
 -- that the other numbers stay. "piece" has a fragment.
@@ -95,23 +94,23 @@ verdict_says (Crowded at) = said 8 crowded_word
 verdict_says (Tail at) = said 11 tail_word
 verdict_says (Padded at) = said 12 padded_word
 verdict_says Read = said 9 read_word
-verdict_says (Piece fragment) = record { number = 10; word = piece_word; values = some fragment }
+verdict_says (Piece fragment) = record { number = 10; word = piece_word; values = Some fragment }
 
 -- "with a fault verdict of the walk, the offset where the fault was met" (document 02, R-7); the others have none
 abbrev pub fault_at : Verdict → Option PacketOffset
-fault_at (Malformed at) = some at
-fault_at (Unsafe at) = some at
-fault_at (FragData at) = some at
-fault_at (Crowded at) = some at
-fault_at (Tail at) = some at
-fault_at (Padded at) = some at
-fault_at Bare = none
-fault_at Short = none
-fault_at Pad = none
-fault_at Unsummed = none
-fault_at BadSum = none
-fault_at Read = none
-fault_at (Piece fragment) = none
+fault_at (Malformed at) = Some at
+fault_at (Unsafe at) = Some at
+fault_at (FragData at) = Some at
+fault_at (Crowded at) = Some at
+fault_at (Tail at) = Some at
+fault_at (Padded at) = Some at
+fault_at Bare = None
+fault_at Short = None
+fault_at Pad = None
+fault_at Unsummed = None
+fault_at BadSum = None
+fault_at Read = None
+fault_at (Piece fragment) = None
 
 -- "APC none, right or wrong"
 abbrev pub apc_says : Apc → Said Unit

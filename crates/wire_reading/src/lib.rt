@@ -6,14 +6,15 @@ ghost use Rattle.number_octets.specs.Octets.{part};
 ghost use Rattle.number_offsets.specs.Offsets.{udp_header};
 ghost use Rattle.wire_area.specs.Area.{area_of};
 ghost use Rattle.wire_surplus.specs.Surplus.{start_of};
-ghost use Rattle.wire_reading.specs.Reading.{payload_limit, is_odd, optionless, verdict_of, walked, no_data, started, is_read};
+ghost use Rattle.wire_reading.specs.Reading.{payload_limit, is_odd, optionless, verdict_of, unlisted_verdict, walked, no_data, started, is_read};
 ghost use Rattle.wire_reading.specs.ByWalk.{apc_by};
+ghost use Rattle.wire_reading.specs.Verdict.{verdict_says, apc_says};
 
 use number_offsets::{PacketOffset, UDP_HEADER};
 use wire_area::{Area, Fragment};
 use wire_nops::Strictness;
-use wire_options::walk::{Apcs, Fault};
-use wire_surplus::Start;
+use wire_options::walk::{Apcs, Fault, Met};
+use wire_surplus::Unlisted;
 
 // Bytes of a packet, counted from its UDP header.
 #[repr(C)]
@@ -29,6 +30,19 @@ pub enum Apc {
     Absent,
     Right,
     Wrong,
+}
+
+// The number that a host gets.
+impl From<Apc> for u32 {
+    ghost from_gives = { λ apc number. number ≡ (apc_says apc).number };
+
+    fn from(apc: Apc) -> u32 {
+        match apc {
+            Apc::Absent => 0,
+            Apc::Right => 1,
+            Apc::Wrong => 2,
+        }
+    }
 }
 
 // The verdict on the surplus area, in document 01's words; `Bare` is its "none". In the order of the numbers that hosts get. A fault of the list
@@ -48,6 +62,60 @@ pub enum Verdict {
     Piece(Fragment),
     Tail(PacketOffset),
     Padded(PacketOffset),
+}
+
+// An area that has no option list.
+impl From<Unlisted> for Verdict {
+    ghost from_gives = { λ unlisted verdict. verdict ≡ unlisted_verdict unlisted };
+
+    fn from(unlisted: Unlisted) -> Verdict {
+        match unlisted {
+            Unlisted::Empty => Verdict::Bare,
+            Unlisted::Short => Verdict::Short,
+            Unlisted::Pad => Verdict::Pad,
+            Unlisted::Unsummed => Verdict::Unsummed,
+            Unlisted::BadSum => Verdict::BadSum,
+        }
+    }
+}
+
+// A fault of the list.
+impl From<Met> for Verdict {
+    ghost from_gives = { λ met verdict. verdict ≡ verdict_of met.fault met.at };
+
+    fn from(met: Met) -> Verdict {
+        match met.fault {
+            Fault::Malformed => Verdict::Malformed(met.at),
+            Fault::Unsafe => Verdict::Unsafe(met.at),
+            Fault::FragData => Verdict::FragData(met.at),
+            Fault::Crowded => Verdict::Crowded(met.at),
+            Fault::Tail => Verdict::Tail(met.at),
+            Fault::Padded => Verdict::Padded(met.at),
+        }
+    }
+}
+
+// The number that a host gets, in document 01's order.
+impl From<Verdict> for u32 {
+    ghost from_gives = { λ verdict number. number ≡ (verdict_says verdict).number };
+
+    fn from(verdict: Verdict) -> u32 {
+        match verdict {
+            Verdict::Bare => 0,
+            Verdict::Short => 1,
+            Verdict::Pad => 2,
+            Verdict::Unsummed => 3,
+            Verdict::BadSum => 4,
+            Verdict::Malformed(_) => 5,
+            Verdict::Unsafe(_) => 6,
+            Verdict::FragData(_) => 7,
+            Verdict::Crowded(_) => 8,
+            Verdict::Read => 9,
+            Verdict::Piece(_) => 10,
+            Verdict::Tail(_) => 11,
+            Verdict::Padded(_) => 12,
+        }
+    }
 }
 
 #[derive(Clone, Copy)]
@@ -70,14 +138,9 @@ pub fn accept(payload: &[u8], size: usize, unused: bool, strictness: Strictness)
     if payload.len() == size {
         return optionless(size, Verdict::Bare);
     }
-    let start = wire_surplus::start_of(&payload[size..], size % 2 == 1, unused);
-    match start {
-        Start::Empty => optionless(size, Verdict::Bare),
-        Start::Short => optionless(size, Verdict::Short),
-        Start::Pad => optionless(size, Verdict::Pad),
-        Start::Unsummed => optionless(size, Verdict::Unsummed),
-        Start::BadSum => optionless(size, Verdict::BadSum),
-        Start::List(at) => listed(payload, size, PacketOffset(size + at), strictness),
+    match wire_surplus::start_of(&payload[size..], size % 2 == 1, unused) {
+        Ok(at) => listed(payload, size, PacketOffset(size + at), strictness),
+        Err(unlisted) => optionless(size, Verdict::from(unlisted)),
     }
 }
 
@@ -86,10 +149,9 @@ fn listed(payload: &[u8], size: usize, from: PacketOffset, strictness: Strictnes
     requires { (udp_header ≤ size) × (size ≤ from.0) × (from.0 ≤ length payload.now) }
     ensures { result ≡ walked payload.now size from.0 (area_of strictness (no_data size) from.0 (drop from.0 payload.now)) }
 {
-    let at = from.0;
-    let list = wire_area::walk_area(&payload[at..], from, size == UDP_HEADER, strictness);
-    match list {
-        Area::Listed { count, fill, apcs } => Reading {
+    let list = &payload[from.0..];
+    match wire_area::walk_area(list, from, size == UDP_HEADER, strictness) {
+        Ok(Area::Listed(list)) => Reading {
             user: Extent {
                 from: PacketOffset(UDP_HEADER),
                 to: PacketOffset(size),
@@ -99,12 +161,12 @@ fn listed(payload: &[u8], size: usize, from: PacketOffset, strictness: Strictnes
                 from,
                 to: PacketOffset(payload.len()),
             },
-            count,
-            fill,
-            apc: apc_of(payload, UDP_HEADER, size, apcs),
+            count: list.count,
+            fill: list.fill,
+            apc: apc_of(payload, UDP_HEADER, size, list.apcs),
         },
-        Area::Piece(fragment) => optionless(size, Verdict::Piece(fragment)),
-        Area::Faulty(fault, at) => optionless(size, verdict_of(fault, at)),
+        Ok(Area::Piece(fragment)) => optionless(size, Verdict::Piece(fragment)),
+        Err(met) => optionless(size, Verdict::from(met)),
     }
 }
 
@@ -125,39 +187,11 @@ pub fn apc_of(bytes: &[u8], from: usize, to: usize, apcs: Apcs) -> Apc
     }
 }
 
-// The verdict of a fault that was met at `at`.
-pub fn verdict_of(fault: Fault, at: PacketOffset) -> Verdict
-    ensures { result ≡ verdict_of fault at }
-{
-    match fault {
-        Fault::Malformed => Verdict::Malformed(at),
-        Fault::Unsafe => Verdict::Unsafe(at),
-        Fault::FragData => Verdict::FragData(at),
-        Fault::Crowded => Verdict::Crowded(at),
-        Fault::Tail => Verdict::Tail(at),
-        Fault::Padded => Verdict::Padded(at),
-    }
-}
-
 // Only a reading with this verdict reports options.
 pub fn is_read(verdict: Verdict) -> bool
     ensures { result ≡ is_read verdict }
 {
-    match verdict {
-        Verdict::Bare => false,
-        Verdict::Short => false,
-        Verdict::Pad => false,
-        Verdict::Unsummed => false,
-        Verdict::BadSum => false,
-        Verdict::Malformed(_) => false,
-        Verdict::Unsafe(_) => false,
-        Verdict::FragData(_) => false,
-        Verdict::Crowded(_) => false,
-        Verdict::Tail(_) => false,
-        Verdict::Padded(_) => false,
-        Verdict::Read => true,
-        Verdict::Piece(_) => false,
-    }
+    matches!(verdict, Verdict::Read)
 }
 
 // A reading that reports no option.
