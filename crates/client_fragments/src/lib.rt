@@ -11,6 +11,7 @@ use client_record::{Assembly, FRAGMENT_LIMIT, Fragment};
 // ---- one fragment, and two
 
 // It is the last one of its original.
+#[tactic(auto, unfolding(client_record::specs::Record::is_last))]
 pub fn is_last(f: Fragment) -> bool
     ensures { result ≡ is_last f }
 {
@@ -18,36 +19,34 @@ pub fn is_last(f: Fragment) -> bool
 }
 
 // The first place behind it.
+#[tactic(auto, unfolding(client_record::specs::Record::end))]
 pub fn end_of(f: Fragment) -> usize
     ensures { result ≡ end f }
 {
-    (f.offset as usize) + (f.length as usize)
+    usize::from(f.offset) + usize::from(f.length)
 }
 
 // `f` ends past the end that `g`, the last one, makes known.
+#[tactic(auto, unfolding(client_record::specs::Record::outruns))]
 fn outruns(f: Fragment, g: Fragment) -> bool
     ensures { result ≡ outruns f g }
 {
-    client_record::both(is_last(g), end_of(g) < end_of(f))
+    is_last(g) && end_of(g) < end_of(f)
 }
 
+#[tactic(auto, unfolding(client_record::specs::Record::overlaps))]
 fn overlaps(f: Fragment, g: Fragment) -> bool
     ensures { result ≡ overlaps f g }
 {
-    let start = f.offset as usize;
-    let other = g.offset as usize;
-    client_record::both(start < end_of(g), other < end_of(f))
+    usize::from(f.offset) < end_of(g) && usize::from(g.offset) < end_of(f)
 }
 
 // The two contradict each other (document 01's clash).
+#[tactic(auto, unfolding(client_record::specs::Record::conflicts, client_record::specs::Record::both_last))]
 pub fn conflicts(f: Fragment, g: Fragment) -> bool
     ensures { result ≡ conflicts f g }
 {
-    let lasts = client_record::both(is_last(f), is_last(g));
-    client_record::either(
-        overlaps(f, g),
-        client_record::either(lasts, client_record::either(outruns(f, g), outruns(g, f))),
-    )
+    overlaps(f, g) || (is_last(f) && is_last(g)) || outruns(f, g) || outruns(g, f)
 }
 
 // ---- the fragments of one assembly
@@ -56,12 +55,7 @@ pub fn conflicts(f: Fragment, g: Fragment) -> bool
 pub fn held_count(a: Assembly) -> usize
     ensures { HeldCount a result }
 {
-    let n = a.count as usize;
-    if n < FRAGMENT_LIMIT {
-        n
-    } else {
-        FRAGMENT_LIMIT
-    }
+    (a.count as usize).min(FRAGMENT_LIMIT)
 }
 
 // One of the held fragments conflicts with `f`.
@@ -69,13 +63,9 @@ pub fn held_count(a: Assembly) -> usize
 pub fn conflicts_any(a: Assembly, f: Fragment) -> bool
     ensures { result ≡ any (λ g. conflicts g f) (held_fragments a) }
 {
-    let n = held_count(a);
     let mut found = false;
-    let mut i = 0;
-    while i < n {
-        let g = a.fragments[i];
-        found = client_record::either(found, conflicts(g, f));
-        i += 1;
+    for i in 0..held_count(a) {
+        found |= conflicts(a.fragments[i], f);
     }
     found
 }
@@ -85,22 +75,13 @@ pub fn conflicts_any(a: Assembly, f: Fragment) -> bool
 pub fn last_of(a: Assembly) -> Fragment
     ensures { result ≡ last_of (held_fragments a) }
 {
-    let n = held_count(a);
-    let mut i = 0;
-    while i < n {
+    for i in 0..held_count(a) {
         let f = a.fragments[i];
         if is_last(f) {
             return f;
         }
-        i += 1;
     }
     client_record::fresh_fragment()
-}
-
-fn length_of(f: Fragment) -> u16
-    ensures { result ≡ f.length }
-{
-    f.length
 }
 
 // The completion test: the last fragment is held, and all before its end. Fragments of which none contradicts another cover it exactly if
@@ -114,18 +95,15 @@ pub fn whole(a: Assembly) -> bool
     let mut total = 0;
     let mut known = false;
     let mut past = 0;
-    let mut i = 0;
-    while i < held {
+    for i in 0..held {
         let f = a.fragments[i];
-        let bytes = length_of(f);
-        total += bytes as usize;
+        total += f.length as usize;
         if is_last(f) {
             known = true;
             past = end_of(f);
         }
-        i += 1;
     }
-    client_record::both(known, total == past)
+    known && total == past
 }
 
 // The bytes of the held fragments.
@@ -133,14 +111,9 @@ pub fn whole(a: Assembly) -> bool
 pub fn bytes_held(a: Assembly) -> u32
     ensures { result ≡ bytes_held a }
 {
-    let n = held_count(a);
     let mut total = 0u32;
-    let mut i = 0;
-    while i < n {
-        let f = a.fragments[i];
-        let bytes = length_of(f);
-        total += bytes as u32;
-        i += 1;
+    for i in 0..held_count(a) {
+        total += u32::from(a.fragments[i].length);
     }
     total
 }

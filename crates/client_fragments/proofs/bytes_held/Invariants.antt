@@ -1,12 +1,9 @@
 use Rattle.client_record.specs.Record.{held_fragments}
 use Rattle.client_record.specs.Lists.{sum}
 use lib.ListN.{take}
-use Prim.Native.Nat.{◌*◌, ◌-◌, ◌≤◌}
+use Prim.Native.Nat.{◌*◌, ◌≤◌}
 use mathlib.Core.Path.{◌≡◌}
 use Rattle.client_fragments.proofs.bytes_held.Given as goal
 
 abbrev pub invariant-loop-i : goal.invariant-loop-i
-invariant-loop-i l = (l.total ≡ sum (λ f. f.length) (take l.i (held_fragments l.a))) × (l.i ≤ l.n) × (l.total ≤ l.i * 65536)
-
-abbrev pub decreases-loop-i : goal.decreases-loop-i
-decreases-loop-i l = l.n - l.i
+invariant-loop-i l = (l.total ≡ sum (λ f. f.length) (take l.i (held_fragments l.a))) × (l.total ≤ l.i * 65536)

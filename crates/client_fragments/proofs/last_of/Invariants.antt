@@ -1,11 +1,7 @@
 use Rattle.client_record.specs.Record.{held_fragments, last_of}
 use lib.ListN.{drop}
-use Prim.Native.Nat.{◌-◌, ◌≤◌}
 use mathlib.Core.Path.{◌≡◌}
 use Rattle.client_fragments.proofs.last_of.Given as goal
 
 abbrev pub invariant-loop-i : goal.invariant-loop-i
-invariant-loop-i l = (last_of (drop l.i (held_fragments l.a)) ≡ last_of (held_fragments l.a)) × (l.i ≤ l.n)
-
-abbrev pub decreases-loop-i : goal.decreases-loop-i
-decreases-loop-i l = l.n - l.i
+invariant-loop-i l = last_of (drop l.i (held_fragments l.a)) ≡ last_of (held_fragments l.a)

@@ -2,7 +2,7 @@
 -- of them is the last one, which `past` is the end of (`Passed`). Of all of them the sum decides (`by-sum`).
 use Prim.Native.Nat.{ℕ, ◌+◌, ◌<◌}
 use mathlib.Core.Bool.{Bool, true, false, ◌&&◌, ◌||◌, or-true, or-false}
-use Rattle.client_fragments.proofs.whole.Goals.{then-is_last, else-is_last}
+use Rattle.client_fragments.proofs.whole.Goals.{After-loop-i, then-is_last, else-is_last}
 use mathlib.Core.Path.{◌≡◌, refl, sym, ap, ap₂, subst, ◌∙◌}
 use mathlib.Core.List.{List}
 use native.Mathlib.Omega.{arith}
@@ -12,6 +12,7 @@ use lib.ListN.{length, take, get_or}
 use lib.Seq.{take-length}
 use Rattle.client_record.specs.declared.Fragment.{Fragment}
 use Rattle.client_record.specs.Lists.{any, sum}
+use Rattle.client_record.specs.Limits.{fragment_limit}
 use Rattle.client_record.specs.Record.{is_last, end, compatible, last_of, whole, held_fragments}
 use Rattle.client_record.proofs.Completion.{only-last, by-sum}
 use Rattle.client_record.proofs.Held.{none, held_at}
@@ -56,13 +57,17 @@ passed-all fs total known past apart p = go known (p.marked ∙ ap (any is_last)
 
 pub loop-i-init : goal.loop-i-init
 unfolding sum any
-loop-i-init c = (record { sum_is = refl; marked = refl; ends = λ k. absurd (let z : ◌≡◌ {A = ℕ} 0 1 = cc in omega arith) }, search rules, search rules)
+loop-i-init c = (record { sum_is = refl; marked = refl; ends = λ k. absurd (let z : ◌≡◌ {A = ℕ} 0 1 = cc in omega arith) }, search rules)
+
+pub overflow_add-total : goal.overflow_add-total
+unfolding fragment_limit
+overflow_add-total c = omega (arith, c.held_count-held.ensures.within)
 
 pub loop-i-preserved : goal.loop-i-preserved
 loop-i-preserved c = let a = c.args.a in
     let h : c.loop-i.i < length (held_fragments a) = omega (arith, c.held_count-held.ensures.count) in
     let same = held_at a c.loop-i.i _ h in
-    let size = c.length_of-bytes.ensures ∙ ap (λ (f : Fragment). f.length) same in
+    let size = ap (λ (f : Fragment). f.length) same in
     let mark = ap is_last (sym same) ∙ sym c.is_last.ensures in (
       elim c.if-is_last.branch [
         | then-is_last w ↦
@@ -71,12 +76,20 @@ loop-i-preserved c = let a = c.args.a in
         | else-is_last w ↦ passed-other _ _ _ _ _ c.loop-i.invariant.0 h _ size (mark ∙ w.if-is_last.false) _ _ w.known-is w.past-is
       ],
       omega arith,
-      omega arith,
     )
 
-pub returns : goal.returns
-returns c = let a = c.args.a in
+-- the loop is through
+passed-through : (c : After-loop-i) → c.loop-i.known && eqb c.loop-i.total c.loop-i.past ≡ whole (held_fragments c.args.a)
+passed-through c = let a = c.args.a in
     let e : c.loop-i.i ≡ length (held_fragments a) = omega (arith, c.held_count-held.ensures.count) in
-    c.both.ensures
-    ∙ passed-all (held_fragments a) _ _ _ c.requires
+    passed-all (held_fragments a) _ _ _ c.requires
     (subst (λ (k : ℕ). Passed (held_fragments a) k c.loop-i.total c.loop-i.known c.loop-i.past) e c.loop-i.invariant.0)
+
+pub returns-then-known : goal.returns-then-known
+returns-then-known c =
+    ap (λ (b : Bool). b && eqb c.loop-i.total c.loop-i.past) (sym c.if-known.true) ∙ passed-through (goal.at.returns-then-known c).After-loop-i
+
+pub returns-else-known : goal.returns-else-known
+returns-else-known c =
+    c.if-known.false ∙ ap (λ (b : Bool). b && eqb c.loop-i.total c.loop-i.past) (sym c.if-known.false)
+    ∙ passed-through (goal.at.returns-else-known c).After-loop-i

@@ -1,4 +1,4 @@
-use Prim.Native.Nat.{ℕ, ◌*◌, ◌-◌, ◌≤◌}
+use Prim.Native.Nat.{ℕ, ◌*◌, ◌≤◌}
 use mathlib.Core.Bool.{Bool, true}
 use mathlib.Core.Path.{◌≡◌}
 use mathlib.Core.List.{List}
@@ -14,7 +14,4 @@ pub record Passed (fs : List Fragment) (i total : ℕ) (known : Bool) (past : �
   pub ends : known ≡ true → past ≡ end (last_of fs)
 
 abbrev pub invariant-loop-i : goal.invariant-loop-i
-invariant-loop-i l = Passed (held_fragments l.a) l.i l.total l.known l.past × (l.i ≤ l.held) × (l.total ≤ l.i * 65536)
-
-abbrev pub decreases-loop-i : goal.decreases-loop-i
-decreases-loop-i l = l.held - l.i
+invariant-loop-i l = Passed (held_fragments l.a) l.i l.total l.known l.past × (l.total ≤ l.i * 65536)
