@@ -202,24 +202,25 @@ pub check-end : (s : List ℕ) (at : ℕ) → length s ≤ at → checked 0 (dro
 unfolding read_options wire_size
 check-end s at h = ap (checked 0) (drop_of_length-le s h)
 
--- ---- a turn of the loop: `left` of `count` options are still to come from `at` on
+-- ---- a turn of the loop: `done` of `count` options were passed, and the next one stands at `at`
 
-pub turn_on : {a : Answer Totals} {s : List ℕ} {at next : ℕ} (count left size more : ℕ) → a ≡ passed (count - left) size (checked left (drop at s))
-    → 0 < left → left ≤ count → SizedOption s at more next → a ≡ passed (count - (left - 1)) (size + more) (checked (left - 1) (drop next s))
-turn_on count zero size more e h g o = absurd (omega arith)
-turn_on {a} {s} {at} {next} count (suc left) size more e h g o =
-    let rest : Answer Totals = checked left (drop next s) in
-    let n : count - suc left + 1 ≡ count - (suc left - 1) = omega arith in
-    let less : left ≡ suc left - 1 = omega arith in
-    e ∙ ap (passed (count - suc left) size) (check-one left (drop at s) o.item (drop next s) o.there.reads)
-    ∙ passed-passed (count - suc left) size 1 (option_size o.item) rest
-    ∙ ap₂ (λ (x y : ℕ). passed x y rest) n (ap (λ (k : ℕ). size + k) (sym o.sized))
-    ∙ ap (λ (k : ℕ). passed (count - (suc left - 1)) (size + more) (checked k (drop next s))) less
+one-more : (count done : ℕ) → done < count → count - done ≡ suc (count - (done + 1))
+one-more count done h = omega arith
 
-pub turn-refused : {a : Answer Totals} (s : List ℕ) (at count left size n : ℕ) → a ≡ passed (count - left) size (checked left (drop at s))
-    → 0 < left → read_option (drop at s) ≡ failed n → a ≡ refused n
-turn-refused s at count zero size n e h r = absurd (omega arith)
-turn-refused s at count (suc left) size n e h r = e ∙ ap (passed (count - suc left) size) (check-refused left (drop at s) n r)
+pub turn_on : {a : Answer Totals} {s : List ℕ} {at next : ℕ} (count done size more : ℕ) → a ≡ passed done size (checked (count - done) (drop at s))
+    → done < count → SizedOption s at more next → a ≡ passed (done + 1) (size + more) (checked (count - (done + 1)) (drop next s))
+turn_on {a} {s} {at} {next} count done size more e h o =
+    let left : ℕ = count - (done + 1) in
+    e ∙ ap (λ (k : ℕ). passed done size (checked k (drop at s))) (one-more count done h)
+    ∙ ap (passed done size) (check-one left (drop at s) o.item (drop next s) o.there.reads)
+    ∙ passed-passed done size 1 (option_size o.item) (checked left (drop next s))
+    ∙ ap (λ (k : ℕ). passed (done + 1) (size + k) (checked left (drop next s))) (sym o.sized)
+
+pub turn-refused : {a : Answer Totals} (s : List ℕ) (at count done size n : ℕ) → a ≡ passed done size (checked (count - done) (drop at s))
+    → done < count → read_option (drop at s) ≡ failed n → a ≡ refused n
+turn-refused s at count done size n e h r =
+    e ∙ ap (λ (k : ℕ). passed done size (checked k (drop at s))) (one-more count done h)
+    ∙ ap (passed done size) (check-refused (count - (done + 1)) (drop at s) n r)
 
 -- ---- the count in front
 

@@ -4,8 +4,5 @@ use lib.ListN.{drop}
 use Rattle.list_encoding.proofs.Checks.{checked, passed}
 use Rattle.list_encoding.proofs.check.check_options.Given as goal
 
-abbrev pub invariant-loop-left : goal.invariant-loop-left
-invariant-loop-left l = (l.left ≤ l.count) × (l.size ≤ 65535 * (l.count - l.left)) × (checked l.count (drop l.start l.list) ≡ passed (l.count - l.left) l.size (checked l.left (drop l.at l.list)))
-
-abbrev pub decreases-loop-left : goal.decreases-loop-left
-decreases-loop-left l = l.left
+abbrev pub invariant-loop : goal.invariant-loop
+invariant-loop l = (l.size ≤ 65535 * l.counter) × (checked l.count (drop l.start l.list) ≡ passed l.counter l.size (checked (l.count - l.counter) (drop l.at l.list)))
