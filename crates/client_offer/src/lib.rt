@@ -18,33 +18,29 @@ use number_offsets::OriginalOffset;
 fn check(client: Client, out_length: usize, o: Arrival, n: usize) -> Result<(), Refusal>
     ensures { checked_number result ≡ first_of (offer_tests client out_length o n) }
 {
-    if client_record_test::sound(client) {
-        let offset = o.offset.0;
-        let options = o.option_start.0;
-        if out_length < client_record::DATAGRAM_LIMIT {
-            return Err(Refusal::OutTooShort);
-        }
-        if n == 0 {
-            return Err(Refusal::EmptyFragment);
-        }
-        if client_record::DATAGRAM_LIMIT < offset {
-            return Err(Refusal::EndPastLimit);
-        }
-        if client_record::DATAGRAM_LIMIT - offset < n {
-            return Err(Refusal::EndPastLimit);
-        }
-        if o.last && offset + n < options {
-            return Err(Refusal::OptionStartPastEnd);
-        }
-        if o.time < client.time {
-            return Err(Refusal::TimeBeforeLast);
-        }
-        if client_record::OFFERED_LIMIT - client.offered < n as u64 {
-            return Err(Refusal::OfferedPastLimit);
-        }
-        return Ok(());
+    let offset = o.offset.0;
+    if !client_record_test::sound(client) {
+        return Err(Refusal::UnsoundRecord);
     }
-    Err(Refusal::UnsoundRecord)
+    if out_length < client_record::DATAGRAM_LIMIT {
+        return Err(Refusal::OutTooShort);
+    }
+    if n == 0 {
+        return Err(Refusal::EmptyFragment);
+    }
+    if client_record::DATAGRAM_LIMIT < offset || client_record::DATAGRAM_LIMIT - offset < n {
+        return Err(Refusal::EndPastLimit);
+    }
+    if o.last && offset + n < o.option_start.0 {
+        return Err(Refusal::OptionStartPastEnd);
+    }
+    if o.time < client.time {
+        return Err(Refusal::TimeBeforeLast);
+    }
+    if client_record::OFFERED_LIMIT - client.offered < n as u64 {
+        return Err(Refusal::OfferedPastLimit);
+    }
+    Ok(())
 }
 
 // The offer as a fragment of `n` bytes to be held. The option start is 0 unless it is the last one.
@@ -162,15 +158,12 @@ pub fn offer(client: Client, share: &mut [u8], out: &mut [u8], o: Arrival, bytes
     requires { Share client share.old }
     ensures { Left (fragment_on client share.old out.old o bytes.now) result share.new out.new }
 {
-    let checked = check(client, out.len(), o, bytes.len());
-    match checked {
-        Err(refusal) => Step {
+    if let Err(refusal) = check(client, out.len(), o, bytes.len()) {
+        return Step {
             client,
             answer: Err(refusal),
-        },
-        Ok(_) => {
-            let c = client_reassembly::elapsed(client, o.time);
-            take(c, share, out, o, bytes)
-        }
+        };
     }
+    let c = client_reassembly::elapsed(client, o.time);
+    take(c, share, out, o, bytes)
 }

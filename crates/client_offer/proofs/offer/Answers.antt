@@ -27,17 +27,24 @@ own-elapsed : (t : ℕ) (c : Client) (share : List ℕ) → Share c share → Sh
 unfolding elapse
 own-elapsed t c share own = record { plan = own.plan; size = own.size }
 
+pub returns-in-Err : goal.returns-in-Err
+unfolding fragment_on outcome
+returns-in-Err c =
+    let x = c.args in
+    left-of (ap (outcome x.client x.share.now x.out.now x.o x.bytes.now) (sym c.in-Err.ensures))
+    (record { client = refl; reply = refl; share_left = refl; out_left = refl })
+
 pub elapsed-c-requires : goal.elapsed-c-requires
 elapsed-c-requires c =
     let x = c.args in
-    (passes x.client (length x.out.now) x.o (length x.bytes.now) (sym c.check-checked.ensures ∙ ap checked_number c.in-Passed.is)).sound
+    (passes x.client (length x.out.now) x.o (length x.bytes.now) (sym c.in_default.ensures)).sound
 
 pub take-requires : goal.take-requires
 unfolding within_plan
 take-requires c =
     let x = c.args in
     let k : Passes x.client (length x.out.now) x.o (length x.bytes.now) =
-    passes x.client (length x.out.now) x.o (length x.bytes.now) (sym c.check-checked.ensures ∙ ap checked_number c.in-Passed.is) in
+    passes x.client (length x.out.now) x.o (length x.bytes.now) (sym c.in_default.ensures) in
     subst (λ (d : Client). Taking d x.share.now x.out.now x.o x.bytes.now) (sym c.elapsed-c.ensures)
     (record {
       sized = k.sized;
@@ -49,18 +56,11 @@ take-requires c =
       out_size = k.out;
     })
 
-pub returns-in-Refused : goal.returns-in-Refused
+pub returns : goal.returns
 unfolding fragment_on outcome
-returns-in-Refused c =
-    let x = c.args in
-    left-of (ap (outcome x.client x.share.now x.out.now x.o x.bytes.now) (sym c.check-checked.ensures ∙ ap checked_number c.in-Refused.is))
-    (record { client = refl; reply = refl; share_left = refl; out_left = refl })
-
-pub returns-in-Passed : goal.returns-in-Passed
-unfolding fragment_on outcome
-returns-in-Passed c =
+returns c =
     let x = c.args in
     left-of
-    (ap (outcome x.client x.share.now x.out.now x.o x.bytes.now) (sym c.check-checked.ensures ∙ ap checked_number c.in-Passed.is)
+    (ap (outcome x.client x.share.now x.out.now x.o x.bytes.now) (sym c.in_default.ensures)
     ∙ ap (λ (d : Client). taken d x.share.now x.out.now x.o x.bytes.now) (sym c.elapsed-c.ensures))
     c.take.ensures
