@@ -12,10 +12,9 @@ use lib.ListN.{length, get_or}
 use Rattle.number_octets.specs.Octets.{Octets, number, part}
 use Rattle.number_octets.proofs.Laws.{number_lt, length_part, part_bytes}
 use Rattle.wire_step.specs.Kinds.{class_of, frag}
-use Rattle.wire_step.specs.Step.{header_of, step_in, step_of}
+use Rattle.wire_step.specs.Step.{header_of, sound, step_in, step_of}
 use Rattle.wire_step.specs.declared.Class.{Class}
 use Rattle.wire_step.specs.declared.Class.TheVariants.{EndOfList, NoOperation, Fixed, Varying, Unsafe}
-use Rattle.wire_step.specs.declared.Header.TheVariants.{Sound}
 use Rattle.wire_step.specs.declared.Step.TheVariants.{Found}
 use Rattle.wire_step.proofs.Steps.{header-sound, step-found}
 use Rattle.list_entry.specs.Shape.{Shape, fields, raw, barred, shape_of}
@@ -51,7 +50,7 @@ class_cases kind P eol nop apc frag' mds mrds req res time body out =
 
 -- ---- the longest body: a length byte below 255, or two bytes behind a header of four
 
-header-most : (l : List ℕ) (h s : ℕ) → Octets l → header_of l ≡ Sound h s → s - h ≤ longest_body
+header-most : (l : List ℕ) (h s : ℕ) → Octets l → header_of l ≡ sound h s → s - h ≤ longest_body
 header-most l h s b e =
     let z = header-sound l h s e in
     ⊎_elim

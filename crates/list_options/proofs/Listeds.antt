@@ -7,17 +7,16 @@ use native.Mathlib.Nat.{zero-add}
 use native.Mathlib.Omega.{arith}
 use borrow.Author.Tests.{le-leb, lt-leb}
 use lib.ListN.{length, drop}
+use Rattle.std.proofs.Common.{Result, Ok, Err}
 use Rattle.number_octets.specs.Octets.{Octets, overlay}
 use Rattle.number_varint.specs.SevenBit.{encoded}
-use Rattle.number_offsets.specs.declared.PacketOffset.{PacketOffset}
+use Rattle.number_varint.specs.declared.Full.{Full}
 use Rattle.wire_options.specs.Walk.{Walked, listed, faulty, walk_answer, walk_from, option_limit, items_of}
-use Rattle.wire_options.specs.declared.walk.Apcs.{Apcs}
-use Rattle.wire_options.specs.declared.walk.Fault.{Fault}
-use Rattle.wire_options.specs.declared.walk.Walk.TheVariants.{Listed, Faulty}
+use Rattle.wire_options.specs.declared.walk.Listed.{Listed}
+use Rattle.wire_options.specs.declared.walk.Met.{Met}
 use Rattle.list_encoding.specs.Encoding.{given, encoded_options, encoded_list, decoded_list}
 use Rattle.list_options.specs.Listing.{unworked_all, fill_of, Sound, listing, room_for, ListedInto}
-use Rattle.list_options.specs.declared.Listed.{Listed as Answered}
-use Rattle.list_options.specs.declared.Listed.TheVariants.{Written, Full}
+use Rattle.list_options.specs.declared.Listing.{Listing}
 use Rattle.list_encoding.proofs.Laws.{decode-encode}
 use Rattle.list_options.proofs.Listings.{length-unworked, length-items, walk-valid}
 
@@ -26,12 +25,12 @@ unfolding listing encoded_list
 listing-code walk =
     ap (λ (n : ℕ). encoded n ++ encoded_options (unworked_all (items_of walk))) (length-unworked (items_of walk))
 
-pub listed-full : (walk : Walked) (buffer : List ℕ) → length buffer < length (listing walk) → ListedInto walk buffer Full buffer
+pub listed-full : (walk : Walked) (buffer : List ℕ) (full : Full) → length buffer < length (listing walk) → ListedInto walk buffer (Err full) buffer
 unfolding room_for
-listed-full walk buffer h = record { answered = rw (lt-leb _ _ h); written = rw (lt-leb _ _ h) }
+listed-full walk buffer full h = record { answered = rw (lt-leb _ _ h); written = rw (lt-leb _ _ h) }
 
 pub listed-written : (walk : Walked) (buffer : List ℕ) (size fill : ℕ) (left : List ℕ) → length (listing walk) ≤ length buffer → size ≡ length (listing walk)
-    → fill ≡ fill_of walk → left ≡ overlay buffer 0 (listing walk) → ListedInto walk buffer (Written size fill) left
+    → fill ≡ fill_of walk → left ≡ overlay buffer 0 (listing walk) → ListedInto walk buffer (Ok (record { size = size; fill = fill })) left
 unfolding room_for
 listed-written walk buffer size fill left h s f l =
     record {
@@ -42,21 +41,21 @@ listed-written walk buffer size fill left h s f l =
 
 -- ---- what `walk_list` tells
 
-pub answer-sound : (end : ℕ) (walk : Walked) (count fill : ℕ) (apcs : Apcs) → walk_answer end walk ≡ Listed count fill apcs
-    → Sound walk × (count ≡ length (items_of walk)) × (fill ≡ fill_of walk)
-answer-sound end (faulty f n) count fill apcs e = absurd (let z : ◌≡◌ {A = ℕ} 0 1 = cc in omega arith)
-answer-sound end (listed options n) count fill apcs e =
-    let many : length options ≡ count = cc in
-    let same : n ≡ fill = cc in
+pub answer-sound : (end : ℕ) (walk : Walked) (told : Listed) → walk_answer end walk ≡ Ok told
+    → Sound walk × (told.count ≡ length (items_of walk)) × (told.fill ≡ fill_of walk)
+answer-sound end (faulty f n) told e = absurd (let z : ◌≡◌ {A = ℕ} 0 1 = cc in omega arith)
+answer-sound end (listed options n) told e =
+    let many : length options ≡ told.count = cc in
+    let same : n ≡ told.fill = cc in
     (tt, sym many ∙ sym (length-items options), sym same)
 
 -- the listing of a faulty walk is that of no option
-pub answer-faulty : (end : ℕ) (walk : Walked) (fault : Fault) (at : PacketOffset) (buffer : List ℕ) (answer : Answered) (left : List ℕ)
-    → walk_answer end walk ≡ Faulty fault at
+pub answer-faulty : (end : ℕ) (walk : Walked) (met : Met) (buffer : List ℕ) (answer : Result Listing Full) (left : List ℕ)
+    → walk_answer end walk ≡ Err met
     → ListedInto (listed [] 0) buffer answer left → ListedInto walk buffer answer left
 unfolding listing room_for
-answer-faulty end (listed options n) fault at buffer answer left e r = absurd (let z : ◌≡◌ {A = ℕ} 0 1 = cc in omega arith)
-answer-faulty end (faulty f n) fault at buffer answer left e r = record { answered = r.answered; written = r.written }
+answer-faulty end (listed options n) met buffer answer left e r = absurd (let z : ◌≡◌ {A = ℕ} 0 1 = cc in omega arith)
+answer-faulty end (faulty f n) met buffer answer left e r = record { answered = r.answered; written = r.written }
 
 -- ---- what was listed can be read
 

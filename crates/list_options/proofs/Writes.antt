@@ -8,11 +8,12 @@ use native.Mathlib.Omega.{arith}
 use native.Mathlib.Nat.{add-zero}
 use borrow.Author.Tests.{le-leb}
 use lib.ListN.{length, take, drop, length-append, take-append-drop}
+use Rattle.std.proofs.Common.{Result}
 use Rattle.number_octets.specs.Octets.{overlay}
 use Rattle.number_octets.proofs.Laws.{length-overlay, overlay-append}
 use Rattle.number_varint.specs.SevenBit.{encoded}
 use Rattle.number_varint.specs.Answer.{given, refused, too_small, encoded_answer, end_of, fits, placed, EncodedAt}
-use Rattle.number_varint.specs.declared.Encoded.{Encoded}
+use Rattle.number_varint.specs.declared.Full.{Full}
 use Rattle.list_options.specs.Listing.{WrittenAt}
 
 pub overlay-none : (buffer : List ℕ) (at : ℕ) → overlay buffer at [] ≡ buffer
@@ -35,7 +36,7 @@ written_both {a} {b} {buffer} {at} w v h =
     }
 
 -- a number that fits
-pub written-number : {value : ℕ} {buffer : List ℕ} {at : ℕ} {answer : Encoded} {left : List ℕ} → EncodedAt value buffer at answer left
+pub written-number : {value : ℕ} {buffer : List ℕ} {at : ℕ} {answer : Result ℕ Full} {left : List ℕ} → EncodedAt value buffer at answer left
     → at + length (encoded value) ≤ length buffer → (encoded_answer answer ≡ given (at + length (encoded value))) × (left ≡ overlay buffer at (encoded value))
 unfolding fits end_of placed
 written-number {value} {buffer} {at} {answer} {left} e h =

@@ -39,7 +39,7 @@ overflow_add-size c = omega (
 )
 
 pub returns-then-buffer-size : goal.returns-then-buffer-size
-returns-then-buffer-size c = listed-full _ _
+returns-then-buffer-size c = listed-full _ _ _
     (omega (arith, c.if-buffer-size.true, sizes c.args.options.now c.requires.1 c.encoded_length.ensures c.options_size.ensures))
 
 pub returns : goal.returns
