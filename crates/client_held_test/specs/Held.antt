@@ -1,5 +1,5 @@
 -- What a pass over the held fragments of an assembly finds, and what the functions over them promise.
-use Rattle.std.specs.Prelude.{ℕ, ◌^◌, ◌<◌, ◌≤◌, ◌≡◌, Bool, true, false, not, ◌&&◌, cond, List, [], ◌∷◌, eqb, leb}
+use Rattle.std.specs.Prelude.{ℕ, ◌^◌, ◌<◌, ◌≤◌, ◌≡◌, Bool, true, not, ◌&&◌, cond, List, [], ◌∷◌, eqb, leb}
 use Rattle.client_record.specs.declared.Fragment.{Fragment}
 use Rattle.client_record.specs.declared.Assembly.{Assembly}
 use Rattle.client_record.specs.Limits.{datagram_limit}
@@ -8,7 +8,6 @@ use Rattle.client_record.specs.Post.{HeldCount}
 use Rattle.client_record.specs.Record.{is_last, end, non_empty, held_fragments}
 use Rattle.client_held_test.specs.declared.Pass.{Pass}
 use Rattle.client_held_test.specs.declared.LastOnes.{LastOnes}
-use Rattle.client_held_test.specs.declared.Tested.{Tested}
 
 -- r is its end, a number of 17 bits
 pub record PastOf (f : Fragment) (r : ℕ) : Type 0 where
@@ -68,11 +67,3 @@ pub record Placing (a : Assembly) (n most : ℕ) : Type 0 where
   pub held : HeldCount a n
   pub each : all non_empty (held_fragments a) ≡ true
   pub within : most ≤ datagram_limit
-
--- whether the test passes, and then the bytes
-pub record Tests (passes : Bool) (bytes : ℕ) (r : Tested) : Type 0 where
-  pub sound : r.sound ≡ passes
-  pub held : r.sound ≡ true → r.bytes ≡ bytes
-
-pub record Refused (r : Tested) : Type 0 where
-  pub sound : r.sound ≡ false

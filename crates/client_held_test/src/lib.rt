@@ -5,22 +5,16 @@
 #![tactic(auto)]
 
 ghost use Rattle.std.specs.Prelude.{◌≡◌, not, ◌&&◌, cond, leb};
+ghost use Rattle.std.specs.Bool.{then_some};
 ghost use Rattle.client_record.specs.Lists.{all, pairs};
 ghost use Rattle.client_record.specs.Post.{HeldCount};
 ghost use Rattle.client_record.specs.Record.{sound_fragment, end, overlaps, compatible, whole, held_fragments, bytes_held};
-ghost use Rattle.client_held_test.specs.Held.{PastOf, Passed, Marked, Marking, most_of, Placing, Refused, Tests};
+ghost use Rattle.client_held_test.specs.Held.{PastOf, Passed, Marked, Marking, most_of, Placing};
 
 use client_record::{Assembly, Fragment};
 
 // The words that have a bit for each place of an original.
 const WORDS: usize = (client_record::DATAGRAM_LIMIT + number_sets::WORD - 1) / number_sets::WORD;
-
-// Whether the record test passes, and then the bytes that are held.
-#[derive(Clone, Copy)]
-pub struct Tested {
-    pub sound: bool,
-    pub bytes: u32,
-}
 
 // The longest original, in the width of the pass.
 const LIMIT: u32 = client_record::DATAGRAM_LIMIT as u32;
@@ -59,25 +53,23 @@ fn sweep(a: Assembly, n: usize) -> Pass
     let mut marks = 0u32;
     let mut behind = 0u32;
     let mut total = 0u32;
-    let mut i = 0;
-    while i < n {
+    for i in 0..n {
         let f = a.fragments[i];
         let start = f.offset as u32;
         let length = f.length as u32;
         let mark = f.last as u32;
-        empty = client_record::either(empty, length == 0);
-        falls = client_record::either(falls, start < behind);
-        marks = marks | mark;
+        empty |= length == 0;
+        falls |= start < behind;
+        marks |= mark;
         behind = past_of(f);
         total += length;
-        i += 1;
     }
     Pass {
-        empty: empty,
-        falls: falls,
-        marks: marks,
-        behind: behind,
-        total: total,
+        empty,
+        falls,
+        marks,
+        behind,
+        total,
     }
 }
 
@@ -96,20 +88,18 @@ fn last_ones(a: Assembly, n: usize) -> LastOnes
     let mut count = 0u32;
     let mut past = 0u32;
     let mut options = 0u32;
-    let mut i = 0;
-    while i < n {
+    for i in 0..n {
         let f = a.fragments[i];
         let last = client_fragments::is_last(f);
         let start = f.option_start as u32;
         count += chosen(last, 1, 0);
         past += chosen(last, past_of(f), 0);
         options += chosen(last, start, 0);
-        i += 1;
     }
     LastOnes {
-        count: count,
-        past: past,
-        options: options,
+        count,
+        past,
+        options,
     }
 }
 
@@ -145,8 +135,7 @@ fn apart(a: Assembly, held: usize, most: u32) -> bool
     ensures { result ≡ all (λ f. leb (end f) most) (held_fragments a) && pairs (λ f g. not (overlaps f g)) (held_fragments a) }
 {
     let mut places = [0u64; WORDS];
-    let mut k = 0;
-    while k < held {
+    for k in 0..held {
         let f = a.fragments[k];
         if most < past_of(f) {
             return false;
@@ -155,40 +144,24 @@ fn apart(a: Assembly, held: usize, most: u32) -> bool
         if !number_sets::include(&mut places, start, client_fragments::end_of(f)) {
             return false;
         }
-        k += 1;
     }
     true
 }
 
-// They don't pass.
-pub fn refused() -> Tested
-    ensures { Refused result }
-{
-    Tested {
-        sound: false,
-        bytes: 0,
-    }
-}
-
-// What the record test asks of the `n` held fragments.
-pub fn held_tested(a: Assembly, n: usize) -> Tested
+// What the record test asks of the `n` held fragments: the bytes of them, where they pass.
+pub fn held_tested(a: Assembly, n: usize) -> Option<u32>
     requires { HeldCount a n }
-    ensures { Tests (all sound_fragment (held_fragments a) && (compatible (held_fragments a) && not (whole (held_fragments a)))) (bytes_held a) result }
+    ensures { result ≡ then_some (all sound_fragment (held_fragments a) && (compatible (held_fragments a) && not (whole (held_fragments a)))) (bytes_held a) }
 {
     let s = sweep(a, n);
-    let bytes = s.total;
     if s.empty {
-        return refused();
+        return None;
     }
-    let most = most_end(a, n, s.marks, bytes);
-    if s.falls {
-        return Tested {
-            sound: apart(a, n, most),
-            bytes: bytes,
-        };
-    }
-    Tested {
-        sound: s.behind <= most,
-        bytes: bytes,
-    }
+    let most = most_end(a, n, s.marks, s.total);
+    let sound = if s.falls {
+        apart(a, n, most)
+    } else {
+        s.behind <= most
+    };
+    sound.then_some(s.total)
 }

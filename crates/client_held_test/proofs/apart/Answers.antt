@@ -4,7 +4,6 @@ use Prim.Native.Nat.{ℕ, ◌+◌, ◌/◌, ◌<◌}
 use mathlib.Core.Bool.{Bool, false, ◌&&◌, and-false}
 use mathlib.Core.Path.{◌≡◌, refl, sym, ap, ap₂, ◌∙◌}
 use native.Mathlib.Omega.{arith}
-use borrow.Author.Rules.{rules}
 use borrow.Author.Tests.{le-leb, lt-leb}
 use lib.Dec.{leb}
 use lib.ListN.{length, take, get_or}
@@ -32,7 +31,7 @@ past-fails a i most h l =
 
 pub loop-k-init : goal.loop-k-init
 unfolding all pairs any datagram_limit
-loop-k-init c = (refl, refl, λ j. blank ((datagram_limit + 63) / 64) j, search rules, refl)
+loop-k-init c = (refl, refl, λ j. blank ((datagram_limit + 63) / 64) j, refl)
 
 pub offset_bounds-a-k : goal.offset_bounds-a-k
 unfolding fragment_limit
@@ -56,7 +55,7 @@ include-requires c = let a = c.args.a in
     let full = all-at non_empty (held_fragments a) c.loop-k.k none h c.requires.each in
     let past = c.past_of.ensures.value ∙ ap end same in
     rw (c.end_of.ensures, same)
-    (record { some = full-some _ full; room = omega (arith, past, c.if-most-past_of.false, c.requires.within, c.loop-k.invariant.4) })
+    (record { some = full-some _ full; room = omega (arith, past, c.if-most-past_of.false, c.requires.within, c.loop-k.invariant.3) })
 
 pub returns-then-not-include : goal.returns-then-not-include
 returns-then-not-include c = let a = c.args.a in
@@ -79,8 +78,7 @@ loop-k-preserved c = let a = c.args.a in
           ∙ ap₂ ◌&&◌ c.loop-k.invariant.0 (le-leb (end (get_or (held_fragments a) c.loop-k.k none)) c.args.most (omega (arith, past, c.if-most-past_of.false))),
       apart_more (held_fragments a) c.loop-k.k none h _ c.loop-k.invariant.2 full each c.loop-k.invariant.1 (inc.clear c.if-not-include.false),
       marks-more (held_fragments a) c.loop-k.k none h _ c.loop-k.invariant.2 _ inc.joined,
-      omega arith,
-      inc.size ∙ c.loop-k.invariant.4,
+      inc.size ∙ c.loop-k.invariant.3,
     )
 
 pub returns : goal.returns

@@ -1,4 +1,4 @@
-use Prim.Native.Nat.{◌+◌, ◌-◌, ◌/◌, ◌≤◌}
+use Prim.Native.Nat.{◌+◌, ◌/◌}
 use mathlib.Core.Bool.{true}
 use mathlib.Core.Path.{◌≡◌}
 use lib.Dec.{leb}
@@ -12,7 +12,4 @@ use Rattle.client_held_test.proofs.apart.Given as goal
 
 abbrev pub invariant-loop-k : goal.invariant-loop-k
 invariant-loop-k l = (all (λ f. leb (end f) l.most) (take l.k (held_fragments l.a)) ≡ true) × (apart_all (take l.k (held_fragments l.a)) ≡ true)
-    × Marks l.places (take l.k (held_fragments l.a)) × (l.k ≤ l.held) × (length l.places ≡ (datagram_limit + 63) / 64)
-
-abbrev pub decreases-loop-k : goal.decreases-loop-k
-decreases-loop-k l = l.held - l.k
+    × Marks l.places (take l.k (held_fragments l.a)) × (length l.places ≡ (datagram_limit + 63) / 64)

@@ -29,7 +29,7 @@ under {r} {x} {m} b e h = subst (λ (y : ℕ). y < m) (sym e) (cond_either (λ (
 
 pub loop-i-init : goal.loop-i-init
 unfolding last_sum sum
-loop-i-init c = (refl, refl, refl, search rules, search rules, search rules, search rules)
+loop-i-init c = (refl, refl, refl, search rules, search rules, search rules)
 
 pub offset_bounds-a-i : goal.offset_bounds-a-i
 unfolding fragment_limit
@@ -67,7 +67,6 @@ loop-i-preserved c = let a = c.args.a in
       rw (c.chosen-count.ensures, mark) (sum_more (held_fragments a) c.loop-i.i h (λ f. 1) c.loop-i.invariant.0),
       rw (c.chosen-past.ensures, mark, past) (sum_more (held_fragments a) c.loop-i.i h end c.loop-i.invariant.1),
       rw (c.chosen-options.ensures, mark, same) (sum_more (held_fragments a) c.loop-i.i h (λ f. f.option_start) c.loop-i.invariant.2),
-      omega arith,
       omega arith,
       omega arith,
       omega arith,

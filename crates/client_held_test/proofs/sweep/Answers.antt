@@ -65,7 +65,7 @@ unfolding all any rises_from sum behind
 sofar-none = record { empty_is = refl; falls_is = refl; marks_is = refl; far_is = refl; total_is = refl }
 
 pub loop-i-init : goal.loop-i-init
-loop-i-init c = (sofar-none, search rules, search rules)
+loop-i-init c = (sofar-none, search rules)
 
 pub offset_bounds-a-i : goal.offset_bounds-a-i
 unfolding fragment_limit
@@ -79,13 +79,7 @@ pub loop-i-preserved : goal.loop-i-preserved
 loop-i-preserved c = let a = c.args.a in
     let h : c.loop-i.i < length (held_fragments a) = omega (arith, c.requires.count) in
     let same = held_at a c.loop-i.i none h in (
-      rw (
-        c.either-empty.ensures,
-        c.either-falls.ensures,
-        c.past_of-behind.ensures.value,
-        same,
-      ) (sofar-next (held_fragments a) c.loop-i.i h c.loop-i.invariant.0),
-      omega arith,
+      rw (c.past_of-behind.ensures.value, same) (sofar-next (held_fragments a) c.loop-i.i h c.loop-i.invariant.0),
       search rules,
     )
 

@@ -1,4 +1,4 @@
-use Prim.Native.Nat.{ℕ, ◌*◌, ◌-◌, ◌^◌, ◌≤◌}
+use Prim.Native.Nat.{ℕ, ◌*◌, ◌^◌, ◌≤◌}
 use mathlib.Core.Bool.{Bool, not}
 use mathlib.Core.Path.{◌≡◌}
 use mathlib.Core.List.{List}
@@ -18,7 +18,4 @@ pub record Sofar (fs : List Fragment) (empty falls : Bool) (marks far total : �
   pub total_is : total ≡ sum (λ f. f.length) fs
 
 abbrev pub invariant-loop-i : goal.invariant-loop-i
-invariant-loop-i l = Sofar (take l.i (held_fragments l.a)) l.empty l.falls l.marks l.behind l.total × (l.i ≤ l.n) × (l.total ≤ l.i * 2 ^ 16)
-
-abbrev pub decreases-loop-i : goal.decreases-loop-i
-decreases-loop-i l = l.n - l.i
+invariant-loop-i l = Sofar (take l.i (held_fragments l.a)) l.empty l.falls l.marks l.behind l.total × (l.total ≤ l.i * 2 ^ 16)
