@@ -24,8 +24,7 @@ use Rattle.wire_options.specs.declared.walk.Fault.TheVariants.{Malformed, FragDa
 use Rattle.wire_options.proofs.Runs.{run-padded}
 use Rattle.wire_area.specs.Area.{fields_of, fragment_of, fault, plainly, piece_with, up_to_start, offset_in, behind_frag, led_by, behind_nops, area_of}
 use Rattle.wire_area.specs.declared.Fragment.{Fragment}
-use Rattle.wire_area.specs.declared.Placed.{Placed}
-use Rattle.wire_area.specs.declared.Placed.TheVariants.{Sound, Refused}
+use Rattle.std.specs.Prelude.{Option, Some, None}
 use Rattle.wire_area.proofs.Areas.{Leads}
 
 -- the walk of a list that ends at the packet offset `end` comes to a fault, and meets it at this offset
@@ -52,7 +51,7 @@ AreaFault how empty x base l at =
 
 plain-fault : (how : Strictness) (x : Fault) (end : ℕ) (l : List ℕ) (at : PacketOffset) (w : Walked) → walk_by how option_limit 0 l ≡ w
     → plainly end w ≡ fault x at → WalkFault how option_limit x end l at
-plain-fault how x end l at (listed options fill) e q = absurd (let z : ◌≡◌ {A = ℕ} 0 1 = cc in omega arith)
+plain-fault how x end l at (listed options fill) e q = cc
 plain-fault how x end l at (faulty y remains) e q =
     let same : y ≡ x = cc in
     let there : offset_before end remains ≡ at = cc in
@@ -60,7 +59,7 @@ plain-fault how x end l at (faulty y remains) e q =
 
 with-fault : (how : Strictness) (x : Fault) (f : Fragment) (l : List ℕ) (at : PacketOffset) (w : Walked) → walk_by how (option_limit - 1) 0 l ≡ w
     → piece_with f w ≡ fault x at → WalkFault how (option_limit - 1) x f.start.0 l at
-with-fault how x f l at (listed options fill) e q = absurd (let z : ◌≡◌ {A = ℕ} 0 1 = cc in omega arith)
+with-fault how x f l at (listed options fill) e q = cc
 with-fault how x f l at (faulty y remains) e q =
     let same : y ≡ x = cc in
     let there : offset_before f.start.0 remains ≡ at = cc in
@@ -84,15 +83,15 @@ area-cause how empty base l x at = front (is_padding how (nops_of l)) refl
         let same : x ≡ Malformed = cc in
         of-frag c there (inl same)
 
-    behind : (kind header size : ℕ) → eqb (get_or l nops eol) frag ≡ true → step_of (drop nops l) ≡ Found kind header size → (p : Placed)
+    behind : (kind header size : ℕ) → eqb (get_or l nops eol) frag ≡ true → step_of (drop nops l) ≡ Found kind header size → (p : Option Fragment)
         → fragment_of (fields_of size (drop nops l)) base (nops + size) (length l) ≡ p → (t : Bool) → empty ≡ t
         → behind_frag how t l base nops (nops + size) p ≡ fault x at → AreaFault how empty x base l at
-    behind kind header size c e Refused s t b q = malformed c q
-    behind kind header size c e (Sound f) s false b q =
+    behind kind header size c e None s t b q = malformed c q
+    behind kind header size c e (Some f) s false b q =
         let there : offset_in base nops ≡ at = cc in
         let beside : (x ≡ FragData) × (empty ≡ false) = (cc, b) in
         of-frag c there (inr beside)
-    behind kind header size c e (Sound f) s true b q =
+    behind kind header size c e (Some f) s true b q =
         let of-piece : (empty ≡ true) × PieceFault how x base l at = (
           b,
           record {

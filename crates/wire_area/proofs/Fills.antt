@@ -15,7 +15,7 @@ use Rattle.wire_options.proofs.Fills.{walk-fills}
 use Rattle.wire_options.proofs.Stricts.{listed_plain}
 use Rattle.wire_area.specs.Area.{piece, piece_with, up_to_start, behind_frag, area_of}
 use Rattle.wire_area.specs.declared.Fragment.{Fragment}
-use Rattle.wire_area.specs.declared.Placed.TheVariants.{Sound}
+use Rattle.std.specs.Prelude.{Some}
 use Rattle.wire_area.proofs.Areas.{Leads, led-behind, piece-leads}
 
 -- the options of a list that `led` leads, and their fill
@@ -27,7 +27,7 @@ pub record PieceFill (base : ℕ) (l : List ℕ) (f : Fragment) (led : Leads bas
 
 pub piece-fill : (how : Strictness) (empty : Bool) (base : ℕ) (l : List ℕ) (f : Fragment) (e : area_of how empty base l ≡ piece f)
     → PieceFill base l f (piece-leads how empty base l f e)
-piece-fill how empty base l f e = go empty (led-behind how empty base l f led (piece f) e (λ at p. let z : ◌≡◌ {A = ℕ} 0 1 = cc in omega arith))
+piece-fill how empty base l f e = go empty (led-behind how empty base l f led (piece f) e (λ at p. cc))
   where
     led : Leads base l f
     led = piece-leads how empty base l f e
@@ -36,11 +36,11 @@ piece-fill how empty base l f e = go empty (led-behind how empty base l f led (p
     list = up_to_start f base (nops_of l + led.size) l
 
     walked : (w : Walked) → walk_by how (option_limit - 1) 0 list ≡ w → piece_with f w ≡ piece f → PieceFill base l f led
-    walked (faulty x n) w q = absurd (let z : ◌≡◌ {A = ℕ} 0 1 = cc in omega arith)
+    walked (faulty x n) w q = cc
     walked (listed options fill) w q =
         let plain = listed_plain how (option_limit - 1) list options fill w in
         record { options = options; fill = fill; walks = plain; fills = walk-fills (option_limit - 1) 0 list options fill (omega arith) plain }
 
-    go : (t : Bool) → behind_frag how t l base (nops_of l) (nops_of l + led.size) (Sound f) ≡ piece f → PieceFill base l f led
-    go false q = absurd (let z : ◌≡◌ {A = ℕ} 0 1 = cc in omega arith)
+    go : (t : Bool) → behind_frag how t l base (nops_of l) (nops_of l + led.size) (Some f) ≡ piece f → PieceFill base l f led
+    go false q = cc
     go true q = walked (walk_by how (option_limit - 1) 0 list) refl q

@@ -26,7 +26,7 @@ use Rattle.wire_options.specs.declared.walk.Fault.TheVariants.{Padded}
 use Rattle.wire_area.specs.Area.{fields_of, fragment_of, piece, fault, piece_with, offset_in, behind_frag, area_of}
 use Rattle.wire_area.specs.declared.Fields.{Fields}
 use Rattle.wire_area.specs.declared.Fragment.{Fragment}
-use Rattle.wire_area.specs.declared.Placed.TheVariants.{Sound as SoundPiece}
+use Rattle.std.specs.Prelude.{Some}
 use Rattle.wire_area.proofs.Areas.{fragment-within, Leads, led-area, piece-leads}
 
 -- the NOPs at the front are known by them and the byte behind them
@@ -68,7 +68,7 @@ frag-long l kind h s e k =
 -- the options behind FRAG are walked up to Frag. Start
 behind-local : (how : Strictness) (empty : Bool) (l m : List ℕ) (base nops behind : ℕ) (f : Fragment) → base + behind ≤ f.start.0
     → take (f.start.0 - base) l ≡ take (f.start.0 - base) m
-    → behind_frag how empty l base nops behind (SoundPiece f) ≡ behind_frag how empty m base nops behind (SoundPiece f)
+    → behind_frag how empty l base nops behind (Some f) ≡ behind_frag how empty m base nops behind (Some f)
 behind-local how false l m base nops behind f h same = refl
 behind-local how true l m base nops behind f h same =
     ap (λ (t : List ℕ). piece_with f (walk_by how (option_limit - 1) 0 t))
@@ -128,7 +128,7 @@ module _
   unfolding led-local
   area-local how empty led =
       led-area how empty base m f (led-local led)
-      ∙ ap (λ (i : ℕ). cond (is_padding how i) (fault Padded (offset_in base nop_limit)) (behind_frag how empty m base i (i + led.size) (SoundPiece f))) (nops-same led)
+      ∙ ap (λ (i : ℕ). cond (is_padding how i) (fault Padded (offset_in base nop_limit)) (behind_frag how empty m base i (i + led.size) (Some f))) (nops-same led)
       ∙ ap (cond (is_padding how nops) (fault Padded (offset_in base nop_limit))) (sym (behind-local how empty l m base nops (nops + led.size) f (ahead led).0 same))
       ∙ sym (led-area how empty base l f led)
 

@@ -6,7 +6,6 @@ use mathlib.Core.Bool.{Bool, true, cond}
 use mathlib.Core.List.{List}
 use mathlib.Core.Logic.{◌⊎◌, inl, inr, ⊎_elim}
 use Prim.Native.Nat.{ℕ, ◌+◌, ◌-◌}
-use native.Mathlib.Omega.{arith}
 use borrow.Author.Tests.{lt-ltb}
 use lib.ListN.{length}
 use Rattle.number_offsets.specs.declared.PacketOffset.{PacketOffset}
@@ -46,7 +45,7 @@ area-padded how empty base l at q =
     (λ w. let c = padding-at how option_limit (base + length l) l at w in (c.0, inl c.1))
     (λ w. let c = padding-at how (option_limit - 1) _ _ at w.1.walk in
     (c.0, inr (w.0, record { fragment = w.1.fragment; led = w.1.led; nops = c.1 })))
-    (area-fault how empty base l Padded at ((λ e. let z : ◌≡◌ {A = ℕ} 0 1 = cc in omega arith), (λ e. let z : ◌≡◌ {A = ℕ} 0 1 = cc in omega arith)) q)
+    (area-fault how empty base l Padded at ((λ e. cc), (λ e. cc)) q)
 
 -- eight NOPs at the front are met before anything else, a FRAG behind them too
 pub padded-front : (empty : Bool) (base : ℕ) (rest : List ℕ) → area_of Strict empty base (eight_nops rest) ≡ fault Padded (offset_in base nop_limit)

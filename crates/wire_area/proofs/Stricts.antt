@@ -20,8 +20,8 @@ use Rattle.wire_options.specs.Strict.{walk_by}
 use Rattle.wire_options.specs.declared.walk.Fault.TheVariants.{Padded}
 use Rattle.wire_options.proofs.Stricts.{padded-or-plain}
 use Rattle.wire_area.specs.Area.{AreaWalk, fault, fields_of, fragment_of, plainly, piece_with, up_to_start, offset_in, behind_frag, led_by, area_of}
-use Rattle.wire_area.specs.declared.Placed.{Placed}
-use Rattle.wire_area.specs.declared.Placed.TheVariants.{Sound, Refused}
+use Rattle.wire_area.specs.declared.Fragment.{Fragment}
+use Rattle.std.specs.Prelude.{Option, Some, None}
 
 -- a list that is "padded", at some place
 abbrev pub IsPadded : AreaWalk → Type 0
@@ -31,10 +31,10 @@ abbrev OrPlain : AreaWalk → AreaWalk → Type 0
 OrPlain v w = IsPadded v ⊎ (v ≡ w)
 
 module _ (how : Strictness) (empty : Bool) (base : ℕ) (l : List ℕ) where
-  behind-or-plain : (nops behind : ℕ) (p : Placed) (t : Bool) → OrPlain (behind_frag how t l base nops behind p) (behind_frag Plain t l base nops behind p)
-  behind-or-plain nops behind Refused t = inr refl
-  behind-or-plain nops behind (Sound f) false = inr refl
-  behind-or-plain nops behind (Sound f) true =
+  behind-or-plain : (nops behind : ℕ) (p : Option Fragment) (t : Bool) → OrPlain (behind_frag how t l base nops behind p) (behind_frag Plain t l base nops behind p)
+  behind-or-plain nops behind None t = inr refl
+  behind-or-plain nops behind (Some f) false = inr refl
+  behind-or-plain nops behind (Some f) true =
       ⊎_elim (λ p. inl (_, ap (piece_with f) p.1)) (λ e. inr (ap (piece_with f) e)) (padded-or-plain how (option_limit - 1) (up_to_start f base behind l))
 
   led-or-plain : (nops : ℕ) (step : Step) → OrPlain (led_by how empty l base nops step) (led_by Plain empty l base nops step)

@@ -6,7 +6,6 @@ use mathlib.Core.Bool.{Bool, true}
 use mathlib.Core.List.{List}
 use mathlib.Core.Logic.{◌⊎◌, inl, inr, ⊎_elim}
 use Prim.Native.Nat.{ℕ, ◌+◌, ◌-◌}
-use native.Mathlib.Omega.{arith}
 use lib.ListN.{length}
 use Rattle.number_offsets.specs.declared.PacketOffset.{PacketOffset}
 use Rattle.wire_nops.specs.Nops.{nops_of}
@@ -40,4 +39,4 @@ area-tail how empty base l at q =
     ⊎_elim
     (λ w. inl (tail_at how option_limit (base + length l) l at w))
     (λ w. inr (w.0, record { fragment = w.1.fragment; led = w.1.led; tail = tail_at how (option_limit - 1) _ _ at w.1.walk }))
-    (area-fault how empty base l Tail at ((λ e. let z : ◌≡◌ {A = ℕ} 0 1 = cc in omega arith), (λ e. let z : ◌≡◌ {A = ℕ} 0 1 = cc in omega arith)) q)
+    (area-fault how empty base l Tail at ((λ e. cc), (λ e. cc)) q)

@@ -14,7 +14,6 @@ use Rattle.wire_options.specs.Walk.{Located, Walked, listed, faulty, items_in, o
 use Rattle.wire_options.specs.Strict.{walk_by}
 use Rattle.wire_options.specs.declared.walk.Fault.{Fault}
 use Rattle.wire_options.specs.declared.walk.Fault.TheVariants.{Malformed, FragData, Padded}
-use Rattle.wire_options.specs.declared.walk.Listed.{Listed}
 use Rattle.wire_options.specs.declared.walk.Met.{Met}
 use Rattle.wire_area.specs.declared.Fields.{Fields}
 use Rattle.wire_area.specs.declared.Fragment.{Fragment}
