@@ -1,13 +1,15 @@
 -- The plans of a table's records, looked at one after the other: what is known of those before i, and what that says of the tests.
 -- Assumes nothing.
 use Prim.Native.Nat.{ℕ, ◌+◌, ◌*◌, ◌<◌, ◌≤◌}
-use mathlib.Core.Path.{◌≡◌, refl, sym, ap, ap₂, ◌∙◌}
+use mathlib.Core.Path.{◌≡◌, refl, sym, ap, ap₂, subst, ◌∙◌}
 use mathlib.Core.Bool.{Bool, true, false, not, ◌&&◌, cond}
 use mathlib.Core.List.{List, [], ◌∷◌, ◌++◌}
 use mathlib.Core.Option.{some}
+use Rattle.std.specs.Prelude.{Result, Ok, Err, IfOk}
 use native.Mathlib.Omega.{arith}
 use lib.Dec.{leb, ltb, eqb}
 use lib.ListN.{length, take, get_or}
+use Rattle.std.proofs.lemmas.List.{get_or_default}
 use lib.Seq.{take-take, take_all, length-take-le}
 use borrow.Author.Tests.{leb-true, ltb-true, ltb-false}
 use Rattle.number_tests.specs.Tests.{first_of}
@@ -18,13 +20,12 @@ use Rattle.client_record.specs.Lists.{all, sum}
 use Rattle.client_record.specs.Record.{blank_client}
 use Rattle.client_record.proofs.Lists.{take_next, all_append, sum-append}
 use Rattle.client_record.proofs.SoundParts.{all-at}
+use Rattle.client_reassembly.specs.declared.Refusal.{Refusal}
 use Rattle.client_reassembly.specs.declared.Refusal.TheVariants.{TableMisfit, PlanOutOfRange}
 use Rattle.client_ledger.specs.History.{Lent}
 use Rattle.table_rules.specs.Table.{plans_of, counted, in_range, shares_of, size_tests, ask_tests, share_start}
 use Rattle.table_rules.proofs.Facts.{plans-length, plan-of}
-use Rattle.table_admission.specs.declared.Admission.{Admission}
-use Rattle.table_admission.specs.declared.Admission.TheVariants.{Refused}
-use Rattle.table_admission.specs.Admission.{admitted, Places, Grants, Admits}
+use Rattle.table_admission.specs.Admission.{Places, Grants, Admits}
 
 -- ---- plans
 
@@ -68,27 +69,31 @@ surveyed-none rs k = record {
   part = omega arith;
 }
 
-module _ (rs : List Client) (k i before places : ℕ) (s : Surveyed rs k i before places) (h : i < length rs) where
+module _ (rs : List Client) (d : Client) (k i before places : ℕ) (s : Surveyed rs k i before places) (h : i < length rs) where
   within : i < length (plans_of rs)
   within = omega (arith, plans-length rs)
 
-  -- one plan more
-  plans-next : take (i + 1) (plans_of rs) ≡ take i (plans_of rs) ++ ((get_or rs i blank_client).plan ∷ [])
-  plans-next = take_next (plans_of rs) i 0 within ∙ ap (λ (p : ℕ). take i (plans_of rs) ++ (p ∷ [])) (plan-of rs i)
+  -- the plan that is read of record i, whatever stands past the end
+  plan-at : get_or (plans_of rs) i 0 ≡ (get_or rs i d).plan
+  plan-at = plan-of rs i ∙ ap (λ (r : Client). r.plan) (get_or_default rs i blank_client d h)
 
-  total-next : total (take (i + 1) (plans_of rs)) ≡ total (take i (plans_of rs)) + (get_or rs i blank_client).plan
+  -- one plan more
+  plans-next : take (i + 1) (plans_of rs) ≡ take i (plans_of rs) ++ ((get_or rs i d).plan ∷ [])
+  plans-next = take_next (plans_of rs) i 0 within ∙ ap (λ (p : ℕ). take i (plans_of rs) ++ (p ∷ [])) plan-at
+
+  total-next : total (take (i + 1) (plans_of rs)) ≡ total (take i (plans_of rs)) + (get_or rs i d).plan
   unfolding sum
   total-next =
-      ap total plans-next ∙ sum-append (λ p. p) (take i (plans_of rs)) ((get_or rs i blank_client).plan ∷ []) ∙ omega arith
+      ap total plans-next ∙ sum-append (λ p. p) (take i (plans_of rs)) ((get_or rs i d).plan ∷ []) ∙ omega arith
 
   front_length : length (take i (plans_of rs)) ≡ i
   front_length = length-take-le i (plans_of rs) (omega (arith, within))
 
   -- it lies before client k's or it does not
-  before-next : total (take k (take (i + 1) (plans_of rs))) ≡ before + cond (ltb i k) (get_or rs i blank_client).plan 0
+  before-next : total (take k (take (i + 1) (plans_of rs))) ≡ before + cond (ltb i k) (get_or rs i d).plan 0
   before-next = go (ltb i k) refl
     where
-      go : (b : Bool) → ltb i k ≡ b → total (take k (take (i + 1) (plans_of rs))) ≡ before + cond b (get_or rs i blank_client).plan 0
+      go : (b : Bool) → ltb i k ≡ b → total (take k (take (i + 1) (plans_of rs))) ≡ before + cond b (get_or rs i d).plan 0
       go true t =
           let lt = ltb-true i k t in
           let longer : length (take (i + 1) (plans_of rs)) ≤ k = omega (arith, length-take-le (i + 1) (plans_of rs) (omega (arith, within))) in
@@ -105,25 +110,30 @@ module _ (rs : List Client) (k i before places : ℕ) (s : Surveyed rs k i befor
   before-within true n = omega (arith, s.part)
   before-within false n = omega (arith, s.part)
 
-  pub surveyed-next : in_range (get_or rs i blank_client).plan ≡ true
-      → Surveyed rs k (i + 1) (before + cond (ltb i k) (get_or rs i blank_client).plan 0) (places + (get_or rs i blank_client).plan)
+  counted-next : in_range (get_or rs i d).plan ≡ true
+      → Surveyed rs k (i + 1) (before + cond (ltb i k) (get_or rs i d).plan 0) (places + (get_or rs i d).plan)
   unfolding all
-  surveyed-next ok = record {
+  counted-next ok = record {
     front = omega arith;
-    ranged = ap (all in_range) plans-next ∙ all_append in_range (take i (plans_of rs)) ((get_or rs i blank_client).plan ∷ [])
+    ranged = ap (all in_range) plans-next ∙ all_append in_range (take i (plans_of rs)) ((get_or rs i d).plan ∷ [])
         ∙ ap₂ (λ (x y : Bool). x && (y && true)) s.ranged ok;
     places_are = omega (arith, s.places_are, total-next);
     before_are = sym before-next;
-    few = few-next i places (get_or rs i blank_client).plan s.few (range-few (get_or rs i blank_client).plan ok);
-    part = before-within (ltb i k) (get_or rs i blank_client).plan;
+    few = few-next i places (get_or rs i d).plan s.few (range-few (get_or rs i d).plan ok);
+    part = before-within (ltb i k) (get_or rs i d).plan;
   }
 
+  -- one record more, with its places before client k's as m
+  pub surveyed-next : (m : ℕ) → m ≡ cond (ltb i k) (get_or rs i d).plan 0 → in_range (get_or rs i d).plan ≡ true
+      → Surveyed rs k (i + 1) (before + m) (places + (get_or rs i d).plan)
+  surveyed-next m e ok = subst (λ (n : ℕ). Surveyed rs k (i + 1) (before + n) (places + (get_or rs i d).plan)) (sym e) (counted-next ok)
+
   -- one that is not in range
-  pub surveyed-off : in_range (get_or rs i blank_client).plan ≡ false → all in_range (plans_of rs) ≡ false
+  pub surveyed-off : in_range (get_or rs i d).plan ≡ false → all in_range (plans_of rs) ≡ false
   surveyed-off off = go (all in_range (plans_of rs)) refl
     where
       go : (b : Bool) → all in_range (plans_of rs) ≡ b → b ≡ false
-      go true e = sym (all-at in_range (plans_of rs) i 0 within e) ∙ ap in_range (plan-of rs i) ∙ off
+      go true e = sym (all-at in_range (plans_of rs) i 0 within e) ∙ ap in_range plan-at ∙ off
       go false e = refl
 
 -- ---- all of them
@@ -145,25 +155,25 @@ surveyed-all rs k i before places s h =
 
 -- ---- the tests
 
-module _ (l : Lent) (k : ℕ) (r : Admission) where
-  pub admits-count : counted l.count ≡ false → r ≡ Refused TableMisfit → Admits l k r
+module _ (l : Lent) (k : ℕ) where
+  pub admits-count : counted l.count ≡ false → Admits l k (Err TableMisfit)
   unfolding ask_tests size_tests first_of
-  admits-count e q =
-      let is : first_of (ask_tests l k) ≡ some 20 = simp e in
-      record { tests = ap admitted q ∙ sym is; start = λ n. cc }
+  admits-count e = record { tests = simp e; start = tt }
 
-  pub admits-plan : counted l.count ≡ true → all in_range l.plans ≡ false → r ≡ Refused PlanOutOfRange → Admits l k r
+  pub admits-plan : counted l.count ≡ true → all in_range l.plans ≡ false → Admits l k (Err PlanOutOfRange)
   unfolding ask_tests size_tests first_of
-  admits-plan e p q =
-      let is : first_of (ask_tests l k) ≡ some 32 = simp (e, p) in
-      record { tests = ap admitted q ∙ sym is; start = λ n. cc }
+  admits-plan e p = record { tests = simp (e, p); start = tt }
 
-  pub admits-store : (before places : ℕ) → counted l.count ≡ true → all in_range l.plans ≡ true → shares_of l.plans ≡ share_size places
-      → share_start k l.plans ≡ share_size before → Grants l.count before places l.bytes k r → Admits l k r
+  pub admits-store : (before places : ℕ) (r : Result ℕ Refusal) → counted l.count ≡ true → all in_range l.plans ≡ true
+      → shares_of l.plans ≡ share_size places → share_start k l.plans ≡ share_size before → Grants l.count before places l.bytes k r → Admits l k r
   unfolding ask_tests size_tests first_of
-  admits-store before places e p shares start g =
+  admits-store before places r e p shares start g =
       let is : first_of (ask_tests l k) ≡ first_of ((not (eqb l.bytes (share_size places)), 20) ∷ (leb l.count k, 21) ∷ []) = simp (e, p, shares) in
-      record { tests = g.tests ∙ sym is; start = λ n. g.start n ∙ sym start }
+      record { tests = g.tests ∙ sym is; start = starts r g.start }
+    where
+      starts : (r : Result ℕ Refusal) → IfOk r (λ from. from ≡ share_size before) → IfOk r (λ from. from ≡ share_start k l.plans)
+      starts (Err x) h = tt
+      starts (Ok from) h = h ∙ sym start
 
 pub laid-places : (rs : List Client) (k i before places : ℕ) → Surveyed rs k i before places → i ≤ client_limit → Places before places
 unfolding client_limit assembly_limit

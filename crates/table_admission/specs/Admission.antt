@@ -1,5 +1,5 @@
 -- What an admission says, in the papers' numbers, and what its functions promise.
-use Rattle.std.specs.Prelude.{ℕ, ◌*◌, ◌≤◌, ◌≡◌, not, [], ◌∷◌, leb, eqb, Result, Ok, Err, OnOk}
+use Rattle.std.specs.Prelude.{ℕ, ◌*◌, ◌≤◌, ◌≡◌, not, [], ◌∷◌, leb, eqb, Result, Ok, Err, IfOk}
 use Rattle.std.proofs.Math.Option.{Option, none, some}
 use Rattle.number_tests.specs.Tests.{first_of}
 use Rattle.client_record.specs.Limits.{share_size, assembly_limit, client_limit}
@@ -21,9 +21,9 @@ pub record Places (before places : ℕ) : Type 0 where
 -- 20 for the store and 21, for `count` records whose plans have so many places
 pub record Grants (count before places bytes k : ℕ) (r : Result ℕ Refusal) : Type 0 where
   pub tests : admitted r ≡ first_of ((not (eqb bytes (share_size places)), 20) ∷ (leb count k, 21) ∷ [])
-  pub start : OnOk r (λ start. start ≡ share_size before)
+  pub start : IfOk r (λ start. start ≡ share_size before)
 
 -- the refusal is the first test's that applies, and where none does the share starts behind those before it
 pub record Admits (l : Lent) (k : ℕ) (r : Result ℕ Refusal) : Type 0 where
   pub tests : admitted r ≡ first_of (ask_tests l k)
-  pub start : OnOk r (λ start. start ≡ share_start k l.plans)
+  pub start : IfOk r (λ start. start ≡ share_start k l.plans)

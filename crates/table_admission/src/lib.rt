@@ -29,12 +29,6 @@ fn in_range(plan: u64) -> bool
     plan <= client_record::ASSEMBLY_LIMIT as u64
 }
 
-pub fn plan_of(client: Client) -> u64
-    ensures { result ≡ client.plan }
-{
-    client.plan
-}
-
 // The places of client `i` that lie before the share of client `k`.
 fn places_before(i: usize, k: usize, plan: u64) -> usize
     ensures { result ≡ cond (ltb i k) plan 0 }
@@ -70,16 +64,13 @@ pub fn admit(records: &[Client], bytes: usize, k: usize) -> Result<usize, Refusa
     }
     let mut before = 0;
     let mut places = 0;
-    let mut i = 0;
-    while i < records.len() {
-        let client = records[i];
-        let plan = plan_of(client);
+    for (i, client) in records.iter().enumerate() {
+        let plan = client.plan;
         if !in_range(plan) {
             return Err(Refusal::PlanOutOfRange);
         }
         before += places_before(i, k, plan);
         places += plan as usize;
-        i += 1;
     }
     by_store(records.len(), before, places, bytes, k)
 }

@@ -12,6 +12,7 @@ use lib.Dec.{leb, eqb}
 use lib.ListN.{length, take, drop, get_or, set, take-append-drop, length-map}
 use lib.Seq.{drop-drop}
 use borrow.Author.Tests.{leb-true, eqb-true, eq-eqb, le-leb, lt-leb}
+use Rattle.std.specs.Prelude.{Ok, Err}
 use Rattle.number_tests.proofs.Tests.{both_true, first-front, first-behind}
 use Rattle.number_tests.specs.Tests.{first_of}
 use Rattle.number_octets.specs.Octets.{part, overlay}
@@ -21,8 +22,8 @@ use Rattle.client_record.specs.Lists.{all, sum}
 use Rattle.client_record.proofs.SoundParts.{all-at}
 use Rattle.client_record.specs.declared.Client.{Client}
 use Rattle.client_record.specs.Record.{sound_record, fresh_client, blank_client}
-use Rattle.client_reassembly.specs.Answer.{refused, ready, account, reply_of}
-use Rattle.client_reassembly.specs.declared.Answer.{Answer}
+use Rattle.client_reassembly.specs.Answer.{refused, ready, account, number_of}
+use Rattle.client_reassembly.specs.declared.Refusal.{Refusal}
 use Rattle.client_reassembly.specs.declared.Answer.TheVariants.{Reset}
 use Rattle.client_reassembly.specs.Advance as Advance
 use Rattle.client_reassembly.specs.Advance.{figures, account_on}
@@ -181,25 +182,25 @@ reset-taken t e = simp (sized-none (lent_of t) e)
 
 -- ---- what a call leaves that a test refuses, and a set-up that is taken
 
-pub refused-leaves : (k : ℕ) (a : Ask) (t : Table) (r : Answer) (n : ℕ) → first_of (ask_tests (lent_of t) k) ≡ some n → reply_of r ≡ refused n
-    → Leaves (ask_on k a t) r t.records t.store (out_lent a)
+pub refused-leaves : (k : ℕ) (a : Ask) (t : Table) (r : Refusal) → first_of (ask_tests (lent_of t) k) ≡ some (number_of r)
+    → Leaves (ask_on k a t) (Err r) t.records t.store (out_lent a)
 unfolding ask_on
-refused-leaves k a t r n e p =
-    subst (λ (x : After). Leaves x r t.records t.store (out_lent a)) (simp e)
-    (record { answers = p; records_left = refl; store_left = refl; out_left = refl })
+refused-leaves k a t r e =
+    subst (λ (x : After). Leaves x (Err r) t.records t.store (out_lent a)) (simp e)
+    (record { answers = refl; records_left = refl; store_left = refl; out_left = refl })
 
-pub reset-refused-leaves : (t : Table) (r : Answer) (n : ℕ) → first_of (size_tests (lent_of t)) ≡ some n → reply_of r ≡ refused n
-    → Leaves (reset_on t) r t.records t.store []
-reset-refused-leaves t r n e p =
-    subst (λ (x : After). Leaves x r t.records t.store []) (sym (reset-refused t n e))
-    (record { answers = p; records_left = refl; store_left = refl; out_left = refl })
+pub reset-refused-leaves : (t : Table) (r : Refusal) → first_of (size_tests (lent_of t)) ≡ some (number_of r)
+    → Leaves (reset_on t) (Err r) t.records t.store []
+reset-refused-leaves t r e =
+    subst (λ (x : After). Leaves x (Err r) t.records t.store []) (sym (reset-refused t (number_of r) e))
+    (record { answers = refl; records_left = refl; store_left = refl; out_left = refl })
 
-pub reset-leaves : (t : Table) (r : Answer) (records : List Client) → first_of (size_tests (lent_of t)) ≡ none → r ≡ Reset
-    → records ≡ (cleared t).records → Leaves (reset_on t) r records t.store []
+pub reset-leaves : (t : Table) (records : List Client) → first_of (size_tests (lent_of t)) ≡ none → records ≡ (cleared t).records
+    → Leaves (reset_on t) (Ok Reset) records t.store []
 unfolding reset_on
-reset-leaves t r records e p q =
-    subst (λ (x : After). Leaves x r records t.store []) (simp e)
-    (record { answers = ap reply_of p; records_left = q; store_left = refl; out_left = refl })
+reset-leaves t records e q =
+    subst (λ (x : After). Leaves x (Ok Reset) records t.store []) (simp e)
+    (record { answers = refl; records_left = q; store_left = refl; out_left = refl })
 
 -- ---- a call that changes nothing
 

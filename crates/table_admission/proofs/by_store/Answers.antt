@@ -12,11 +12,11 @@ overflow_mul-places c = omega (arith, c.requires.few)
 
 pub returns-then-bytes-places : goal.returns-then-bytes-places
 unfolding first_of share_size datagram_limit
-returns-then-bytes-places c = record { tests = simp (ne_eqb _ _ c.if-bytes-places.true); start = λ e. cc }
+returns-then-bytes-places c = record { tests = simp (ne_eqb _ _ c.if-bytes-places.true); start = tt }
 
 pub returns-then-count-k : goal.returns-then-count-k
 unfolding first_of share_size datagram_limit
-returns-then-count-k c = record { tests = simp (eq-eqb _ _ c.if-bytes-places.false, le-leb _ _ c.if-count-k.true); start = λ e. cc }
+returns-then-count-k c = record { tests = simp (eq-eqb _ _ c.if-bytes-places.false, le-leb _ _ c.if-count-k.true); start = tt }
 
 pub overflow_mul-result : goal.overflow_mul-result
 unfolding client_limit assembly_limit
@@ -24,4 +24,4 @@ overflow_mul-result c = omega (arith, c.requires.few, c.requires.part)
 
 pub returns : goal.returns
 unfolding first_of share_size datagram_limit
-returns c = record { tests = simp (eq-eqb _ _ c.if-bytes-places.false, lt-leb _ _ c.if-count-k.false); start = λ e. refl }
+returns c = record { tests = simp (eq-eqb _ _ c.if-bytes-places.false, lt-leb _ _ c.if-count-k.false); start = refl }
