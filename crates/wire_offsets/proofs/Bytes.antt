@@ -26,18 +26,18 @@ step-some (b ∷ bs) step e other = omega arith
 -- an unsafe kind is 192 or more
 pub outlawed-byte : (l : List ℕ) → step_of l ≡ Outlawed → 192 ≤ get_or l 0 0
 unfolding step_of class_of header_of
-outlawed-byte [] e = absurd (let z : ◌≡◌ {A = ℕ} 0 1 = cc in omega arith)
+outlawed-byte [] e = cc
 outlawed-byte (b ∷ bs) e = go (leb b 191) refl
   where
     alone : step_in (class_of b) [] ≡ Outlawed
     alone = class-alone (class_of b) (b ∷ bs) [] Outlawed refl e
 
     small : (b : ℕ) → b ≤ 191 → step_in (class_of b) [] ≡ Outlawed → ⊥
-    small zero h q = let z : ◌≡◌ {A = ℕ} 0 1 = cc in omega arith
-    small (suc zero) h q = let z : ◌≡◌ {A = ℕ} 0 1 = cc in omega arith
+    small zero h q = cc
+    small (suc zero) h q = cc
     small (suc (suc n)) h q =
-        class-sized (suc (suc n)) (λ (c : Class). step_in c [] ≡ Outlawed → ⊥) (omega arith) h (λ x y p. let z : ◌≡◌ {A = ℕ} 0 1 = cc in omega arith)
-        (λ p. let z : ◌≡◌ {A = ℕ} 0 1 = cc in omega arith) q
+        class-sized (suc (suc n)) (λ (c : Class). step_in c [] ≡ Outlawed → ⊥) (omega arith) h (λ x y p. cc)
+        (λ p. cc) q
 
     go : (t : Bool) → leb b 191 ≡ t → 192 ≤ b
     go true p = absurd (small b (leb-true b 191 p) alone)
@@ -46,5 +46,5 @@ outlawed-byte (b ∷ bs) e = go (leb b 191) refl
 -- EOL is a zero
 pub eol-zeros : (l : List ℕ) → step_of l ≡ Eol → 0 < zeros_of l
 unfolding step_of zeros_of
-eol-zeros [] e = absurd (let z : ◌≡◌ {A = ℕ} 0 1 = cc in omega arith)
+eol-zeros [] e = cc
 eol-zeros (b ∷ bs) e = let one : zeros_of (b ∷ bs) ≡ 1 + zeros_of bs = simp (eq-eqb b 0 (eol-byte b bs e)) in omega arith

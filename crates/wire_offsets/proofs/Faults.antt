@@ -76,7 +76,7 @@ comes-nops (b ∷ bs) {room} {left} {m} c = go (eqb b nop) refl c (λ d. comes-n
 -- ---- one row of NOPs and what stands behind it
 
 listed-not : (options : List Located) (fill : ℕ) (fault : Fault) (remains : ℕ) → listed options fill ≡ faulty fault remains → ⊥
-listed-not options fill fault remains e = let z : ◌≡◌ {A = ℕ} 0 1 = cc in omega arith
+listed-not options fill fault remains e = cc
 
 none-faulty : (how : Strictness) (room : ℕ) (fault : Fault) (remains : ℕ) → walk_by how room 0 [] ≡ faulty fault remains → ⊥
 unfolding walk_from strict_from
@@ -195,7 +195,7 @@ met-over how room l fault remains o c =
     })
 
 strict-only : (how : Strictness) (nops : ℕ) → is_padding how nops ≡ true → how ≡ Strict
-strict-only Plain nops e = absurd (let z : ◌≡◌ {A = ℕ} 0 1 = cc in omega arith)
+strict-only Plain nops e = cc
 strict-only Strict nops e = refl
 
 -- padding at the front
@@ -280,14 +280,14 @@ fault-at how room l left m Malformed remains s c = record {
   within = omega (arith, s.within, c.0);
   some =
       let some : 0 < length m =
-      ⊎_elim (λ e. step-some m Unsound e (λ p. let z : ◌≡◌ {A = ℕ} 0 1 = cc in omega arith))
-      (λ f. step-some m (Found frag f.0 f.1) f.2 (λ p. let z : ◌≡◌ {A = ℕ} 0 1 = cc in omega arith)) c.1 in
+      ⊎_elim (λ e. step-some m Unsound e (λ p. cc))
+      (λ f. step-some m (Found frag f.0 f.1) f.2 (λ p. cc)) c.1 in
       omega (arith, c.0);
   met = ⊎_elim (λ e. inl (front-step s c.0 ∙ e)) (λ f. inr (f.0, f.1, front-step s c.0 ∙ f.2)) c.1;
 }
 fault-at how room l left m Unsafe remains s c = record {
   within = omega (arith, s.within, c.0);
-  some = omega (arith, c.0, step-some m Outlawed c.1 (λ p. let z : ◌≡◌ {A = ℕ} 0 1 = cc in omega arith));
+  some = omega (arith, c.0, step-some m Outlawed c.1 (λ p. cc));
   met = (front-step s c.0 ∙ c.1, omega (arith, front-byte s c.0, outlawed-byte m c.1));
 }
 fault-at how room l left m Crowded remains s c =

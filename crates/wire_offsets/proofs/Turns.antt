@@ -14,14 +14,14 @@ use Rattle.wire_nops.specs.Nops.{nop, nops_of}
 use Rattle.wire_nops.proofs.Counts.{nops-within}
 use Rattle.wire_step.specs.Step.{step_of}
 use Rattle.wire_step.specs.declared.Step.{Step}
-use Rattle.wire_step.specs.declared.Step.TheVariants.{End, Eol, Nop, Found as Option, Malformed, Outlawed}
+use Rattle.wire_step.specs.declared.Step.TheVariants.{End, Eol, Nop, Found as OptionStep, Malformed, Outlawed}
 use Rattle.wire_options.specs.Walk.{Located, listed, located_of, walk_from}
 use Rattle.wire_options.proofs.Runs.{run-some}
 use Rattle.wire_options.proofs.Rests.{Rest, RestBy, Taken, rest_over, rest-nops, rest-by}
 use Rattle.wire_offsets.specs.Next.{next_by, next_of}
 use Rattle.wire_offsets.specs.Places.{Got, Turns, done, turn}
-use Rattle.wire_offsets.specs.declared.Next.{Next}
-use Rattle.wire_offsets.specs.declared.Next.TheVariants.{Found, Nothing}
+use Rattle.wire_offsets.specs.declared.Found.{Found}
+use Rattle.std.specs.Prelude.{Option, Some, None}
 
 -- ---- behind the NOPs
 
@@ -49,9 +49,9 @@ pub record Turned (l : List ℕ) (at : ℕ) (options : List Located) (n kind hea
   pub rest : Rest l (at + n + size) later
 
 -- what a turn says of the options still to come
-abbrev pub TurnBy : List ℕ → ℕ → List Located → Next → Type 0
-TurnBy l at options (Found n header kind size) = Turned l at options n kind header size
-TurnBy l at options Nothing = [] ≡ options
+abbrev pub TurnBy : List ℕ → ℕ → List Located → Option Found → Type 0
+TurnBy l at options (Some f) = Turned l at options f.at f.kind f.header f.size
+TurnBy l at options None = [] ≡ options
 
 module _ {l : List ℕ} {at : ℕ} {options : List Located} (r : Rest l at options) (h : at ≤ length l) where
   abbrev nops : ℕ
@@ -86,7 +86,7 @@ module _ {l : List ℕ} {at : ℕ} {options : List Located} (r : Rest l at optio
   by-step Malformed e q = q
   by-step Outlawed e q = q
   by-step Nop e q = absurd (no_nop (drop at l) (ap step_of (drop-drop nops at l) ∙ e))
-  by-step (Option kind header size) e q = taken kind header size q
+  by-step (OptionStep kind header size) e q = taken kind header size q
 
   -- at the end of the list no option comes
   over : (step : Step) → length l ≤ place → step_of (drop place l) ≡ step → TurnBy l at options (next_by nops step)
@@ -101,7 +101,7 @@ module _ {l : List ℕ} {at : ℕ} {options : List Located} (r : Rest l at optio
       go false p = over step (ltb-false place (length l) p) e
 
   -- by what `next_option` answers: what a loop over the options needs of a turn
-  pub turn_by : {next : Next} → next_of (drop at l) ≡ next → TurnBy l at options next
+  pub turn_by : {next : Option Found} → next_of (drop at l) ≡ next → TurnBy l at options next
   unfolding next_of
   turn_by {next} e =
       subst (TurnBy l at options) (ap (λ (m : List ℕ). next_by nops (step_of m)) (sym (drop-drop nops at l)) ∙ e) (turn_step (step_of (drop place l)) refl)
@@ -111,24 +111,24 @@ module _ {l : List ℕ} {at : ℕ} {options : List Located} (r : Rest l at optio
 turns-from : (l : List ℕ) (options : List Located) (at : ℕ) → at ≤ length l → Rest l at options → Turns l at options
 turns-from l [] at h r = go (next_of (drop at l)) refl
   where
-    go : (next : Next) → next_of (drop at l) ≡ next → Turns l at []
-    go Nothing e = done e
-    go (Found n header kind size) e =
-        let t : Turned l at [] n kind header size = turn_by r h e in
-        absurd (let s = t.splits in let z : ◌≡◌ {A = ℕ} 0 1 = cc in omega arith)
+    go : (next : Option Found) → next_of (drop at l) ≡ next → Turns l at []
+    go None e = done e
+    go (Some f) e =
+        let t : Turned l at [] f.at f.kind f.header f.size = turn_by r h e in
+        absurd (let s = t.splits in cc)
 turns-from l (option ∷ later) at h r = go (next_of (drop at l)) refl (turns-from l later)
   where
-    go : (next : Next) → next_of (drop at l) ≡ next → ((at : ℕ) → at ≤ length l → Rest l at later → Turns l at later) → Turns l at (option ∷ later)
-    go Nothing e ih =
+    go : (next : Option Found) → next_of (drop at l) ≡ next → ((at : ℕ) → at ≤ length l → Rest l at later → Turns l at later) → Turns l at (option ∷ later)
+    go None e ih =
         let none : [] ≡ option ∷ later = turn_by r h e in
-        absurd (let z : ◌≡◌ {A = ℕ} 0 1 = cc in omega arith)
-    go (Found n header kind size) e ih =
-        let t : Turned l at (option ∷ later) n kind header size = turn_by r h e in
+        cc
+    go (Some f) e ih =
+        let t : Turned l at (option ∷ later) f.at f.kind f.header f.size = turn_by r h e in
         let s = t.splits in
         let first : t.option ≡ option = cc in
         let others : t.later ≡ later = cc in
-        turn n kind header size e (subst (Got l (at + n) kind header size) first t.got)
-        (ih (at + n + size) t.got.fits (subst (Rest l (at + n + size)) others t.rest))
+        turn f.at f.kind f.header f.size e (subst (Got l (at + f.at) f.kind f.header f.size) first t.got)
+        (ih (at + f.at + f.size) t.got.fits (subst (Rest l (at + f.at + f.size)) others t.rest))
 
 pub options-by-turns : (l : List ℕ) (room : ℕ) (options : List Located) (fill : ℕ) → walk_from room 0 l ≡ listed options fill → Turns l 0 options
 options-by-turns l room options fill q = turns-from l options 0 (omega arith) (record { room = room; fill = fill; walks = q })
