@@ -1,5 +1,6 @@
 -- A value of include/wuraketozo.h tells the whole answer: whatever the crates below answer, the papers' answer can be read back from the value,
 -- so no two of them have one. Each reading back is by the value's numbers, and each case computes. Assumes nothing.
+use Rattle.std.proofs.Common.{Result, Ok, Err}
 use Prim.Native.Nat.{ℕ}
 use mathlib.Core.Path.{◌≡◌, refl, ap, ◌∙◌}
 use mathlib.Core.Bool.{Bool, true, false, cond}
@@ -29,8 +30,7 @@ use Rattle.wire_reading.specs.declared.Verdict.TheVariants.{
 }
 use Rattle.wire_datagram.specs.declared.reading.Refusal.TheVariants.{PayloadTooShort, PayloadTooLong, LengthOutOfRange, ChecksumWrong}
 use Rattle.wire_reading.specs.declared.Reading.{Reading as Whole}
-use Rattle.wire_datagram.specs.declared.reading.Outcome.{Outcome}
-use Rattle.wire_datagram.specs.declared.reading.Outcome.TheVariants.{Refused as Unread, Accepted}
+use Rattle.wire_datagram.specs.declared.reading.Refusal.{Refusal}
 use Rattle.host_readings.specs.declared.Reading.{Reading}
 use Rattle.host_readings.specs.Reading.{flag_of, offset_or, fragment_in, host_reading}
 
@@ -119,10 +119,10 @@ abbrev read_with : Whole → Verdict → Apc → Read.Answer
 read_with r verdict apc =
     Read.reads (record { user = r.user; verdict = verdict; options = r.options; count = r.count; fill = r.fill; apc = apc })
 
-pub reading-recovered : (o : Outcome) → answer_from (host_reading (answer_of o)) ≡ answer_of o
-reading-recovered (Unread PayloadTooShort) = refl
-reading-recovered (Unread PayloadTooLong) = refl
-reading-recovered (Unread LengthOutOfRange) = refl
-reading-recovered (Unread ChecksumWrong) = refl
-reading-recovered (Accepted r) =
+pub reading-recovered : (o : Result Whole Refusal) → answer_from (host_reading (answer_of o)) ≡ answer_of o
+reading-recovered (Err PayloadTooShort) = refl
+reading-recovered (Err PayloadTooLong) = refl
+reading-recovered (Err LengthOutOfRange) = refl
+reading-recovered (Err ChecksumWrong) = refl
+reading-recovered (Ok r) =
     ap (λ (v : Verdict). read_with r v (apc_from (apc_says r.apc).number)) (piece-recovered r.verdict) ∙ ap (read_with r r.verdict) (apc-recovered r.apc)

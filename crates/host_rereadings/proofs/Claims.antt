@@ -1,5 +1,6 @@
 -- A rereading's value of include/wuraketozo.h tells the whole answer: the papers' answer can be read back from the value, so no two of them have one. It is
 -- said of what `rereading` answers, whose verdict is never "piece", so that the value needs no fragment. Assumes nothing.
+use Rattle.std.proofs.Common.{Result, Ok, Err}
 use Prim.Native.Nat.{ℕ, ◌+◌}
 use mathlib.Core.Path.{◌≡◌, refl, ap}
 use mathlib.Core.Bool.{Bool, true, false, cond}
@@ -17,8 +18,8 @@ use Rattle.wire_options.specs.declared.walk.Fault.TheVariants as Met
 use Rattle.wire_reading.specs.Reading as Says
 use Rattle.wire_original.specs.Rereading as Reread
 use Rattle.wire_surplus.specs.Surplus.{start_of}
-use Rattle.wire_surplus.specs.declared.Start.{Start}
-use Rattle.wire_surplus.specs.declared.Start.TheVariants as Begun
+use Rattle.wire_surplus.specs.declared.Unlisted.{Unlisted}
+use Rattle.wire_surplus.specs.declared.Unlisted.TheVariants as Begun
 use Rattle.wire_reading.specs.declared.Apc.{Apc}
 use Rattle.wire_reading.specs.declared.Verdict.TheVariants.{Read as Listed}
 use Rattle.host_rereadings.specs.declared.Rereading.{Rereading}
@@ -62,13 +63,13 @@ walked-recovered original r from (listed options fill) =
     })) (apc-recovered (Says.apc_of (take r original) (Says.apc_values (items_in options))))
 walked-recovered original r from (faulty f remains) = faulty-recovered r f (Reread.offset_for original remains)
 
-started-recovered : (how : Strictness) (original : List ℕ) (r : ℕ) (s : Start) → Recovered (Reread.restarted how original r s)
-started-recovered how original r Begun.Empty = refl
-started-recovered how original r Begun.Short = refl
-started-recovered how original r Begun.Pad = refl
-started-recovered how original r Begun.Unsummed = refl
-started-recovered how original r Begun.BadSum = refl
-started-recovered how original r (Begun.List at) = walked-recovered original r (r + at) (walk_by how option_limit 0 (drop (r + at) original))
+started-recovered : (how : Strictness) (original : List ℕ) (r : ℕ) (s : Result ℕ Unlisted) → Recovered (Reread.restarted how original r s)
+started-recovered how original r (Err Begun.Empty) = refl
+started-recovered how original r (Err Begun.Short) = refl
+started-recovered how original r (Err Begun.Pad) = refl
+started-recovered how original r (Err Begun.Unsummed) = refl
+started-recovered how original r (Err Begun.BadSum) = refl
+started-recovered how original r (Ok at) = walked-recovered original r (r + at) (walk_by how option_limit 0 (drop (r + at) original))
 
 tested-recovered : (long past : Bool) (a : Reread.ReAnswer) → Recovered a → Recovered (Reread.re_answered (first_of ((long, 2) ∷ (past, 6) ∷ [])) a)
 unfolding first_of

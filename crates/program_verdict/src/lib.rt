@@ -1,7 +1,7 @@
 // The line of a verdict in a report (document 01, "The program").
 #![tactic(auto)]
 
-ghost use Rattle.std.specs.Prelude.{◌≤◌, length};
+ghost use Rattle.std.specs.Prelude.{◌≡◌, ◌≤◌, length};
 ghost use Rattle.program_text.specs.Put.{Put};
 ghost use Rattle.program_verdict.specs.Words.{verdict_line, word_of, end_by};
 
@@ -13,7 +13,7 @@ pub fn put_verdict(verdict: Verdict, text: &mut [u8], at: usize) -> usize
     ensures { Put text.old at (verdict_line verdict) result text.new }
 {
     let named = program_text::put(b"verdict ", text, at);
-    let judged = put_word(verdict, text, named);
+    let judged = program_text::put(word_of(verdict), text, named);
     put_end(wire_faults::fault_at(verdict), text, judged)
 }
 
@@ -28,23 +28,22 @@ fn put_end(fault: Option<PacketOffset>, text: &mut [u8], at: usize) -> usize
     }
 }
 
-fn put_word(verdict: Verdict, text: &mut [u8], at: usize) -> usize
-    requires { at ≤ length text.old }
-    ensures { Put text.old at (word_of verdict) result text.new }
+fn word_of(verdict: Verdict) -> &'static [u8]
+    ensures { result.now ≡ word_of verdict }
 {
     match verdict {
-        Verdict::Bare => program_text::put(b"none", text, at),
-        Verdict::Short => program_text::put(b"short", text, at),
-        Verdict::Pad => program_text::put(b"pad", text, at),
-        Verdict::Unsummed => program_text::put(b"unsummed", text, at),
-        Verdict::BadSum => program_text::put(b"badsum", text, at),
-        Verdict::Malformed(_) => program_text::put(b"malformed", text, at),
-        Verdict::Unsafe(_) => program_text::put(b"unsafe", text, at),
-        Verdict::FragData(_) => program_text::put(b"fragdata", text, at),
-        Verdict::Crowded(_) => program_text::put(b"crowded", text, at),
-        Verdict::Tail(_) => program_text::put(b"tail", text, at),
-        Verdict::Padded(_) => program_text::put(b"padded", text, at),
-        Verdict::Read => program_text::put(b"read", text, at),
-        Verdict::Piece(_) => program_text::put(b"piece", text, at),
+        Verdict::Bare => b"none",
+        Verdict::Short => b"short",
+        Verdict::Pad => b"pad",
+        Verdict::Unsummed => b"unsummed",
+        Verdict::BadSum => b"badsum",
+        Verdict::Malformed(_) => b"malformed",
+        Verdict::Unsafe(_) => b"unsafe",
+        Verdict::FragData(_) => b"fragdata",
+        Verdict::Crowded(_) => b"crowded",
+        Verdict::Tail(_) => b"tail",
+        Verdict::Padded(_) => b"padded",
+        Verdict::Read => b"read",
+        Verdict::Piece(_) => b"piece",
     }
 }

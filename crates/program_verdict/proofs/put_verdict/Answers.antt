@@ -4,14 +4,15 @@ use Rattle.program_verdict.specs.Words.{end_by, verdict_line}
 use Rattle.program_text.proofs.Puts.{put_as, put-append, put-room}
 use Rattle.program_verdict.proofs.put_verdict.Goals as goal
 
-pub put_word-judged-requires : goal.put_word-judged-requires
-put_word-judged-requires c = put-room c.requires c.put-named.ensures
+pub put-judged-requires : goal.put-judged-requires
+put-judged-requires c = put-room c.requires c.put-named.ensures
 
 pub put_end-requires : goal.put_end-requires
 put_end-requires c = let h = c.requires in
-    put-room h (put-append h c.put-named.ensures c.put_word-judged.ensures)
+    put-room h (put-append h c.put-named.ensures (put_as c.word_of.ensures c.put-judged.ensures))
 
 pub returns : goal.returns
 unfolding verdict_line
 returns c = let h = c.requires in
-    put-append h (put-append h c.put-named.ensures c.put_word-judged.ensures) (put_as (ap end_by c.fault_at.ensures) c.put_end.ensures)
+    put-append h (put-append h c.put-named.ensures (put_as c.word_of.ensures c.put-judged.ensures))
+    (put_as (ap end_by c.fault_at.ensures) c.put_end.ensures)
