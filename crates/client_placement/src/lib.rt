@@ -18,11 +18,7 @@ use client_record::{Assembly, Client, Fragment};
 fn matches(a: Assembly, o: Arrival) -> bool
     ensures { result ≡ matches o a }
 {
-    let flow = o.flow;
-    client_record::both(
-        client_record::live(a),
-        client_record::has_key(a, flow, o.identification),
-    )
+    client_record::live(a) && client_record::has_key(a, o.flow, o.identification)
 }
 
 // The place of the assembly with the offer's key; past the places if there is none.
@@ -76,11 +72,11 @@ fn opening(o: Arrival) -> Assembly
     let flow = o.flow;
     let fragments = none.fragments;
     Assembly {
-        flow: flow,
+        flow,
         identification: o.identification,
         opened: o.time,
         count: 0,
-        fragments: fragments,
+        fragments,
     }
 }
 
@@ -103,18 +99,11 @@ pub fn assembly_for(c: Client, p: usize, o: Arrival) -> Assembly
 fn alike(f: Fragment, g: Fragment) -> bool
     ensures { result ≡ alike f g }
 {
-    let marks = client_record::same_mark(
-        client_fragments::is_last(f),
-        client_fragments::is_last(g),
-    );
-    let starts = client_record::either(
-        !client_fragments::is_last(f),
-        f.option_start == g.option_start,
-    );
-    client_record::both(
-        f.offset == g.offset,
-        client_record::both(f.length == g.length, client_record::both(marks, starts)),
-    )
+    let last = client_fragments::is_last(f);
+    f.offset == g.offset
+        && f.length == g.length
+        && last == client_fragments::is_last(g)
+        && (!last || f.option_start == g.option_start)
 }
 
 // Some held fragment is alike.
@@ -127,7 +116,7 @@ fn alike_any(a: Assembly, f: Fragment) -> bool
     let mut i = 0;
     while i < n {
         let g = a.fragments[i];
-        found = client_record::either(found, alike(f, g));
+        found = found | alike(f, g);
         i += 1;
     }
     found
@@ -141,7 +130,7 @@ fn same_bytes(a: &[u8], b: &[u8]) -> bool
     let mut ok = true;
     let mut i = 0;
     while i < a.len() {
-        ok = client_record::both(ok, a[i] == b[i]);
+        ok = ok & (a[i] == b[i]);
         i += 1;
     }
     ok

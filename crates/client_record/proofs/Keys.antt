@@ -18,11 +18,11 @@ pointwise-same (x ∷ xs) [] = refl
 pointwise-same (x ∷ xs) (y ∷ ys) = ap (λ (t : Bool). eqb x y && t) (pointwise-same xs ys)
 
 -- what `==` of two flows ensures
-pub flow-same : (x y : Flow)
+pub derived_flow : (x y : Flow)
     → pointwise eqb x.source y.source
     && (pointwise eqb x.destination y.destination && (eqb x.source_port y.source_port && eqb x.destination_port y.destination_port))
     ≡ same_flow x y
 unfolding same_flow
-flow-same x y =
+derived_flow x y =
     ap₂ (λ (s d : Bool). s && (d && (eqb x.source_port y.source_port && eqb x.destination_port y.destination_port)))
     (pointwise-same x.source y.source) (pointwise-same x.destination y.destination)

@@ -149,6 +149,7 @@ pub fn fresh(plan: u64) -> Client
 // ---- keys
 
 // The assembly has this key.
+#[tactic(auto, using(crate::proofs::Keys::derived_flow), unfolding(crate::specs::Record::has_key))]
 pub fn has_key(a: Assembly, flow: Flow, identification: u32) -> bool
     ensures { result ≡ has_key flow identification a }
 {

@@ -2,15 +2,14 @@
 // is `client_held_test`'s.
 #![tactic(auto)]
 
-ghost use Rattle.std.specs.Prelude.{◌≡◌, ◌+◌, ◌≤◌, eqb, take};
+ghost use Rattle.std.specs.Prelude.{◌≡◌, ◌&&◌, ◌+◌, ◌≤◌, eqb, take};
+ghost use Rattle.std.specs.Bool.{then_some};
 ghost use Rattle.client_record.specs.Limits.{assembly_limit};
-ghost use Rattle.client_record.specs.Lists.{all, any};
+ghost use Rattle.client_record.specs.Lists.{all, any, sum};
 ghost use Rattle.client_record.specs.Record.{is_fresh_fragment, spare_slots, bytes_held};
-ghost use Rattle.client_record.specs.Record.{opened_within, sound_assembly, same_live_key, keys_differ, sums_to, balanced, sound_record};
-ghost use Rattle.client_held_test.specs.Held.{Tests};
-ghost use Rattle.client_record_test.specs.Parts.{unused_fields, sound_fields, AllTest};
+ghost use Rattle.client_record.specs.Record.{opened_within, sound_assembly, same_live_key, keys_differ, sums_to, balanced, within_plan, sound_record};
+ghost use Rattle.client_record_test.specs.Parts.{unused_fields, sound_fields};
 
-use client_held_test::Tested;
 use client_record::{Assembly, Client, Fragment};
 
 // ---- the slots of one assembly
@@ -30,11 +29,8 @@ fn spare_fresh(a: Assembly) -> bool
     ensures { result ≡ all is_fresh_fragment (spare_slots a) }
 {
     let mut stray = 0u64;
-    let mut i = client_fragments::held_count(a);
-    while i < client_record::FRAGMENT_LIMIT {
-        let f = a.fragments[i];
-        stray = stray | slot_word(f);
-        i += 1;
+    for i in client_fragments::held_count(a)..client_record::FRAGMENT_LIMIT {
+        stray |= slot_word(a.fragments[i]);
     }
     stray == 0
 }
@@ -42,14 +38,11 @@ fn spare_fresh(a: Assembly) -> bool
 // ---- one assembly
 
 // Its fields beside the slots are as in a fresh record.
+#[tactic(auto, using(client_record::proofs::Keys::derived_flow), unfolding(crate::specs::Parts::unused_fields))]
 fn unused(a: Assembly) -> bool
     ensures { result ≡ unused_fields a }
 {
-    let flows = client_record::same_flow(a.flow, client_record::fresh_flow());
-    client_record::both(
-        flows,
-        client_record::both(a.identification == 0, a.opened == 0),
-    )
+    a.flow == client_record::fresh_flow() && a.identification == 0 && a.opened == 0
 }
 
 // Opened at or before `time`, and less than the lifetime before it.
@@ -63,105 +56,81 @@ fn opened_within(a: Assembly, time: u64) -> bool
     time - opened < client_record::LIFETIME
 }
 
-// What the record test asks of a live assembly, but for its spare slots.
-fn live_tested(a: Assembly, time: u64) -> Tested
-    ensures { Tests (sound_fields time a) (bytes_held a) result }
+// What the record test asks of a live assembly, but for its spare slots: the bytes that it holds, where it passes.
+fn live_tested(a: Assembly, time: u64) -> Option<u32>
+    ensures { result ≡ then_some (sound_fields time a) (bytes_held a) }
 {
     let count = a.count as usize;
     if client_record::FRAGMENT_LIMIT < count {
-        return client_held_test::refused();
+        return None;
     }
-    let held = client_held_test::held_tested(a, count);
-    Tested {
-        sound: client_record::both(held.sound, opened_within(a, time)),
-        bytes: held.bytes,
+    if !opened_within(a, time) {
+        return None;
     }
+    client_held_test::held_tested(a, count)
 }
 
-fn assembly_tested(a: Assembly, time: u64) -> Tested
-    ensures { Tests (sound_assembly time a) (bytes_held a) result }
+// The bytes that an assembly holds, where it passes.
+fn assembly_tested(a: Assembly, time: u64) -> Option<u32>
+    ensures { result ≡ then_some (sound_assembly time a) (bytes_held a) }
 {
-    let spare = spare_fresh(a);
+    if !spare_fresh(a) {
+        return None;
+    }
     if client_record::live(a) {
-        let held = live_tested(a, time);
-        return Tested {
-            sound: client_record::both(held.sound, spare),
-            bytes: held.bytes,
-        };
+        return live_tested(a, time);
     }
-    Tested {
-        sound: client_record::both(unused(a), spare),
-        bytes: 0,
-    }
+    unused(a).then_some(0)
 }
 
 // ---- the record
 
-// Whether each assembly passes and none is live past the plan, and then the bytes of the live fragments.
-#[derive(Drop)]
-struct Assemblies {
-    sound: bool,
-    held: u64,
-}
-
-fn assemblies_tested(c: Client) -> Assemblies
-    ensures { AllTest c result }
+// The bytes of the live fragments, where each assembly passes and none is live past the plan.
+#[tactic(auto, unfolding(client_record::specs::Limits::assembly_limit))]
+fn assemblies_tested(c: Client) -> Option<u64>
+    ensures { result ≡ then_some (all (sound_assembly c.time) c.assemblies && within_plan c) (sum bytes_held c.assemblies) }
 {
     let time = c.time;
     let plan = c.plan as usize;
-    let mut ok = true;
     let mut total = 0u64;
-    let mut i = 0;
-    while i < client_record::ASSEMBLY_LIMIT {
+    for i in 0..client_record::ASSEMBLY_LIMIT {
         let a = c.assemblies[i];
-        let tested = assembly_tested(a, time);
-        let placed = client_record::either(i < plan, !client_record::live(a));
-        ok = client_record::both(ok, client_record::both(tested.sound, placed));
-        total += tested.bytes as u64;
-        i += 1;
+        if plan <= i && client_record::live(a) {
+            return None;
+        }
+        total += u64::from(assembly_tested(a, time)?);
     }
-    Assemblies {
-        sound: ok,
-        held: total,
-    }
+    Some(total)
 }
 
 // Both are live and have one key.
+#[tactic(auto, unfolding(client_record::specs::Record::same_live_key))]
 fn same_live_key(a: Assembly, b: Assembly) -> bool
     ensures { result ≡ same_live_key a b }
 {
-    let flow = a.flow;
-    let keys = client_record::has_key(b, flow, a.identification);
-    client_record::both(
-        client_record::live(a),
-        client_record::both(client_record::live(b), keys),
-    )
+    client_record::live(a) && client_record::live(b) && client_record::has_key(b, a.flow, a.identification)
 }
 
 // One of the first `n` assemblies has the key of `a`.
+#[tactic(auto, unfolding(client_record::specs::Limits::assembly_limit))]
 fn key_among(c: Client, n: usize, a: Assembly) -> bool
     requires { n ≤ assembly_limit }
     ensures { result ≡ any (λ b. same_live_key b a) (take n c.assemblies) }
 {
     let mut found = false;
-    let mut i = 0;
-    while i < n {
-        let b = c.assemblies[i];
-        found = client_record::either(found, same_live_key(b, a));
-        i += 1;
+    for i in 0..n {
+        found |= same_live_key(c.assemblies[i], a);
     }
     found
 }
 
+#[tactic(auto, unfolding(client_record::specs::Limits::assembly_limit))]
 fn keys_differ(c: Client) -> bool
     ensures { result ≡ keys_differ c.assemblies }
 {
     let mut ok = true;
-    let mut i = 0;
-    while i < client_record::ASSEMBLY_LIMIT {
-        let a = c.assemblies[i];
-        ok = client_record::both(ok, !key_among(c, i, a));
-        i += 1;
+    for i in 0..client_record::ASSEMBLY_LIMIT {
+        ok &= !key_among(c, i, c.assemblies[i]);
     }
     ok
 }
@@ -220,10 +189,5 @@ fn balanced(c: Client) -> bool
 pub fn sound(c: Client) -> bool
     ensures { result ≡ sound_record c }
 {
-    let assemblies = assemblies_tested(c);
-    let figures = client_record::both(c.held == assemblies.held, balanced(c));
-    client_record::both(
-        assemblies.sound,
-        client_record::both(keys_differ(c), figures),
-    )
+    assemblies_tested(c) == Some(c.held) && keys_differ(c) && balanced(c)
 }

@@ -1,10 +1,9 @@
 use Rattle.client_record.specs.declared.Assembly.{Assembly}
 use Rattle.client_record.specs.Record.{live, bytes_held, sound_assembly}
 use Rattle.client_record.specs.Lists.{all, sum}
-use Rattle.client_record.specs.Limits.{assembly_limit}
-use lib.ListN.{length, take, drop}
-use Prim.Native.Nat.{◌*◌, ◌-◌, ◌^◌, ◌≤◌}
-use mathlib.Core.Bool.{Bool, true, not, ◌&&◌}
+use lib.ListN.{take, drop}
+use Prim.Native.Nat.{◌*◌, ◌^◌, ◌≤◌}
+use mathlib.Core.Bool.{Bool, true, not}
 use mathlib.Core.List.{List}
 use mathlib.Core.Path.{◌≡◌}
 use Rattle.client_record_test.proofs.assemblies_tested.Given as goal
@@ -14,9 +13,7 @@ abbrev pub free : List Assembly → Bool
 free xs = all (λ a. not (live a)) xs
 
 abbrev pub invariant-loop-i : goal.invariant-loop-i
-invariant-loop-i l = (l.ok ≡ all (sound_assembly l.c.time) (take l.i l.c.assemblies) && free (drop l.c.plan (take l.i l.c.assemblies)))
-    × (l.ok ≡ true → l.total ≡ sum bytes_held (take l.i l.c.assemblies))
-    × (l.i ≤ assembly_limit) × (l.total ≤ l.i * 2 ^ 32) × (length l.c.assemblies ≡ assembly_limit)
-
-abbrev pub decreases-loop-i : goal.decreases-loop-i
-decreases-loop-i l = assembly_limit - l.i
+invariant-loop-i l = (all (sound_assembly l.c.time) (take l.i l.c.assemblies) ≡ true)
+    × (free (drop l.c.plan (take l.i l.c.assemblies)) ≡ true)
+    × (l.total ≡ sum bytes_held (take l.i l.c.assemblies))
+    × (l.total ≤ l.i * 2 ^ 32)

@@ -1,12 +1,13 @@
 -- `client_record_test::assembly_tested` meets its contract: of a live assembly and of an unused one the tests are the definition's, with those of the
 -- spare slots last.
 use Prim.Native.Nat.{ℕ}
-use mathlib.Core.Bool.{Bool, true, false, not, ◌&&◌}
+use mathlib.Core.Bool.{Bool, true, false, not, ◌&&◌, cond, and-true, and-false}
 use mathlib.Core.Path.{◌≡◌, refl, sym, ap, ap₂, ◌∙◌}
+use Rattle.std.specs.Bool.{then_some}
 use lib.Dec.{eqb, leb}
 use lib.ListN.{take}
 use borrow.Author.Tests.{eqb-true, eq-eqb, not-false}
-use Rattle.number_tests.proofs.Tests.{both_true, cond_yes, cond_no}
+use Rattle.number_tests.proofs.Tests.{cond_yes, cond_no}
 use Rattle.client_record.specs.declared.Assembly.{Assembly}
 use Rattle.client_record.specs.Limits.{fragment_limit}
 use Rattle.client_record.specs.Lists.{all, sum}
@@ -46,22 +47,35 @@ none-held : (a : Assembly) → a.count ≡ 0 → bytes_held a ≡ 0
 unfolding bytes_held held_fragments sum
 none-held a e = ap (λ (n : ℕ). sum (λ f. f.length) (take n a.fragments)) e
 
+-- with something in its spare slots none passes
+strayed : (t : ℕ) (a : Assembly) → all is_fresh_fragment (spare_slots a) ≡ false → sound_assembly t a ≡ false
+unfolding sound_assembly live
+strayed t a e = go (live a) refl
+  where
+    go : (b : Bool) → live a ≡ b → cond b (sound_live t a) (is_fresh_assembly a) ≡ false
+    go true l = live-parts t a ∙ ap (λ (x : Bool). sound_fields t a && x) e ∙ and-false (sound_fields t a)
+    go false l = fresh-parts a (eqb-true a.count 0 (not-false _ l)) ∙ ap (λ (x : Bool). unused_fields a && x) e ∙ and-false (unused_fields a)
+
+pub returns-then-not-spare_fresh : goal.returns-then-not-spare_fresh
+returns-then-not-spare_fresh c = let s = c.args in
+    sym (ap (λ (x : Bool). then_some x (bytes_held s.a)) (strayed s.time s.a (sym c.spare_fresh.ensures ∙ c.if-not-spare_fresh.true)))
+
 pub returns-then-live : goal.returns-then-live
 unfolding sound_assembly
 returns-then-live c = let s = c.args in
-    record {
-      sound = c.both.ensures ∙ ap₂ ◌&&◌ c.live_tested-held.ensures.sound c.spare_fresh-spare.ensures ∙ sym (live-parts s.time s.a)
-          ∙ sym (cond_yes (live s.a) _ _ (sym c.live.ensures ∙ c.if-live.true));
-      held = λ q. c.live_tested-held.ensures.held (both_true _ _ (sym c.both.ensures ∙ q)).0;
-    }
+    let spare = sym c.spare_fresh.ensures ∙ c.if-not-spare_fresh.false in
+    c.live_tested.ensures
+    ∙ ap (λ (x : Bool). then_some x (bytes_held s.a))
+    (sym (live-parts s.time s.a ∙ ap (λ (x : Bool). sound_fields s.time s.a && x) spare ∙ and-true (sound_fields s.time s.a))
+    ∙ sym (cond_yes (live s.a) _ _ (sym c.live.ensures ∙ c.if-live.true)))
 
 pub returns : goal.returns
 unfolding sound_assembly live
 returns c = let s = c.args in
+    let spare = sym c.spare_fresh.ensures ∙ c.if-not-spare_fresh.false in
     let dead = sym c.live.ensures ∙ c.if-live.false in
     let none = eqb-true s.a.count 0 (not-false _ dead) in
-    record {
-      sound = c.both-2.ensures ∙ ap₂ ◌&&◌ c.unused.ensures c.spare_fresh-spare.ensures ∙ sym (fresh-parts s.a none)
-          ∙ sym (cond_no (live s.a) _ _ dead);
-      held = λ q. sym (none-held s.a none);
-    }
+    c.then_some.ensures
+    ∙ ap₂ then_some
+    (c.unused.ensures ∙ sym (fresh-parts s.a none ∙ ap (λ (x : Bool). unused_fields s.a && x) spare ∙ and-true (unused_fields s.a))
+    ∙ sym (cond_no (live s.a) _ _ dead)) (sym (none-held s.a none))

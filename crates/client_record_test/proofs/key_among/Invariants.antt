@@ -1,13 +1,8 @@
 use Rattle.client_record.specs.Record.{same_live_key}
 use Rattle.client_record.specs.Lists.{any}
-use Rattle.client_record.specs.Limits.{assembly_limit}
-use lib.ListN.{length, take}
-use Prim.Native.Nat.{◌-◌, ◌≤◌}
+use lib.ListN.{take}
 use mathlib.Core.Path.{◌≡◌}
 use Rattle.client_record_test.proofs.key_among.Given as goal
 
 abbrev pub invariant-loop-i : goal.invariant-loop-i
-invariant-loop-i l = (l.found ≡ any (λ b. same_live_key b l.a) (take l.i l.c.assemblies)) × (l.i ≤ l.n) × (length l.c.assemblies ≡ assembly_limit)
-
-abbrev pub decreases-loop-i : goal.decreases-loop-i
-decreases-loop-i l = l.n - l.i
+invariant-loop-i l = l.found ≡ any (λ b. same_live_key b l.a) (take l.i l.c.assemblies)

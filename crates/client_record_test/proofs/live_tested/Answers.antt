@@ -1,10 +1,9 @@
 -- `client_record_test::live_tested` meets its contract: the tests are the definition's, in its order.
-use mathlib.Core.Bool.{◌&&◌}
-use mathlib.Core.Path.{sym, ap₂, ◌∙◌}
+use mathlib.Core.Bool.{and-true, and-false}
+use mathlib.Core.Path.{sym, ◌∙◌}
 use native.Mathlib.Omega.{arith}
 use lib.ListN.{length-take}
 use borrow.Author.Tests.{lt-leb, le-leb}
-use Rattle.number_tests.proofs.Tests.{true-false, both_true}
 use Rattle.client_record.specs.Limits.{fragment_limit}
 use Rattle.client_record.specs.Record.{held_fragments}
 use Rattle.client_record.proofs.Shapes.{slots}
@@ -13,22 +12,22 @@ use Rattle.client_record_test.proofs.live_tested.Goals as goal
 
 pub returns-then-count-gt-FRAGMENT_LIMIT : goal.returns-then-count-gt-FRAGMENT_LIMIT
 unfolding sound_fields fragment_limit
-returns-then-count-gt-FRAGMENT_LIMIT c = record {
-  sound = c.refused.ensures.sound ∙ simp (lt-leb _ _ c.if-count-gt-FRAGMENT_LIMIT.true);
-  held = λ q. absurd (true-false (sym q ∙ c.refused.ensures.sound));
-}
+returns-then-count-gt-FRAGMENT_LIMIT c = simp (lt-leb _ _ c.if-count-gt-FRAGMENT_LIMIT.true)
 
-pub held_tested-held-requires : goal.held_tested-held-requires
+pub returns-then-not-opened_within : goal.returns-then-not-opened_within
+unfolding sound_fields
+returns-then-not-opened_within c = let e = sym c.opened_within.ensures ∙ c.if-not-opened_within.true in
+    simp (e, and-false)
+
+pub held_tested-requires : goal.held_tested-requires
 unfolding held_fragments fragment_limit
-held_tested-held-requires c = let a = c.args.a in
+held_tested-requires c = let a = c.args.a in
     let front = length-take a.count a.fragments in
     let all_slots = slots a _ c.well_formed.0 in
     record { count = omega arith; within = omega arith }
 
 pub returns : goal.returns
 unfolding sound_fields fragment_limit
-returns c = record {
-  sound = c.both.ensures ∙ ap₂ ◌&&◌ c.held_tested-held.ensures.sound c.opened_within.ensures
-      ∙ simp (le-leb _ _ c.if-count-gt-FRAGMENT_LIMIT.false);
-  held = λ q. c.held_tested-held.ensures.held (both_true _ _ (sym c.both.ensures ∙ q)).0;
-}
+returns c =
+    let e = sym c.opened_within.ensures ∙ c.if-not-opened_within.false in
+    c.held_tested.ensures ∙ simp (le-leb _ _ c.if-count-gt-FRAGMENT_LIMIT.false, e, and-true)
