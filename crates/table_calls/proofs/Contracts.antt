@@ -19,7 +19,7 @@ use Rattle.client_record.specs.declared.Client.{Client}
 use Rattle.client_record.specs.Limits.{client_limit}
 use Rattle.client_record.specs.Lists.{all}
 use Rattle.client_reassembly.specs.declared.Answer.{Answer}
-use Rattle.client_reassembly.specs.Answer.{refused, number_of, reply_of}
+use Rattle.client_reassembly.specs.declared.Refusal.{Refusal}
 use Rattle.client_reassembly.specs.declared.Answer.TheVariants.{Reset}
 use Rattle.client_ledger.specs.History.{Lent, Ask, call_on}
 use Rattle.table_rules.specs.Table.{
@@ -44,23 +44,10 @@ use Rattle.table_rules.specs.Table.{
   Leaves,
 }
 use Rattle.table_rules.proofs.Facts.{fits, few-clients, granted-is, refused-leaves, reset-refused-leaves, reset-leaves}
-use Rattle.table_admission.specs.declared.Admission.{Admission}
-use Rattle.table_admission.specs.Admission.{admitted, start_in, refusal_in, is_none, Admits}
+use Rattle.table_admission.specs.Admission.{Admits}
+use Rattle.std.specs.Prelude.{Result, Ok, Err}
 
 -- ---- what a call leaves, by its admission
-
-none_is : (r : Option ℕ) → is_none r ≡ true → r ≡ none
-none_is none e = refl
-none_is (some n) e = absurd (true-false (sym e))
-
-some_is : (r : Option ℕ) → is_none r ≡ false → (P : Type 0) → ((n : ℕ) → r ≡ some n → P) → P
-some_is none e P then = absurd (true-false e)
-some_is (some n) e P then = then n refl
-
--- the answer of a refused call has the number of its refusal
-refusal-says : (p : Admission) (n : ℕ) → admitted p ≡ some n → reply_of (refusal_in p) ≡ refused n
-refusal-says (Admission.Refused r) n e = let z : number_of r ≡ n = cc in ap refused z
-refusal-says (Admission.Granted start) n e = let z : ◌≡◌ {A = ℕ} 0 1 = cc in absurd (omega arith)
 
 -- the table has the sizes and plans that 20 and 32 ask for, there is a client k, and this is where its share starts
 pub record Granted (t : Table) (k start : ℕ) : Type 0 where
@@ -85,19 +72,15 @@ asked-fit l k e =
       leb-false l.count k t21.0,
     )
 
-module _ (k : ℕ) (t : Table) (p : Admission) (ok : Admits (lent_of t) k p) where
-  pub granted : is_none (admitted p) ≡ true → Granted t k (start_in p)
-  granted e =
-      let n = none_is (admitted p) e in
-      let f = asked-fit (lent_of t) k (sym ok.tests ∙ n) in
-      let starts = ok.start in
-      record { fit = f.0; there = f.1; starts = starts n }
+pub granted : (k : ℕ) (t : Table) (start : ℕ) → Admits (lent_of t) k (Ok start) → Granted t k start
+granted k t start ok =
+    let f = asked-fit (lent_of t) k (sym ok.tests) in
+    record { fit = f.0; there = f.1; starts = ok.start }
 
-  pub refused-call : (a : Ask) (r : Answer) → is_none (admitted p) ≡ false → r ≡ refusal_in p → Leaves (ask_on k a t) r t.records t.store (out_lent a)
-  refused-call a r e is =
-      some_is (admitted p) e _ (λ n q. refused-leaves k a t r n (sym ok.tests ∙ q) (ap reply_of is ∙ refusal-says p n q))
+pub refused-call : (k : ℕ) (t : Table) (r : Refusal) → Admits (lent_of t) k (Err r) → (a : Ask) → Leaves (ask_on k a t) (Err r) t.records t.store (out_lent a)
+refused-call k t r ok a = refused-leaves k a t r (sym ok.tests)
 
-pub granted-leaves : (k : ℕ) (a : Ask) (t : Table) (r : Answer) (records : List Client) (store out : List ℕ) → sized (lent_of t) ≡ true
+pub granted-leaves : (k : ℕ) (a : Ask) (t : Table) (r : Result Answer Refusal) (records : List Client) (store out : List ℕ) → sized (lent_of t) ≡ true
     → k < length t.records → Leaves (after_call k (call_on (record_of k t) (share_of k t) a) t) r records store out → Leaves (ask_on k a t) r records store out
 granted-leaves k a t r records store out e h l = subst (λ (x : After). Leaves x r records store out) (sym (granted-is k a t e h)) l
 
@@ -122,16 +105,12 @@ first-client l = go (first_of (size_tests l)) refl
     go none e = first-behind (size_tests l) ((leb l.count 0, 21) ∷ []) e ∙ some-record l e
     go (some n) e = first-front (size_tests l) ((leb l.count 0, 21) ∷ []) n e
 
-module _ (t : Table) (p : Admission) (ok : Admits (lent_of t) 0 p) where
-  pub refused-reset : (r : Answer) → is_none (admitted p) ≡ false → r ≡ refusal_in p → Leaves (reset_on t) r t.records t.store []
-  refused-reset r e is =
-      some_is (admitted p) e _
-      (λ n q. reset-refused-leaves t r n (sym (first-client (lent_of t)) ∙ sym ok.tests ∙ q) (ap reply_of is ∙ refusal-says p n q))
+pub refused-reset : (t : Table) (r : Refusal) → Admits (lent_of t) 0 (Err r) → Leaves (reset_on t) (Err r) t.records t.store []
+refused-reset t r ok = reset-refused-leaves t r (sym (first-client (lent_of t)) ∙ sym ok.tests)
 
-  pub granted-reset : (r : Answer) (records : List Client) → is_none (admitted p) ≡ true → r ≡ Reset → records ≡ (cleared t).records
-      → Leaves (reset_on t) r records t.store []
-  granted-reset r records e is all-fresh =
-      reset-leaves t r records (sym (first-client (lent_of t)) ∙ sym ok.tests ∙ none_is (admitted p) e) is all-fresh
+pub granted-reset : (t : Table) (start : ℕ) → Admits (lent_of t) 0 (Ok start) → (records : List Client) → records ≡ (cleared t).records
+    → Leaves (reset_on t) (Ok Reset) records t.store []
+granted-reset t start ok records all-fresh = reset-leaves t records (sym (first-client (lent_of t)) ∙ sym ok.tests) all-fresh
 
 -- ---- a list of records that is replaced from the front, each by f of itself
 

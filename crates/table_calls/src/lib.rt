@@ -6,7 +6,6 @@
 
 ghost use Rattle.std.specs.Prelude.{◌≡◌, [], ◌≤◌};
 ghost use Rattle.client_record.specs.Limits.{assembly_limit, share_size};
-ghost use Rattle.client_record.specs.Record.{fresh_client};
 ghost use Rattle.client_ledger.specs.History.{offering, advancing, accounting};
 ghost use Rattle.table_rules.specs.Table.{table_of, reset_on, ask_on, Leaves};
 
@@ -22,24 +21,14 @@ fn share_of(client: Client) -> usize
     plan * client_record::DATAGRAM_LIMIT
 }
 
-// A fresh record with the client's plan.
-fn fresh_of(client: Client) -> Client
-    ensures { result ≡ fresh_client client.plan }
-{
-    client_record::fresh(client.plan)
-}
-
 // Document 01's set-up: every record is fresh, with the plan that it has, and the store stays.
 pub fn reset(records: &mut [Client], store: &[u8]) -> Result<Answer, Refusal>
     ensures { Leaves (reset_on (table_of records.old store.now)) result records.new store.now [] }
 {
     table_admission::admit(records, store.len(), 0)?;
-    let mut i = 0;
-    while i < records.len() {
-        let client = records[i];
-        let next = fresh_of(client);
-        records[i] = next;
-        i += 1;
+    for record in records.iter_mut() {
+        let next = client_record::fresh(record.plan);
+        *record = next;
     }
     Ok(Answer::Reset)
 }

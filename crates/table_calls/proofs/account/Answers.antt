@@ -10,59 +10,45 @@ use Rattle.std.proofs.lemmas.List.{get_or_default}
 use Rattle.client_record.specs.declared.Client.{Client}
 use Rattle.client_record.specs.Limits.{client_limit, share_size}
 use Rattle.client_record.specs.Record.{blank_client}
-use Rattle.client_reassembly.specs.declared.Answer.{Answer}
 use Rattle.client_reassembly.specs.declared.Step.{Step}
 use Rattle.client_reassembly.specs.Advance.{account_on}
-use Rattle.client_reassembly.specs.Answer.{reply_of}
 use Rattle.client_reassembly.specs.Post.{StepGives}
 use Rattle.client_ledger.specs.History.{accounting}
 use Rattle.table_rules.specs.Table.{Table, plans_of, table_of, record_of, share_start, ask_on, Leaves}
 use Rattle.table_rules.proofs.Facts.{account-keeps, share-fits, same-part}
-use Rattle.table_admission.specs.Admission.{start_in}
+use Rattle.std.proofs.lemmas.Result.{err_from_is_err_and}
 use Rattle.table_calls.proofs.Contracts.{Granted, few-of, granted, refused-call, granted-leaves}
 use Rattle.table_calls.proofs.account.Goals as goal
 
 -- the client's own account, of the record that is read of client k
-account-leaves : (t : Table) (k from : ℕ) (d : Client) (step : Step) (r : Answer) → Granted t k from → StepGives (account_on (get_or t.records k d)) step
-    → r ≡ step.answer → Leaves (ask_on k accounting t) r t.records t.store []
-account-leaves t k from d step r g gives e =
+account-leaves : (t : Table) (k from : ℕ) (d : Client) (step : Step) → Granted t k from → StepGives (account_on (get_or t.records k d)) step
+    → Leaves (ask_on k accounting t) step.answer t.records t.store []
+account-leaves t k from d step g gives =
     let did : StepGives (account_on (record_of k t)) step =
     subst (λ (c : Client). StepGives (account_on c) step) (get_or_default t.records k d blank_client g.there) gives in
     granted-leaves k accounting t _ t.records t.store [] g.fit g.there
     (record {
-      answers = ap reply_of e ∙ did.reply;
+      answers = did.reply;
       records_left = sym (ap (set t.records k) (account-keeps (record_of k t)) ∙ set-get_or t.records k blank_client);
       store_left = sym (same-part t.store (share_start k (plans_of t.records)) (share_size (record_of k t).plan) (share-fits t k g.fit g.there));
       out_left = refl;
     })
 
-pub returns-then-not-is_granted : goal.returns-then-not-is_granted
-returns-then-not-is_granted c =
-    let a = c.args in
-    refused-call a.k (table_of a.records.now a.store.now) _ c.admit-admission.ensures accounting _
-    (sym c.is_granted.ensures ∙ c.if-not-is_granted.true) c.refusal_of.ensures
+pub returns-in_err-admit : goal.returns-in_err-admit
+returns-in_err-admit c =
+    let p = err_from_is_err_and c.from_residual.result c.from_residual.ensures.1 in
+    rw (p.1, p.2) (refused-call c.args.k (table_of c.args.records.now c.args.store.now) _ c.in_err-admit.ensures accounting)
 
 pub offset_bounds-records-k : goal.offset_bounds-records-k
 unfolding client_limit
 offset_bounds-records-k c =
-    let a = c.args in
-    let t = table_of a.records.now a.store.now in
-    let g : Granted t a.k (start_in c.admit-admission.result) =
-    granted a.k t _ c.admit-admission.ensures (sym c.is_granted.ensures ∙ c.if-not-is_granted.false) in
+    let g = granted c.args.k (table_of c.args.records.now c.args.store.now) _ c.in_ok-admit.ensures in
     omega (arith, g.there, few-of g)
 
 pub bounds-records-k : goal.bounds-records-k
-bounds-records-k c =
-    let a = c.args in
-    let t = table_of a.records.now a.store.now in
-    let g : Granted t a.k (start_in c.admit-admission.result) =
-    granted a.k t _ c.admit-admission.ensures (sym c.is_granted.ensures ∙ c.if-not-is_granted.false) in
-    g.there
+bounds-records-k c = (granted _ (table_of c.args.records.now c.args.store.now) _ c.in_ok-admit.ensures).there
 
 pub returns : goal.returns
 returns c =
-    let a = c.args in
-    let t = table_of a.records.now a.store.now in
-    let g : Granted t a.k (start_in c.admit-admission.result) =
-    granted a.k t _ c.admit-admission.ensures (sym c.is_granted.ensures ∙ c.if-not-is_granted.false) in
-    account-leaves t a.k _ _ _ _ g c.account.ensures c.answer_of.ensures
+    let g = granted c.args.k (table_of c.args.records.now c.args.store.now) _ c.in_ok-admit.ensures in
+    account-leaves _ c.args.k _ _ _ g c.account-step.ensures
