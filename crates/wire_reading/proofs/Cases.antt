@@ -13,8 +13,9 @@ use Rattle.wire_area.specs.Area.{AreaWalk, plain, piece, fault, area_of}
 use Rattle.wire_area.specs.declared.Fragment.{Fragment}
 use Rattle.wire_area.proofs.Areas.{area-plain}
 use Rattle.wire_surplus.specs.Surplus.{start_of}
-use Rattle.wire_surplus.specs.declared.Start.{Start}
-use Rattle.wire_surplus.specs.declared.Start.TheVariants.{Empty, Short as short_area, Pad as bad_pad, Unsummed as no_sum, BadSum as bad_sum, List as ListAt}
+use Rattle.std.specs.Prelude.{Result, Ok, Err}
+use Rattle.wire_surplus.specs.declared.Unlisted.{Unlisted}
+use Rattle.wire_surplus.specs.declared.Unlisted.TheVariants.{Empty, Short as short_area, Pad as bad_pad, Unsummed as no_sum, BadSum as bad_sum}
 use Rattle.wire_surplus.proofs.Starts.{start-list}
 use Rattle.wire_reading.specs.Reading.{no_data, optionless, walked, started}
 use Rattle.wire_reading.specs.declared.Reading.{Reading}
@@ -57,12 +58,12 @@ module _
   walked_by from (fault tailed at) h e = by-other _ (Tail at) tt
   walked_by from (fault padded_list at) h e = by-other _ (Padded at) tt
 
-  pub started-by : (odd unused : Bool) (start : Start) → start_of odd unused (drop size p) ≡ start → P (started how p size start)
-  started-by odd unused Empty e = by-other _ Bare tt
-  started-by odd unused short_area e = by-other _ Short tt
-  started-by odd unused bad_pad e = by-other _ Pad tt
-  started-by odd unused no_sum e = by-other _ Unsummed tt
-  started-by odd unused bad_sum e = by-other _ BadSum tt
-  started-by odd unused (ListAt at) e =
+  pub started-by : (odd unused : Bool) (start : Result ℕ Unlisted) → start_of odd unused (drop size p) ≡ start → P (started how p size start)
+  started-by odd unused (Err Empty) e = by-other _ Bare tt
+  started-by odd unused (Err short_area) e = by-other _ Short tt
+  started-by odd unused (Err bad_pad) e = by-other _ Pad tt
+  started-by odd unused (Err no_sum) e = by-other _ Unsummed tt
+  started-by odd unused (Err bad_sum) e = by-other _ BadSum tt
+  started-by odd unused (Ok at) e =
       let within : at ≤ length (drop size p) = start-list odd unused (drop size p) at e in
       walked_by (size + at) (area_of how (no_data size) (size + at) (drop (size + at) p)) (omega (arith, simp length-drop at within)) refl

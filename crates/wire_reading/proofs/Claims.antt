@@ -7,8 +7,8 @@ use lib.ListN.{drop}
 use Rattle.number_offsets.specs.Offsets.{udp_header}
 use Rattle.wire_nops.specs.declared.Strictness.{Strictness}
 use Rattle.wire_area.specs.Area.{AreaWalk, plain, piece, fault, area_of}
-use Rattle.wire_surplus.specs.declared.Start.{Start}
-use Rattle.wire_surplus.specs.declared.Start.TheVariants.{Empty, Short, Pad, Unsummed, BadSum, List as ListAt}
+use Rattle.std.specs.Prelude.{Result, Ok, Err}
+use Rattle.wire_surplus.specs.declared.Unlisted.{Unlisted}
 use Rattle.wire_reading.specs.Reading.{no_data, extent, walked, started}
 
 walked-user : (p : List ℕ) (size from : ℕ) (w : AreaWalk) → (walked p size from w).user ≡ extent udp_header size
@@ -16,10 +16,6 @@ walked-user p size from (plain options fill) = refl
 walked-user p size from (piece f) = refl
 walked-user p size from (fault f at) = refl
 
-pub started-user : (how : Strictness) (p : List ℕ) (size : ℕ) (start : Start) → (started how p size start).user ≡ extent udp_header size
-started-user how p size Empty = refl
-started-user how p size Short = refl
-started-user how p size Pad = refl
-started-user how p size Unsummed = refl
-started-user how p size BadSum = refl
-started-user how p size (ListAt at) = walked-user p size (size + at) (area_of how (no_data size) (size + at) (drop (size + at) p))
+pub started-user : (how : Strictness) (p : List ℕ) (size : ℕ) (start : Result ℕ Unlisted) → (started how p size start).user ≡ extent udp_header size
+started-user how p size (Err unlisted) = refl
+started-user how p size (Ok at) = walked-user p size (size + at) (area_of how (no_data size) (size + at) (drop (size + at) p))

@@ -1,11 +1,13 @@
 -- `wire_reading::listed` meets its contract: the arm knows what the walk told, and the reading by that is the definition's.
-use Rattle.wire_reading.specs.Reading.{extent, no_data, optionless}
-use mathlib.Core.Path.{◌≡◌, refl, sym, ap, ◌∙◌}
+use Rattle.wire_reading.specs.Reading.{extent, no_data, optionless, walked}
+use mathlib.Core.Path.{◌≡◌, sym, ap, ◌∙◌}
 use mathlib.Core.List.{List}
 use Prim.Native.Nat.{ℕ, ◌-◌}
 use mathlib.Core.Bool.{Bool}
 use Rattle.number_octets.specs.Octets.{part}
 use Rattle.wire_nops.specs.declared.Strictness.{Strictness}
+use Rattle.std.specs.Prelude.{Result, Ok}
+use Rattle.wire_options.specs.declared.walk.Met.{Met}
 use Rattle.wire_area.specs.declared.Area.{Area}
 use native.Mathlib.Omega.{arith}
 use lib.ListN.{length, drop}
@@ -19,40 +21,38 @@ use Rattle.wire_reading.proofs.Readings.{reading-by-answer}
 use Rattle.wire_reading.proofs.listed.Goals as goal
 
 -- the walk was made of the list behind `from`
-area : (strictness : Strictness) (empty : Bool) (from : ℕ) (l : List ℕ) (result : Area) → result ≡ area_answer (area_of strictness empty from (part from (length l - from) l))
-    → area_answer (area_of strictness empty from (drop from l)) ≡ result
-area strictness empty from l result e = sym (e ∙ ap (λ (t : List ℕ). area_answer (area_of strictness empty from t)) (part-rest from l))
+area : (strictness : Strictness) (empty : Bool) (payload : List ℕ) (size from : ℕ) (result met : Result Area Met)
+    → result ≡ area_answer (area_of strictness empty from (part from (length payload - from) payload)) → result ≡ met
+    → reading_by payload size from met ≡ walked payload size from (area_of strictness empty from (drop from payload))
+area strictness empty payload size from result met e m =
+    ap (reading_by payload size from) (sym m ∙ e ∙ ap (λ (t : List ℕ). area_answer (area_of strictness empty from t)) (part-rest from payload))
+    ∙ reading-by-answer payload size from (area_of strictness empty from (drop from payload))
 
 pub apc_of-requires : goal.apc_of-requires
 unfolding udp_header
 apc_of-requires c = omega (arith, c.requires)
 
-pub returns-in-Listed : goal.returns-in-Listed
+pub returns-in-Ok-Listed : goal.returns-in-Ok-Listed
 unfolding udp_header
-returns-in-Listed c = let a = c.args in
-    ◌∙◌ {b = reading_by a.payload.now a.size a.from.0
-    (Listed c.in-Listed.count c.in-Listed.fill c.in-Listed.apcs)}
+returns-in-Ok-Listed c = let a = c.args in
+    ◌∙◌ {b = reading_by a.payload.now a.size a.from.0 (Ok (Listed c.in-Ok-Listed.list))}
     (λ i. record {
       user = extent udp_header a.size;
       verdict = Read;
       options = extent a.from.0 (length a.payload.now);
-      count = c.in-Listed.count;
-      fill = c.in-Listed.fill;
+      count = c.in-Ok-Listed.list.count;
+      fill = c.in-Ok-Listed.list.fill;
       apc = c.apc_of.ensures i;
-    }) (refl)
-    ∙ ap (reading_by a.payload.now a.size a.from.0) (sym (area a.strictness (no_data a.size) a.from.0 a.payload.now _ c.walk_area-list.ensures ∙ c.in-Listed.is))
-    ∙ reading-by-answer a.payload.now a.size a.from.0 (area_of a.strictness (no_data a.size) a.from.0 (drop a.from.0 a.payload.now))
+    })
+    (area a.strictness (no_data a.size) a.payload.now a.size a.from.0 _ _ c.walk_area.ensures (c.in-Ok-Listed.is ∙ ap Ok c.in-Ok-Listed.field-0-is))
 
-pub returns-in-Piece : goal.returns-in-Piece
+pub returns-in-Ok-Piece : goal.returns-in-Ok-Piece
 unfolding udp_header
-returns-in-Piece c = let a = c.args in
-    c.optionless.ensures
-    ∙ ap (reading_by a.payload.now a.size a.from.0) (sym (area a.strictness (no_data a.size) a.from.0 a.payload.now _ c.walk_area-list.ensures ∙ c.in-Piece.is))
-    ∙ reading-by-answer a.payload.now a.size a.from.0 (area_of a.strictness (no_data a.size) a.from.0 (drop a.from.0 a.payload.now))
+returns-in-Ok-Piece c = let a = c.args in
+    c.optionless.ensures ∙ area a.strictness (no_data a.size) a.payload.now a.size a.from.0 _ _ c.walk_area.ensures (c.in-Ok-Piece.is ∙ ap Ok c.in-Ok-Piece.field-0-is)
 
-pub returns-in-Faulty : goal.returns-in-Faulty
+pub returns-in-Err : goal.returns-in-Err
 unfolding udp_header
-returns-in-Faulty c = let a = c.args in
-    c.optionless-in-Faulty.ensures ∙ ap (optionless a.size) c.verdict_of.ensures
-    ∙ ap (reading_by a.payload.now a.size a.from.0) (sym (area a.strictness (no_data a.size) a.from.0 a.payload.now _ c.walk_area-list.ensures ∙ c.in-Faulty.is))
-    ∙ reading-by-answer a.payload.now a.size a.from.0 (area_of a.strictness (no_data a.size) a.from.0 (drop a.from.0 a.payload.now))
+returns-in-Err c = let a = c.args in
+    c.optionless-in-Err.ensures ∙ ap (optionless a.size) c.from.ensures
+    ∙ area a.strictness (no_data a.size) a.payload.now a.size a.from.0 _ _ c.walk_area.ensures c.in-Err.is
