@@ -1,2 +1,3 @@
 pub mod Laws
+pub mod RunBytes
 pub mod ZeroBytes

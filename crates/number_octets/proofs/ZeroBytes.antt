@@ -2,18 +2,16 @@
 -- Assumes nothing.
 use mathlib.Core.Path.{◌≡◌, refl, sym, ap, ap₂, ◌∙◌}
 use mathlib.Core.Bool.{Bool, true, false, cond, ◌&&◌}
-use mathlib.Core.List.{List, [], ◌∷◌, ◌++◌, reverse}
-use Prim.Native.Nat.{ℕ, zero, suc, ◌+◌, ◌*◌, ◌≤◌, ◌<◌}
-use native.Mathlib.Numerals.{add-one}
+use mathlib.Core.List.{List, [], ◌∷◌}
+use Prim.Native.Nat.{ℕ, zero, suc, ◌+◌, ◌≤◌, ◌<◌}
 use native.Mathlib.Omega.{arith}
 use borrow.Author.Tests.{eq-eqb, ne_eqb, eqb-true, eqb-false}
 use lib.Bits.{bit_or, or_add_and, and_le_l, and_le_r}
 use lib.Dec.{eqb}
-use lib.ListN.{length, take, drop, get_or, replicate, take-append-drop, drop_of_length-le}
-use lib.Seq.{take-add, drop-cons}
-use Rattle.number_octets.specs.Octets.{number, part}
+use lib.ListN.{length, get_or, replicate}
+use Rattle.std.specs.List.{fold}
+use Rattle.number_octets.specs.Runs.{run_of}
 use Rattle.number_octets.specs.Zeros.{all_zero, zeros_of}
-use Rattle.number_octets.proofs.Laws.{part-four, little-four}
 
 -- ---- lists
 
@@ -21,22 +19,9 @@ and_assoc : (a b c : Bool) → (a && b) && c ≡ a && (b && c)
 and_assoc true b c = refl
 and_assoc false b c = refl
 
-pub zero-append : (a b : List ℕ) → all_zero (a ++ b) ≡ all_zero a && all_zero b
-unfolding all_zero
-zero-append [] b = refl
-zero-append (x ∷ a) b = ap (λ (t : Bool). eqb x 0 && t) (zero-append a b) ∙ sym (and_assoc (eqb x 0) (all_zero a) (all_zero b))
-
-pub zero-split : (n : ℕ) (l : List ℕ) → all_zero l ≡ all_zero (take n l) && all_zero (drop n l)
-zero-split n l = ap all_zero (sym (take-append-drop n l)) ∙ zero-append (take n l) (drop n l)
-
--- some bytes more
-pub zero_more : (n k : ℕ) (l : List ℕ) → all_zero (take (n + k) l) ≡ all_zero (take n l) && all_zero (part n k l)
-zero_more n k l = ap all_zero (take-add n k l) ∙ zero-append (take n l) (part n k l)
-
--- the byte at `at`, and those behind it
-pub zero-at : (at : ℕ) (l : List ℕ) → at < length l → all_zero (drop at l) ≡ eqb (get_or l at 0) 0 && all_zero (drop (at + 1) l)
-unfolding all_zero
-zero-at at l h = ap all_zero (drop-cons l at 0 h) ∙ ap (λ (n : ℕ). eqb (get_or l at 0) 0 && all_zero (drop n l)) (sym (add-one at))
+and-true : (a : Bool) → a ≡ a && true
+and-true true = refl
+and-true false = refl
 
 pub zero-alike : (n : ℕ) → all_zero (replicate n 0) ≡ true
 unfolding all_zero
@@ -55,34 +40,10 @@ zero-only (b ∷ l) e = go (eqb b 0) refl e (zero-only l)
 
 -- ---- the zeros in front of another byte
 
-zeros-front : (l : List ℕ) (i : ℕ) → i < length l → zeros_of (drop i l) ≡ cond (eqb (get_or l i 0) 0) (1 + zeros_of (drop (i + 1) l)) 0
-unfolding zeros_of
-zeros-front l i h = ap zeros_of (drop-cons l i 0 h) ∙ ap (λ (k : ℕ). cond (eqb (get_or l i 0) 0) (1 + zeros_of (drop k l)) 0) (sym (add-one i))
-
-pub zeros-one : (l : List ℕ) (i : ℕ) → i < length l → get_or l i 0 ≡ 0 → zeros_of (drop i l) ≡ 1 + zeros_of (drop (i + 1) l)
-zeros-one l i h e = zeros-front l i h ∙ simp (eq-eqb (get_or l i 0) 0 e)
-
-pub zeros-other : (l : List ℕ) (i : ℕ) → i < length l → (get_or l i 0 ≡ 0 → ⊥) → zeros_of (drop i l) ≡ 0
-zeros-other l i h d = zeros-front l i h ∙ simp (ne_eqb (get_or l i 0) 0 d)
-
-pub zeros-none : (l : List ℕ) (i : ℕ) → length l ≤ i → zeros_of (drop i l) ≡ 0
-unfolding zeros_of
-zeros-none l i h = ap zeros_of (drop_of_length-le l h)
-
-pub zeros-four : (l : List ℕ) (i : ℕ) → i + 4 ≤ length l → number (reverse (part i 4 l)) ≡ 0 → zeros_of (drop i l) ≡ 4 + zeros_of (drop (i + 4) l)
-zeros-four l i h e =
-    let word : get_or l i 0 + get_or l (i + 1) 0 * 256 + get_or l (i + 2) 0 * 65536 + get_or l (i + 3) 0 * 16777216 ≡ 0 = sym (little-four i l h) ∙ e in
-    let at1 : i + 1 + 1 ≡ i + 2 = omega arith in
-    let at2 : i + 2 + 1 ≡ i + 3 = omega arith in
-    let at3 : i + 3 + 1 ≡ i + 4 = omega arith in
-    let n0 : zeros_of (drop i l) ≡ 1 + zeros_of (drop (i + 1) l) = zeros-one l i (omega arith) (omega arith) in
-    let n1 : zeros_of (drop (i + 1) l) ≡ 1 + zeros_of (drop (i + 2) l) =
-    zeros-one l (i + 1) (omega arith) (omega arith) ∙ ap (λ (k : ℕ). 1 + zeros_of (drop k l)) at1 in
-    let n2 : zeros_of (drop (i + 2) l) ≡ 1 + zeros_of (drop (i + 3) l) =
-    zeros-one l (i + 2) (omega arith) (omega arith) ∙ ap (λ (k : ℕ). 1 + zeros_of (drop k l)) at2 in
-    let n3 : zeros_of (drop (i + 3) l) ≡ 1 + zeros_of (drop (i + 4) l) =
-    zeros-one l (i + 3) (omega arith) (omega arith) ∙ ap (λ (k : ℕ). 1 + zeros_of (drop k l)) at3 in
-    omega arith
+pub zeros-run : (l : List ℕ) → run_of 0 l ≡ zeros_of l
+unfolding run_of zeros_of
+zeros-run [] = refl
+zeros-run (b ∷ bs) = ap (λ (n : ℕ). cond (eqb b 0) (1 + n) 0) (zeros-run bs)
 
 pub zeros_within : (l : List ℕ) → zeros_of l ≤ length l
 unfolding zeros_of
@@ -120,7 +81,7 @@ first-set (b ∷ bs) e = let g = go (eqb b 0) refl e (first-set bs) in record { 
         )
     go false p e ih = (omega arith, eqb-false b 0 p, λ i h. absurd (omega arith))
 
--- ---- words
+-- ---- bits
 
 pub or-zero : (a b : ℕ) → eqb (bit_or a b) 0 ≡ eqb a 0 && eqb b 0
 or-zero a b = go (eqb a 0) (eqb b 0) refl refl
@@ -130,22 +91,9 @@ or-zero a b = go (eqb a 0) (eqb b 0) refl refl
     go true false p q = ne_eqb (bit_or a b) 0 (λ e. eqb-false b 0 q (omega (arith, or_add_and a b, and_le_l a b)))
     go false t p q = ne_eqb (bit_or a b) 0 (λ e. eqb-false a 0 p (omega (arith, or_add_and a b, and_le_r a b)))
 
-four-zero : (a b c d : ℕ) → eqb (a + b * 256 + c * 65536 + d * 16777216) 0 ≡ eqb a 0 && (eqb b 0 && (eqb c 0 && (eqb d 0 && true)))
-four-zero a b c d = go (eqb a 0) (eqb b 0) (eqb c 0) (eqb d 0) refl refl refl refl
-  where
-    n : ℕ
-    n = a + b * 256 + c * 65536 + d * 16777216
-
-    go : (s t u v : Bool) → eqb a 0 ≡ s → eqb b 0 ≡ t → eqb c 0 ≡ u → eqb d 0 ≡ v → eqb n 0 ≡ s && (t && (u && (v && true)))
-    go true true true true p q r w = eq-eqb n 0 (omega (arith, eqb-true a 0 p, eqb-true b 0 q, eqb-true c 0 r, eqb-true d 0 w))
-    go true true true false p q r w = ne_eqb n 0 (λ e. eqb-false d 0 w (omega arith))
-    go true true false v p q r w = ne_eqb n 0 (λ e. eqb-false c 0 r (omega arith))
-    go true false u v p q r w = ne_eqb n 0 (λ e. eqb-false b 0 q (omega arith))
-    go false t u v p q r w = ne_eqb n 0 (λ e. eqb-false a 0 p (omega arith))
-
--- four bytes as one number
-pub word-zero : (at : ℕ) (l : List ℕ) → at + 4 ≤ length l → eqb (number (reverse (part at 4 l))) 0 ≡ all_zero (part at 4 l)
+-- the bits that are set in a number or in one of the bytes
+pub none-set : (n : ℕ) (l : List ℕ) → eqb (fold bit_or n l) 0 ≡ eqb n 0 && all_zero l
 unfolding all_zero
-word-zero at l h =
-    ap (λ (n : ℕ). eqb n 0) (little-four at l h) ∙ four-zero (get_or l at 0) (get_or l (at + 1) 0) (get_or l (at + 2) 0) (get_or l (at + 3) 0)
-    ∙ sym (ap all_zero (part-four at l h))
+none-set n [] = and-true (eqb n 0)
+none-set n (b ∷ bs) =
+    none-set (bit_or n b) bs ∙ ap (λ (t : Bool). t && all_zero bs) (or-zero n b) ∙ and_assoc (eqb n 0) (eqb b 0) (all_zero bs)

@@ -1,6 +1,7 @@
 // Numbers in byte slices, in network byte order (big-endian) where the name says nothing else, and copying bytes from one slice into another.
 #![tactic(auto)]
 
+pub mod runs;
 pub mod zeros;
 
 ghost use Rattle.std.specs.Prelude.{◌≡◌, reverse, ◌+◌, ◌≤◌, length};
@@ -11,8 +12,8 @@ pub fn get_u16(bytes: &[u8], at: usize) -> u16
     requires { at + 2 ≤ length bytes.now }
     ensures { result ≡ number (part at 2 bytes.now) }
 {
-    let high = bytes[at] as u16;
-    let low = bytes[at + 1] as u16;
+    let high = u16::from(bytes[at]);
+    let low = u16::from(bytes[at + 1]);
     high * 256 + low
 }
 
@@ -21,8 +22,8 @@ pub fn get_u32(bytes: &[u8], at: usize) -> u32
     requires { at + 4 ≤ length bytes.now }
     ensures { result ≡ number (part at 4 bytes.now) }
 {
-    let high = get_u16(bytes, at) as u32;
-    let low = get_u16(bytes, at + 2) as u32;
+    let high = u32::from(get_u16(bytes, at));
+    let low = u32::from(get_u16(bytes, at + 2));
     high * 65536 + low
 }
 
@@ -31,10 +32,10 @@ pub fn get_u32_little(bytes: &[u8], at: usize) -> u32
     requires { at + 4 ≤ length bytes.now }
     ensures { result ≡ number (reverse (part at 4 bytes.now)) }
 {
-    let first = bytes[at] as u32;
-    let second = bytes[at + 1] as u32;
-    let third = bytes[at + 2] as u32;
-    let fourth = bytes[at + 3] as u32;
+    let first = u32::from(bytes[at]);
+    let second = u32::from(bytes[at + 1]);
+    let third = u32::from(bytes[at + 2]);
+    let fourth = u32::from(bytes[at + 3]);
     first + second * 256 + third * 65536 + fourth * 16777216
 }
 
@@ -61,9 +62,5 @@ pub fn copy(source: &[u8], target: &mut [u8], at: usize)
     requires { at + length source.now ≤ length target.old }
     ensures { target.new ≡ overlay target.old at source.now }
 {
-    let mut i = 0;
-    while i < source.len() {
-        target[at + i] = source[i];
-        i += 1;
-    }
+    target[at..at + source.len()].copy_from_slice(source);
 }

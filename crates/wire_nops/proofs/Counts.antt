@@ -1,37 +1,39 @@
 -- NOPs in a row are counted byte by byte, or four and 32 at once, and eight of them are padding where reading is strict (document 02, R-6).
 -- Assumes nothing.
-use mathlib.Core.Path.{◌≡◌, refl, sym, ap, ◌∙◌}
+use mathlib.Core.Path.{◌≡◌, refl, ap, ◌∙◌}
 use mathlib.Core.Bool.{Bool, true, false, cond}
 use mathlib.Core.List.{List, [], ◌∷◌, reverse}
-use Prim.Native.Nat.{ℕ, zero, suc, ◌+◌, ◌*◌, ◌≤◌, ◌<◌}
-use native.Mathlib.Numerals.{add-one}
+use Prim.Native.Nat.{ℕ, zero, suc, ◌+◌, ◌≤◌, ◌<◌}
 use native.Mathlib.Omega.{arith}
 use borrow.Author.Tests.{eq-eqb, ne_eqb, eqb-true, lt-ltb, le-ltb, ltb-true}
 use lib.Bits.{bit_or, bit_xor, or_add_and, xor_add_and, and_le_l, and_le_r}
 use lib.Dec.{eqb, ltb}
-use lib.ListN.{length, drop, get_or, drop_of_length-le}
-use lib.Seq.{drop-cons}
+use lib.ListN.{length, drop, get_or}
 use Rattle.number_octets.specs.Octets.{number, part}
+use Rattle.number_octets.specs.Runs.{run_of}
 use Rattle.number_octets.proofs.Laws.{little-four}
+use Rattle.number_octets.proofs.RunBytes.{run-four}
 use Rattle.wire_nops.specs.Nops.{nop, nop_limit, nops_of, is_padding}
 use Rattle.wire_nops.specs.declared.Strictness.{Strictness}
 use Rattle.wire_nops.specs.declared.Strictness.TheVariants.{Plain, Strict}
 
 -- ---- counting
 
-nops-front : (l : List ℕ) (i : ℕ) → i < length l → nops_of (drop i l) ≡ cond (eqb (get_or l i 0) nop) (1 + nops_of (drop (i + 1) l)) 0
+-- NOPs in a row are bytes of their kind in a row
+pub nops-run : (l : List ℕ) → run_of nop l ≡ nops_of l
+unfolding run_of nops_of
+nops-run [] = refl
+nops-run (b ∷ bs) = ap (λ (n : ℕ). cond (eqb b nop) (1 + n) 0) (nops-run bs)
+
+pub nops-none : (l : List ℕ) → length l ≡ 0 → nops_of l ≡ 0
 unfolding nops_of
-nops-front l i h = ap nops_of (drop-cons l i 0 h) ∙ ap (λ (k : ℕ). cond (eqb (get_or l i 0) nop) (1 + nops_of (drop k l)) 0) (sym (add-one i))
+nops-none [] h = refl
+nops-none (b ∷ bs) h = absurd (omega arith)
 
-pub nops-one : (l : List ℕ) (i : ℕ) → i < length l → get_or l i 0 ≡ nop → nops_of (drop i l) ≡ 1 + nops_of (drop (i + 1) l)
-nops-one l i h e = nops-front l i h ∙ simp (eq-eqb (get_or l i 0) nop e)
-
-pub nops-other : (l : List ℕ) (i : ℕ) → i < length l → (get_or l i 0 ≡ nop → ⊥) → nops_of (drop i l) ≡ 0
-nops-other l i h d = nops-front l i h ∙ simp (ne_eqb (get_or l i 0) nop d)
-
-pub nops-none : (l : List ℕ) (i : ℕ) → length l ≤ i → nops_of (drop i l) ≡ 0
+pub nops-other : (l : List ℕ) → (get_or l 0 0 ≡ nop → ⊥) → nops_of l ≡ 0
 unfolding nops_of
-nops-none l i h = ap nops_of (drop_of_length-le l h)
+nops-other [] d = refl
+nops-other (b ∷ bs) d = simp (ne_eqb b nop d)
 
 pub nops-some : (b : ℕ) (bs : List ℕ) → b ≡ nop → (0 < nops_of (b ∷ bs)) × (nops_of (b ∷ bs) ≡ 1 + nops_of bs)
 unfolding nops_of
@@ -46,38 +48,9 @@ nops-within (b ∷ bs) = go (eqb b nop) (nops-within bs)
     go true h = omega arith
     go false h = omega arith
 
--- four bytes that are four NOPs as one number are NOPs: digit by digit
-first-digit : (a x : ℕ) → a < 256 → a + x * 256 ≡ 16843009 → (a ≡ nop) × (x ≡ 65793)
-first-digit a x h e = let rest : x ≡ 65793 = omega arith in (omega arith, rest)
-
-second-digit : (a x : ℕ) → a < 256 → a + x * 256 ≡ 65793 → (a ≡ nop) × (x ≡ 257)
-second-digit a x h e = let rest : x ≡ 257 = omega arith in (omega arith, rest)
-
-last_digits : (a x : ℕ) → a < 256 → a + x * 256 ≡ 257 → (a ≡ nop) × (x ≡ nop)
-last_digits a x h e = let rest : x ≡ 1 = omega arith in (omega arith, rest)
-
 pub nops-four : (l : List ℕ) (i : ℕ) → i + 4 ≤ length l → ((k : ℕ) → get_or l k 0 < 256) → number (reverse (part i 4 l)) ≡ 16843009
     → nops_of (drop i l) ≡ 4 + nops_of (drop (i + 4) l)
-nops-four l i h small e =
-    let a : ℕ = get_or l i 0 in
-    let b : ℕ = get_or l (i + 1) 0 in
-    let c : ℕ = get_or l (i + 2) 0 in
-    let d : ℕ = get_or l (i + 3) 0 in
-    let word : a + b * 256 + c * 65536 + d * 16777216 ≡ 16843009 = sym (little-four i l h) ∙ e in
-    let one = first-digit a (b + (c + d * 256) * 256) (small i) (omega arith) in
-    let two = second-digit b (c + d * 256) (small (i + 1)) one.1 in
-    let three = last_digits c d (small (i + 2)) two.1 in
-    let at1 : i + 1 + 1 ≡ i + 2 = omega arith in
-    let at2 : i + 2 + 1 ≡ i + 3 = omega arith in
-    let at3 : i + 3 + 1 ≡ i + 4 = omega arith in
-    let n0 : nops_of (drop i l) ≡ 1 + nops_of (drop (i + 1) l) = nops-one l i (omega arith) one.0 in
-    let n1 : nops_of (drop (i + 1) l) ≡ 1 + nops_of (drop (i + 2) l) =
-    nops-one l (i + 1) (omega arith) two.0 ∙ ap (λ (k : ℕ). 1 + nops_of (drop k l)) at1 in
-    let n2 : nops_of (drop (i + 2) l) ≡ 1 + nops_of (drop (i + 3) l) =
-    nops-one l (i + 2) (omega arith) three.0 ∙ ap (λ (k : ℕ). 1 + nops_of (drop k l)) at2 in
-    let n3 : nops_of (drop (i + 3) l) ≡ 1 + nops_of (drop (i + 4) l) =
-    nops-one l (i + 3) (omega arith) three.1 ∙ ap (λ (k : ℕ). 1 + nops_of (drop k l)) at3 in
-    omega arith
+nops-four l i h small e = omega (arith, run-four nop l i (omega arith) h small e, nops-run (drop i l), nops-run (drop (i + 4) l))
 
 -- words among which no bit is different from four NOPs are four NOPs
 pub none-different : (bits word : ℕ) → bit_or bits (bit_xor word 16843009) ≡ 0 → (bits ≡ 0) × (word ≡ 16843009)

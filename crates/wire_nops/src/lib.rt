@@ -4,6 +4,8 @@
 ghost use Rattle.std.specs.Prelude.{◌≡◌, ◌+◌, ◌≤◌, length, drop};
 ghost use Rattle.wire_nops.specs.Nops.{nops_of, is_padding};
 
+use number_octets::runs::run_end;
+
 // How lists are read: plainly, or so that padding with NOPs is a fault (document 02, R-6).
 #[derive(Clone, Copy)]
 pub enum Strictness {
@@ -47,44 +49,14 @@ fn starts_padded(list: &[u8]) -> bool
     number_octets::get_u32_little(list, 4) == FOUR_NOPS
 }
 
+// How many stand at the front: whole blocks are passed first.
 pub fn leading_nops(list: &[u8]) -> usize
     ensures { (result ≡ nops_of list.now) × (result ≤ length list.now) }
 {
-    if list.len() == 0 {
+    if list.is_empty() || list[0] != NOP {
         return 0;
     }
-    if list[0] != NOP {
-        return 0;
-    }
-    nop_run(list)
-}
-
-// The same of a list with a NOP at its front: whole blocks, then whole fours, then the bytes that are left, one by one.
-fn nop_run(list: &[u8]) -> usize
-    ensures { (result ≡ nops_of list.now) × (result ≤ length list.now) }
-{
-    let mut n = whole_fours(list);
-    while n < list.len() {
-        if list[n] != NOP {
-            return n;
-        }
-        n += 1;
-    }
-    n
-}
-
-// So many NOPs at least, in whole fours.
-fn whole_fours(list: &[u8]) -> usize
-    ensures { (result ≤ length list.now) × (nops_of list.now ≡ result + nops_of (drop result list.now)) }
-{
-    let mut n = whole_blocks(list);
-    while 4 <= list.len() - n {
-        if number_octets::get_u32_little(list, n) != FOUR_NOPS {
-            return n;
-        }
-        n += 4;
-    }
-    n
+    run_end::<NOP>(list, whole_blocks(list))
 }
 
 // So many NOPs at least, in whole blocks. A short row costs no more than a look at the last byte of the first block.
@@ -114,10 +86,8 @@ fn block_difference(list: &[u8], at: usize) -> u32
     ensures { result ≡ 0 → nops_of (drop at list.now) ≡ 32 + nops_of (drop (at + 32) list.now) }
 {
     let mut different: u32 = 0;
-    let mut k: usize = 0;
-    while k < BLOCK / 4 {
-        different = different | (number_octets::get_u32_little(list, at + 4 * k) ^ FOUR_NOPS);
-        k += 1;
+    for k in 0..BLOCK / 4 {
+        different |= number_octets::get_u32_little(list, at + 4 * k) ^ FOUR_NOPS;
     }
     different
 }

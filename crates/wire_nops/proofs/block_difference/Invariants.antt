@@ -1,11 +1,8 @@
 use mathlib.Core.Path.{◌≡◌}
-use Prim.Native.Nat.{◌+◌, ◌-◌, ◌*◌, ◌≤◌}
+use Prim.Native.Nat.{◌+◌, ◌*◌}
 use lib.ListN.{drop}
 use Rattle.wire_nops.specs.Nops.{nops_of}
 use Rattle.wire_nops.proofs.block_difference.Given as goal
 
 abbrev pub invariant-loop-k : goal.invariant-loop-k
-invariant-loop-k l = (l.k ≤ 8) × (l.different ≡ 0 → nops_of (drop l.at l.list) ≡ 4 * l.k + nops_of (drop (l.at + 4 * l.k) l.list))
-
-abbrev pub decreases-loop-k : goal.decreases-loop-k
-decreases-loop-k l = 8 - l.k
+invariant-loop-k l = l.different ≡ 0 → nops_of (drop l.at l.list) ≡ 4 * l.k + nops_of (drop (l.at + 4 * l.k) l.list)
