@@ -24,7 +24,15 @@ pub fn put_items(list: &[u8], base: PacketOffset, text: &mut [u8], at: usize) ->
     while let Some(found) = wire_offsets::next_option(&list[from..]) {
         from += found.at;
         let offset = PacketOffset(base.0 + from);
-        end = put_item(&list[from..], offset, found.kind, found.header, found.size, text, end);
+        end = put_item(
+            &list[from..],
+            offset,
+            found.kind,
+            found.header,
+            found.size,
+            text,
+            end,
+        );
         from += found.size;
     }
     end
