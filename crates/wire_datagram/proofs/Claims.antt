@@ -43,7 +43,7 @@ met-none how p s d r = go (first_of (refusal_tests p s d)) refl
   where
     go : (o : Option ℕ) → first_of (refusal_tests p s d) ≡ o → answered o (accepted how p) ≡ reads r → (first_of (refusal_tests p s d) ≡ none) × (accepted how p ≡ r)
     go none e q = (e, cc)
-    go (some n) e q = absurd (let z : ◌≡◌ {A = ℕ} 0 1 = cc in omega arith)
+    go (some n) e q = cc
 
 -- L is at least a header and within the payload
 pub in-range : (p s d : List ℕ) → first_of (refusal_tests p s d) ≡ none → (udp_header ≤ udp_length p) × (udp_length p ≤ length p)

@@ -10,7 +10,7 @@ use Rattle.wire_nops.specs.declared.Strictness.{Strictness}
 use Rattle.wire_options.specs.declared.walk.Fault.{Fault}
 use Rattle.wire_area.specs.Area.{fault, area_of}
 use Rattle.wire_surplus.specs.Surplus.{start_of}
-use Rattle.wire_surplus.specs.declared.Start.TheVariants.{List as ListAt}
+use Rattle.std.specs.Prelude.{Ok}
 use Rattle.wire_reading.specs.Reading.{no_data, verdict_of, is_odd}
 use Rattle.wire_reading.specs.declared.Reading.{Reading}
 use Rattle.wire_reading.proofs.Faults.{fault_in, fault-named, started-fault}
@@ -19,7 +19,7 @@ use Rattle.wire_datagram.proofs.Claims.{met-none}
 
 -- where the option list of a payload starts: `at` bytes into the area behind L, behind pad and option checksum
 abbrev pub ListStarts : List ℕ → ℕ → Type 0
-ListStarts p at = start_of (is_odd (udp_length p)) (eqb (udp_checksum p) 0) (drop (udp_length p) p) ≡ ListAt at
+ListStarts p at = start_of (is_odd (udp_length p)) (eqb (udp_checksum p) 0) (drop (udp_length p) p) ≡ Ok at
 
 -- the walk of that list came to a fault, met at `there`
 pub record ListFaults (how : Strictness) (p : List ℕ) (x : Fault) (there : PacketOffset) : Type 0 where

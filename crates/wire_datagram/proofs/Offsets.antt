@@ -5,7 +5,7 @@ use mathlib.Core.Path.{◌≡◌, refl, sym, ap, subst, ◌∙◌}
 use mathlib.Core.Bool.{Bool, true, false}
 use mathlib.Core.List.{List}
 use mathlib.Core.Logic.{◌⊎◌, inl, inr, ⊎_elim}
-use mathlib.Core.Option.{Option, none, some}
+use Rattle.std.specs.Prelude.{Option, None, Some}
 use Prim.Native.Nat.{ℕ, ◌+◌, ◌-◌, ◌≤◌, ◌<◌}
 use native.Mathlib.Omega.{arith}
 use borrow.Author.Tests.{eqb-true, eqb-false, ltb-true, ltb-false}
@@ -169,12 +169,12 @@ fault-offset how p s d r x at e v =
 
 -- the offset beside the fault that a verdict names, and the verdict that names it
 abbrev placed : Option (Fault × PacketOffset) → Option PacketOffset
-placed none = none
-placed (some fault) = some fault.1
+placed None = None
+placed (Some fault) = Some fault.1
 
 abbrev named : Verdict → Option (Fault × PacketOffset) → Verdict
-named v none = v
-named v (some fault) = verdict_of fault.0 fault.1
+named v None = v
+named v (Some fault) = verdict_of fault.0 fault.1
 
 both : (v : Verdict) → (fault_at v ≡ placed (fault_in v)) × (v ≡ named v (fault_in v))
 both Bare = (refl, refl)
@@ -191,17 +191,17 @@ both (Padded at) = (refl, refl)
 both Read = (refl, refl)
 both (Piece f) = (refl, refl)
 
-beside : (fault : Option (Fault × PacketOffset)) (at : PacketOffset) → placed fault ≡ some at → (x : Fault) × (fault ≡ some (x, at))
-beside none at e = absurd (let z : ◌≡◌ {A = ℕ} 0 1 = cc in omega arith)
-beside (some fault) at e = let same : fault.1 ≡ at = cc in (fault.0, ap (λ (a : PacketOffset). some (fault.0, a)) same)
+beside : (fault : Option (Fault × PacketOffset)) (at : PacketOffset) → placed fault ≡ Some at → (x : Fault) × (fault ≡ Some (x, at))
+beside None at e = cc
+beside (Some fault) at e = let same : fault.1 ≡ at = cc in (fault.0, ap (λ (a : PacketOffset). Some (fault.0, a)) same)
 
 -- a verdict carries an offset exactly if it names a fault: where the fault was met
 pub no-offset : (v : Verdict) (at : PacketOffset)
-    → (fault_at v ≡ some at → (x : Fault) × (fault_in v ≡ some (x, at))) × ((x : Fault) → fault_in v ≡ some (x, at) → fault_at v ≡ some at)
+    → (fault_at v ≡ Some at → (x : Fault) × (fault_in v ≡ Some (x, at))) × ((x : Fault) → fault_in v ≡ Some (x, at) → fault_at v ≡ Some at)
 no-offset v at = (λ e. beside (fault_in v) at (sym (both v).0 ∙ e), λ x e. (both v).0 ∙ ap placed e)
 
 -- so every offset that a reading carries names a byte of its option list
-pub offset-names : (how : Strictness) (p s d : List ℕ) (r : Reading) (at : PacketOffset) → reading how p s d ≡ reads r → fault_at r.verdict ≡ some at
+pub offset-names : (how : Strictness) (p s d : List ℕ) (r : Reading) (at : PacketOffset) → reading how p s d ≡ reads r → fault_at r.verdict ≡ Some at
     → (x : Fault) × (r.verdict ≡ verdict_of x at) × FaultInList how p x at
 offset-names how p s d r at e o =
     let f = (no-offset r.verdict at).0 o in

@@ -6,7 +6,6 @@ use mathlib.Core.Bool.{true}
 use mathlib.Core.List.{List}
 use mathlib.Core.Logic.{◌⊎◌}
 use Prim.Native.Nat.{ℕ, ◌+◌}
-use native.Mathlib.Omega.{arith}
 use lib.ListN.{length, drop}
 use Rattle.number_offsets.specs.declared.PacketOffset.{PacketOffset}
 use Rattle.wire_nops.specs.declared.Strictness.{Strictness}
@@ -37,4 +36,4 @@ reading-padded how p s d r there e v =
     (c.0, record { at = f.at; starts = f.starts; cause = c.1 })
 
 pub plain-not-padded : (p s d : List ℕ) (r : Reading) (there : PacketOffset) → reading Plain p s d ≡ reads r → r.verdict ≡ Padded there → ⊥
-plain-not-padded p s d r there e v = let c : Plain ≡ Strict = (reading-padded Plain p s d r there e v).0 in let z : ◌≡◌ {A = ℕ} 0 1 = cc in omega arith
+plain-not-padded p s d r there e v = let c : Plain ≡ Strict = (reading-padded Plain p s d r there e v).0 in cc

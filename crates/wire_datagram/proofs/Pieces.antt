@@ -25,7 +25,7 @@ pub piece-within : (how : Strictness) (p s d : List ℕ) (r : Reading) (f : Frag
 piece-within how p s d r f e =
     reading-by how (λ x. x.verdict ≡ Piece f → Within p f) p s d r e
     (λ end verdict o v. absurd (subst Other v o))
-    (λ from options fill h w v. absurd (let z : ◌≡◌ {A = ℕ} 0 1 = cc in omega arith))
+    (λ from options fill h w v. cc)
     (λ from g h a v.
     let same : g ≡ f = cc in
     let b = area-piece how (no_data (udp_length p)) from (drop from p) f (a ∙ ap piece same) in

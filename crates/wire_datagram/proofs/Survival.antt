@@ -27,7 +27,7 @@ pub piece-has-none : (how : Strictness) (p s d : List ℕ) (r : Reading) (f : Fr
 piece-has-none how p s d r f e =
     reading-by how (λ x. x.verdict ≡ Piece f → udp_length p ≡ udp_header) p s d r e
     (λ end verdict o v. absurd (subst Other v o))
-    (λ from options fill h w v. absurd (let z : ◌≡◌ {A = ℕ} 0 1 = cc in omega arith))
+    (λ from options fill h w v. cc)
     (λ from g h a v. piece-empty how (udp_length p) from (drop from p) g a)
 
 -- ---- the claim

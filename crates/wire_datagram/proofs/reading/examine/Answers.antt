@@ -9,7 +9,7 @@ use Rattle.number_checksum.specs.Checksum.{word_sum, folded}
 use Rattle.wire_surplus.specs.Surplus.{start_of}
 use Rattle.wire_reading.specs.Reading.{is_odd, started, payload_limit}
 use Rattle.wire_datagram.specs.Reading.{pseudo_header, udp_length, accepted, reads}
-use mathlib.Core.Logic.{inl, inr}
+use mathlib.Core.Logic.{inl, inr, ⊎_elim}
 use Prim.Native.Nat.{ℕ, ◌≤◌}
 use native.Mathlib.Omega.{arith}
 use Rattle.number_offsets.specs.Offsets.{udp_header}
@@ -43,14 +43,11 @@ pub returns-then-size-lt-UDP_HEADER : goal.returns-then-size-lt-UDP_HEADER
 unfolding udp_header payload_limit
 returns-then-size-lt-UDP_HEADER c = let a = c.args in
     let e = c.get_u16-size.ensures in
-    sym (refused-small a.strictness a.payload.now a.source a.destination c.if-payload-lt-UDP_HEADER.false c.if-payload-gt-PAYLOAD_LIMIT.false (omega arith))
-
-pub returns-then-payload-size : goal.returns-then-payload-size
-unfolding udp_header payload_limit
-returns-then-payload-size c = let a = c.args in
-    let e = c.get_u16-size.ensures in
-    sym (refused-large a.strictness a.payload.now a.source a.destination c.if-payload-lt-UDP_HEADER.false
-    c.if-payload-gt-PAYLOAD_LIMIT.false (omega arith) (omega arith))
+    let some = c.if-payload-lt-UDP_HEADER.false in
+    let few = c.if-payload-gt-PAYLOAD_LIMIT.false in
+    ⊎_elim (λ h. sym (refused-small a.strictness a.payload.now a.source a.destination some few (omega (arith, h, e))))
+    (λ h. sym (refused-large a.strictness a.payload.now a.source a.destination some few (omega (arith, h.0, e)) (omega (arith, h.1, e))))
+    c.then-size-lt-UDP_HEADER.either
 
 pub slice_bounds-udp_sum-end : goal.slice_bounds-udp_sum-end
 unfolding udp_header payload_limit
@@ -69,8 +66,8 @@ returns-then-udp_sum c = let a = c.args in
     sym (refused-sum a.strictness a.payload.now a.source a.destination z (λ n. c.if-checksum-ne0.true (c.get_u16-checksum.ensures ∙ n))
     (λ n. c.if-udp_sum.true (sum ∙ n)))
 
-pub accept-requires : goal.accept-requires
-accept-requires c =
+pub accept-reading-requires : goal.accept-reading-requires
+accept-reading-requires c =
     let a = c.args in
     let z = sized a.payload.now _ c.get_u16-size.ensures c.if-payload-lt-UDP_HEADER.false c.if-payload-gt-PAYLOAD_LIMIT.false c.if-size-lt-UDP_HEADER.false c.if-payload-size.false in
     let e = c.get_u16-size.ensures in
@@ -82,7 +79,7 @@ returns c = let a = c.args in
     let z = sized a.payload.now _ c.get_u16-size.ensures c.if-payload-lt-UDP_HEADER.false c.if-payload-gt-PAYLOAD_LIMIT.false c.if-size-lt-UDP_HEADER.false c.if-payload-size.false in
     let e = c.get_u16-size.ensures in
     let k = c.get_u16-checksum.ensures in
-    ap reads (c.parts_of.ensures ∙ c.accept.ensures
+    ap reads (c.from.ensures ∙ c.accept-reading.ensures
     ∙ ap₂ (λ (n m : ℕ). started a.strictness a.payload.now n (start_of (is_odd n) (eqb m 0) (drop n a.payload.now))) e k)
     ∙ sym (reading-accepted a.strictness a.payload.now a.source a.destination z
     (elim c.if-checksum-ne0.branch [
