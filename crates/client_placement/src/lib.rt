@@ -15,6 +15,7 @@ use client_record::{Assembly, Client, Fragment};
 // ---- where a fragment belongs
 
 // A live assembly with the offer's key.
+#[tactic(auto, unfolding(client_reassembly::specs::Offer::matches))]
 fn matches(a: Assembly, o: Arrival) -> bool
     ensures { result ≡ matches o a }
 {
@@ -96,6 +97,7 @@ pub fn assembly_for(c: Client, p: usize, o: Arrival) -> Assembly
 // ---- what becomes of a fragment
 
 // The same range, mark and option start; that of a fragment which is not last is ignored.
+#[tactic(auto, unfolding(client_reassembly::specs::Offer::alike))]
 fn alike(f: Fragment, g: Fragment) -> bool
     ensures { result ≡ alike f g }
 {
@@ -111,13 +113,9 @@ fn alike(f: Fragment, g: Fragment) -> bool
 fn alike_any(a: Assembly, f: Fragment) -> bool
     ensures { result ≡ any (alike f) (held_fragments a) }
 {
-    let n = client_fragments::held_count(a);
     let mut found = false;
-    let mut i = 0;
-    while i < n {
-        let g = a.fragments[i];
-        found = found | alike(f, g);
-        i += 1;
+    for i in 0..client_fragments::held_count(a) {
+        found |= alike(f, a.fragments[i]);
     }
     found
 }
@@ -128,10 +126,8 @@ fn same_bytes(a: &[u8], b: &[u8]) -> bool
     ensures { result ≡ same_bytes a.now b.now }
 {
     let mut ok = true;
-    let mut i = 0;
-    while i < a.len() {
-        ok = ok & (a[i] == b[i]);
-        i += 1;
+    for i in 0..a.len() {
+        ok &= a[i] == b[i];
     }
     ok
 }
