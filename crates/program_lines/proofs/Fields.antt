@@ -6,8 +6,8 @@ use mathlib.Core.List.{List, [], ◌∷◌, ◌++◌, append-nil}
 use mathlib.Core.Logic.{◌⊎◌, inl, inr, ⊎_elim}
 use Prim.Native.Nat.{ℕ, ◌+◌, ◌-◌, ◌≤◌, ◌<◌}
 use native.Mathlib.Omega.{arith}
-use borrow.Author.Tests.{ne_eqb, ltb-true, ltb-false}
-use lib.Dec.{ltb}
+use borrow.Author.Tests.{ne_eqb, eqb-true, ltb-true, ltb-false}
+use lib.Dec.{eqb, ltb}
 use lib.ListN.{length, take, drop, get_or, length-drop}
 use lib.Seq.{take-take, drop-drop}
 use Rattle.number_octets.specs.Octets.{number, part}
@@ -88,12 +88,12 @@ pub no-numbers : (kind : ℕ) (body : List ℕ) → (kind ≡ 2 → ⊥) → (ki
 no-numbers kind body a b c d e f =
     sym (simp (ne_eqb kind 2 a, ne_eqb kind 4 b, ne_eqb kind 5 c, ne_eqb kind 6 d, ne_eqb kind 7 e, ne_eqb kind 8 f))
 
-pub empty-body : (l : List ℕ) → length l ≡ 0 → [] ≡ body_of l
+pub empty-body : (l : List ℕ) → eqb (length l) 0 ≡ true → [] ≡ body_of l
 unfolding body_of
 empty-body [] e = refl
-empty-body (b ∷ bs) e = absurd (omega arith)
+empty-body (b ∷ bs) e = absurd (omega (arith, eqb-true (length (b ∷ bs)) 0 e))
 
-pub some-body : (l : List ℕ) → (length l ≡ 0 → ⊥) → (blank ∷ []) ++ hex_of l ≡ body_of l
+pub some-body : (l : List ℕ) → eqb (length l) 0 ≡ false → (blank ∷ []) ++ hex_of l ≡ body_of l
 unfolding body_of
-some-body [] e = absurd (e refl)
+some-body [] e = cc
 some-body (b ∷ bs) e = refl

@@ -12,6 +12,7 @@ ghost use Rattle.program_text.specs.Put.{Put};
 ghost use Rattle.program_lines.specs.Lines.{body_of, fields_of, option_line, option_lines, is_listed};
 
 use number_offsets::PacketOffset;
+use wire_offsets::Found;
 
 // A line for each option of a list in which the walk meets no fault. The list stands at packet offset `base`.
 pub fn put_items(list: &[u8], base: PacketOffset, text: &mut [u8], at: usize) -> usize
@@ -24,52 +25,30 @@ pub fn put_items(list: &[u8], base: PacketOffset, text: &mut [u8], at: usize) ->
     while let Some(found) = wire_offsets::next_option(&list[from..]) {
         from += found.at;
         let offset = PacketOffset(base.0 + from);
-        end = put_item(
-            &list[from..],
-            offset,
-            found.kind,
-            found.header,
-            found.size,
-            text,
-            end,
-        );
+        end = put_item(&list[from..], offset, found, text, end);
         from += found.size;
     }
     end
 }
 
 // The option at the front of a list, which stands at `offset`.
-fn put_item(
-    rest: &[u8],
-    offset: PacketOffset,
-    kind: u8,
-    header: usize,
-    size: usize,
-    text: &mut [u8],
-    at: usize,
-) -> usize
-    requires { (at ≤ length text.old) × (step_of rest.now ≡ Step.Found kind header size) }
-    ensures { Put text.old at (option_line offset (item_of kind header size rest.now)) result text.new }
+fn put_item(rest: &[u8], offset: PacketOffset, found: Found, text: &mut [u8], at: usize) -> usize
+    requires { (at ≤ length text.old) × (step_of rest.now ≡ Step.Found found.kind found.header found.size) }
+    ensures { Put text.old at (option_line offset (item_of found.kind found.header found.size rest.now)) result text.new }
 {
     let named = program_text::put(b"kind ", text, at);
-    let numbered = program_text::put_decimal(kind as usize, text, named);
-    let shown = put_fields(rest, kind, header, size, text, numbered);
+    let numbered = program_text::put_decimal(found.kind as usize, text, named);
+    let shown = put_fields(rest, found, text, numbered);
     program_text::put_offset(offset, text, shown)
 }
 
 // Its numbers by kind, or its body.
-fn put_fields(
-    rest: &[u8],
-    kind: u8,
-    header: usize,
-    size: usize,
-    text: &mut [u8],
-    at: usize,
-) -> usize
-    requires { (at ≤ length text.old) × (step_of rest.now ≡ Step.Found kind header size) }
-    ensures { Put text.old at (fields_of kind (part header (size - header) rest.now)) result text.new }
+fn put_fields(rest: &[u8], found: Found, text: &mut [u8], at: usize) -> usize
+    requires { (at ≤ length text.old) × (step_of rest.now ≡ Step.Found found.kind found.header found.size) }
+    ensures { Put text.old at (fields_of found.kind (part found.header (found.size - found.header) rest.now)) result text.new }
 {
-    match kind {
+    let header = found.header;
+    match found.kind {
         4 => put_number(number_octets::get_u16(rest, header) as usize, text, at),
         5 => {
             let first = put_number(number_octets::get_u16(rest, header) as usize, text, at);
@@ -84,7 +63,7 @@ fn put_fields(
             )
         }
         2 | 6 | 7 => put_number(number_octets::get_u32(rest, header) as usize, text, at),
-        _ => put_body(&rest[header..size], text, at),
+        _ => put_body(&rest[header..found.size], text, at),
     }
 }
 
@@ -101,7 +80,7 @@ fn put_body(body: &[u8], text: &mut [u8], at: usize) -> usize
     requires { at ≤ length text.old }
     ensures { Put text.old at (body_of body.now) result text.new }
 {
-    if body.len() == 0 {
+    if body.is_empty() {
         return at;
     }
     let end = program_text::put(b" ", text, at);

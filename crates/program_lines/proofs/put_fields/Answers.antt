@@ -13,7 +13,7 @@ use Rattle.program_text.specs.Characters.{blank}
 use Rattle.program_text.proofs.Puts.{put_as, put-append, put-room}
 use Rattle.program_lines.proofs.Fields.{option-within, fixed-shape, four-of, four-wide, one_number, two-numbers, number-one}
 use Rattle.program_lines.proofs.put_fields.Goals as goal
-use Rattle.program_lines.proofs.put_fields.Goals.{in-2-1, in_default+else-kind-lt4+then-kind-lt8}
+use Rattle.program_lines.proofs.put_fields.Goals.{in-2-1, in_default+else-found-lt4+then-found-lt8}
 
 class-4 : (k : ℕ) → k ≡ 4 → (class_of k ≡ Fixed 4 4) × (widths_of k ≡ 2 ∷ [])
 unfolding class_of
@@ -40,7 +40,7 @@ pub bounds-rest-header : goal.bounds-rest-header
 bounds-rest-header c = let f = fixed-shape c.args.rest.now _ _ _ 5 c.requires.1 (class-5 _ c.in-5.is).0 (omega arith) in omega arith
 
 pub overflow_cast-rest : goal.overflow_cast-rest
-overflow_cast-rest c = omega (arith, c.type_inv.rest (c.args.header + 2))
+overflow_cast-rest c = omega (arith, c.type_inv.rest (c.args.found.header + 2))
 
 pub put_number-requires-in-5 : goal.put_number-requires-in-5
 put_number-requires-in-5 c = put-room c.requires.0 c.put_number-first.ensures
@@ -68,8 +68,8 @@ slice_bounds-put_body-end c = let f = option-within c.args.rest.now _ _ _ c.requ
 
 pub get_u32-requires-in-2 : goal.get_u32-requires-in-2
 get_u32-requires-in-2 c =
-    let which : (c.args.kind ≡ 2) ⊎ ((c.args.kind ≡ 6) ⊎ (c.args.kind ≡ 7)) = elim c.in-2-1.branch [ in-2-1 w ↦ inl (omega arith) | in_default+else-kind-lt4+then-kind-lt8 w ↦ inr (four-of c.args.kind (omega arith) (omega arith) (λ e. omega arith) (λ e. omega arith)) ] in
-    let wide = four-wide c.args.kind which in
+    let which : (c.args.found.kind ≡ 2) ⊎ ((c.args.found.kind ≡ 6) ⊎ (c.args.found.kind ≡ 7)) = elim c.in-2-1.branch [ in-2-1 w ↦ inl (omega arith) | in_default+else-found-lt4+then-found-lt8 w ↦ inr (four-of c.args.found.kind (omega arith) (omega arith) (λ e. omega arith) (λ e. omega arith)) ] in
+    let wide = four-wide c.args.found.kind which in
     let f = fixed-shape c.args.rest.now _ _ _ 6 c.requires.1 wide.0 (omega arith) in omega arith
 
 pub returns-in-4 : goal.returns-in-4
@@ -77,17 +77,17 @@ returns-in-4 c = let a = c.args in
     let f = fixed-shape c.args.rest.now _ _ _ 4 c.requires.1 (class-4 _ c.in-4.is).0 (omega arith) in
     put_as
     (ap (λ (n : ℕ). (blank ∷ []) ++ decimal_of n) c.get_u16.ensures
-    ∙ one_number a.rest.now a.kind a.header a.size (omega arith) 2 (class-4 _ c.in-4.is).1 (omega arith))
+    ∙ one_number a.rest.now a.found.kind a.found.header a.found.size (omega arith) 2 (class-4 _ c.in-4.is).1 (omega arith))
     c.put_number.ensures
 
 pub returns-in-5 : goal.returns-in-5
 returns-in-5 c = let a = c.args in
     let f = fixed-shape c.args.rest.now _ _ _ 5 c.requires.1 (class-5 _ c.in-5.is).0 (omega arith) in
-    let last : number (part (a.header + 2) 1 a.rest.now) ≡ get_or a.rest.now (a.header + 2) 0 =
-    number-one (a.header + 2) a.rest.now (omega arith) in
+    let last : number (part (a.found.header + 2) 1 a.rest.now) ≡ get_or a.rest.now (a.found.header + 2) 0 =
+    number-one (a.found.header + 2) a.rest.now (omega arith) in
     put_as
     (ap₂ (λ (n k : ℕ). ((blank ∷ []) ++ decimal_of n) ++ ((blank ∷ []) ++ decimal_of k)) c.get_u16-in-5.ensures (sym last)
-    ∙ two-numbers a.rest.now a.kind a.header a.size (omega arith) 2 1 (class-5 _ c.in-5.is).1 (omega arith))
+    ∙ two-numbers a.rest.now a.found.kind a.found.header a.found.size (omega arith) 2 1 (class-5 _ c.in-5.is).1 (omega arith))
     (put-append c.requires.0 c.put_number-first.ensures c.put_number-in-5.ensures)
 
 pub returns-in-8 : goal.returns-in-8
@@ -95,16 +95,16 @@ returns-in-8 c = let a = c.args in
     let f = fixed-shape c.args.rest.now _ _ _ 10 c.requires.1 (class-8 _ c.in-8.is).0 (omega arith) in
     put_as
     (ap₂ (λ (n k : ℕ). ((blank ∷ []) ++ decimal_of n) ++ ((blank ∷ []) ++ decimal_of k)) c.get_u32.ensures c.get_u32-in-8.ensures
-    ∙ two-numbers a.rest.now a.kind a.header a.size (omega arith) 4 4 (class-8 _ c.in-8.is).1 (omega arith))
+    ∙ two-numbers a.rest.now a.found.kind a.found.header a.found.size (omega arith) 4 4 (class-8 _ c.in-8.is).1 (omega arith))
     (put-append c.requires.0 c.put_number-first-in-8.ensures c.put_number-in-8.ensures)
 
 pub returns-in-2 : goal.returns-in-2
 returns-in-2 c =
-    let which : (c.args.kind ≡ 2) ⊎ ((c.args.kind ≡ 6) ⊎ (c.args.kind ≡ 7)) = elim c.in-2-1.branch [ in-2-1 w ↦ inl (omega arith) | in_default+else-kind-lt4+then-kind-lt8 w ↦ inr (four-of c.args.kind (omega arith) (omega arith) (λ e. omega arith) (λ e. omega arith)) ] in
-    let wide = four-wide c.args.kind which in
+    let which : (c.args.found.kind ≡ 2) ⊎ ((c.args.found.kind ≡ 6) ⊎ (c.args.found.kind ≡ 7)) = elim c.in-2-1.branch [ in-2-1 w ↦ inl (omega arith) | in_default+else-found-lt4+then-found-lt8 w ↦ inr (four-of c.args.found.kind (omega arith) (omega arith) (λ e. omega arith) (λ e. omega arith)) ] in
+    let wide = four-wide c.args.found.kind which in
     let a = c.args in
     let f = fixed-shape c.args.rest.now _ _ _ 6 c.requires.1 wide.0 (omega arith) in
     put_as
     (ap (λ (n : ℕ). (blank ∷ []) ++ decimal_of n) c.get_u32-in-2.ensures
-    ∙ one_number a.rest.now a.kind a.header a.size (omega arith) 4 wide.1 (omega arith))
+    ∙ one_number a.rest.now a.found.kind a.found.header a.found.size (omega arith) 4 wide.1 (omega arith))
     c.put_number-in-2.ensures
