@@ -4,7 +4,7 @@
 use mathlib.Core.Path.{◌≡◌, refl, sym, ap, ◌∙◌}
 use mathlib.Core.Bool.{Bool, true, false}
 use mathlib.Core.List.{List, [], ◌∷◌}
-use mathlib.Core.Option.{Option, none, some}
+use mathlib.Core.Option.{Option as Refused, none, some}
 use Prim.Native.Nat.{ℕ, ◌+◌, ◌≤◌}
 use native.Mathlib.Omega.{arith}
 use lib.Dec.{ltb}
@@ -21,8 +21,9 @@ use Rattle.wire_options.specs.declared.walk.Fault.TheVariants.{Malformed as malf
 use Rattle.wire_options.proofs.Paddings.{Padding, padded-cause}
 use Rattle.wire_options.proofs.Tails.{Tailed, tailed-by}
 use Rattle.wire_surplus.specs.Surplus.{start_of}
-use Rattle.wire_surplus.specs.declared.Start.{Start}
-use Rattle.wire_surplus.specs.declared.Start.TheVariants.{Empty, Short as short_area, Pad as bad_pad, Unsummed as no_sum, BadSum as bad_sum, List as ListAt}
+use Rattle.std.specs.Prelude.{Option, Some, None, Result, Ok, Err}
+use Rattle.wire_surplus.specs.declared.Unlisted.{Unlisted}
+use Rattle.wire_surplus.specs.declared.Unlisted.TheVariants.{Empty, Short as short_area, Pad as bad_pad, Unsummed as no_sum, BadSum as bad_sum}
 use Rattle.wire_reading.specs.Reading.{is_odd}
 use Rattle.wire_reading.specs.Reading.{verdict_of}
 use Rattle.wire_reading.specs.declared.Verdict.TheVariants.{Tail, Padded}
@@ -34,42 +35,42 @@ use Rattle.wire_original.proofs.Refusals.{re-accepted}
 -- an option list behind the option checksum at place `at` of the area, and what its walk comes to
 pub record ListWalks (how : Strictness) (original : List ℕ) (r : ℕ) (w : Walked) : Type 0 where
   pub at : ℕ
-  pub starts : start_of (is_odd (udp_header + r)) true (drop r original) ≡ ListAt at
+  pub starts : start_of (is_odd (udp_header + r)) true (drop r original) ≡ Ok at
   pub walks : walk_by how option_limit 0 (drop (r + at) original) ≡ w
 
 -- the same list, and what stands in it
 pub record InList (original : List ℕ) (r : ℕ) (P : List ℕ → Type 0) : Type 0 where
   pub at : ℕ
-  pub starts : start_of (is_odd (udp_header + r)) true (drop r original) ≡ ListAt at
+  pub starts : start_of (is_odd (udp_header + r)) true (drop r original) ≡ Ok at
   pub holds : P (drop (r + at) original)
 
 -- the fault that an answer names, and where it was met
 abbrev faults_in : ReAnswer → Option (Fault × PacketOffset)
-faults_in (refused n) = none
+faults_in (refused n) = None
 faults_in (rereads x) = fault_in x.verdict
 
 module _ (how : Strictness) (original : List ℕ) (r : ℕ) where
-  abbrev start : Start
+  abbrev start : Result ℕ Unlisted
   start = start_of (is_odd (udp_header + r)) true (drop r original)
 
   -- ---- 5 comes of an unsafe option, and of nothing else
 
   walked-five : (from : ℕ) (w : Walked) → rewalked original r from w ≡ refused 5 → (remains : ℕ) × (w ≡ faulty unsafe_list remains)
   walked-five from (faulty unsafe_list n) q = (n, refl)
-  walked-five from (listed options fill) q = absurd (let z : ◌≡◌ {A = ℕ} 0 1 = cc in omega arith)
-  walked-five from (faulty malformed_list n) q = absurd (let z : ◌≡◌ {A = ℕ} 0 1 = cc in omega arith)
-  walked-five from (faulty frag_data n) q = absurd (let z : ◌≡◌ {A = ℕ} 0 1 = cc in omega arith)
-  walked-five from (faulty crowded_list n) q = absurd (let z : ◌≡◌ {A = ℕ} 0 1 = cc in omega arith)
-  walked-five from (faulty tailed n) q = absurd (let z : ◌≡◌ {A = ℕ} 0 1 = cc in omega arith)
-  walked-five from (faulty padded_list n) q = absurd (let z : ◌≡◌ {A = ℕ} 0 1 = cc in omega arith)
+  walked-five from (listed options fill) q = cc
+  walked-five from (faulty malformed_list n) q = cc
+  walked-five from (faulty frag_data n) q = cc
+  walked-five from (faulty crowded_list n) q = cc
+  walked-five from (faulty tailed n) q = cc
+  walked-five from (faulty padded_list n) q = cc
 
-  started-five : (s : Start) → start ≡ s → restarted how original r s ≡ refused 5 → (remains : ℕ) × ListWalks how original r (faulty unsafe_list remains)
-  started-five Empty e q = absurd (let z : ◌≡◌ {A = ℕ} 0 1 = cc in omega arith)
-  started-five short_area e q = absurd (let z : ◌≡◌ {A = ℕ} 0 1 = cc in omega arith)
-  started-five bad_pad e q = absurd (let z : ◌≡◌ {A = ℕ} 0 1 = cc in omega arith)
-  started-five no_sum e q = absurd (let z : ◌≡◌ {A = ℕ} 0 1 = cc in omega arith)
-  started-five bad_sum e q = absurd (let z : ◌≡◌ {A = ℕ} 0 1 = cc in omega arith)
-  started-five (ListAt at) e q =
+  started-five : (s : Result ℕ Unlisted) → start ≡ s → restarted how original r s ≡ refused 5 → (remains : ℕ) × ListWalks how original r (faulty unsafe_list remains)
+  started-five (Err Empty) e q = cc
+  started-five (Err short_area) e q = cc
+  started-five (Err bad_pad) e q = cc
+  started-five (Err no_sum) e q = cc
+  started-five (Err bad_sum) e q = cc
+  started-five (Ok at) e q =
       let w = walked-five (r + at) (walk_by how option_limit 0 (drop (r + at) original)) q in
       (w.0, record { at = at; starts = e; walks = w.1 })
 
@@ -107,28 +108,28 @@ module _ (how : Strictness) (original : List ℕ) (r : ℕ) where
   abbrev WalkedTo : Fault → PacketOffset → Walked → Type 0
   WalkedTo x there w = (remains : ℕ) × (w ≡ faulty x remains) × (there ≡ offset_for original remains)
 
-  named : (x y : Fault) (there : PacketOffset) (remains : ℕ) → ◌≡◌ {A = Option (Fault × PacketOffset)} (some (y, offset_for original remains)) (some (x, there))
+  named : (x y : Fault) (there : PacketOffset) (remains : ℕ) → ◌≡◌ {A = Option (Fault × PacketOffset)} (Some (y, offset_for original remains)) (Some (x, there))
       → WalkedTo x there (faulty y remains)
   named x y there remains q =
       let pair : ◌≡◌ {A = Fault × PacketOffset} (y, offset_for original remains) (x, there) = cc in
       (remains, ap (λ (z : Fault × PacketOffset). faulty z.0 remains) pair, sym (ap (λ (z : Fault × PacketOffset). z.1) pair))
 
-  walked-fault : (x : Fault) (there : PacketOffset) (from : ℕ) (w : Walked) → faults_in (rewalked original r from w) ≡ some (x, there) → WalkedTo x there w
-  walked-fault x there from (listed options fill) q = absurd (let z : ◌≡◌ {A = ℕ} 0 1 = cc in omega arith)
-  walked-fault x there from (faulty unsafe_list n) q = absurd (let z : ◌≡◌ {A = ℕ} 0 1 = cc in omega arith)
+  walked-fault : (x : Fault) (there : PacketOffset) (from : ℕ) (w : Walked) → faults_in (rewalked original r from w) ≡ Some (x, there) → WalkedTo x there w
+  walked-fault x there from (listed options fill) q = cc
+  walked-fault x there from (faulty unsafe_list n) q = cc
   walked-fault x there from (faulty malformed_list n) q = named x malformed_list there n q
   walked-fault x there from (faulty frag_data n) q = named x frag_data there n q
   walked-fault x there from (faulty crowded_list n) q = named x crowded_list there n q
   walked-fault x there from (faulty tailed n) q = named x tailed there n q
   walked-fault x there from (faulty padded_list n) q = named x padded_list there n q
 
-  started-fault : (x : Fault) (there : PacketOffset) (s : Start) → start ≡ s → faults_in (restarted how original r s) ≡ some (x, there) → FaultAt x there
-  started-fault x there Empty e q = absurd (let z : ◌≡◌ {A = ℕ} 0 1 = cc in omega arith)
-  started-fault x there short_area e q = absurd (let z : ◌≡◌ {A = ℕ} 0 1 = cc in omega arith)
-  started-fault x there bad_pad e q = absurd (let z : ◌≡◌ {A = ℕ} 0 1 = cc in omega arith)
-  started-fault x there no_sum e q = absurd (let z : ◌≡◌ {A = ℕ} 0 1 = cc in omega arith)
-  started-fault x there bad_sum e q = absurd (let z : ◌≡◌ {A = ℕ} 0 1 = cc in omega arith)
-  started-fault x there (ListAt at) e q =
+  started-fault : (x : Fault) (there : PacketOffset) (s : Result ℕ Unlisted) → start ≡ s → faults_in (restarted how original r s) ≡ Some (x, there) → FaultAt x there
+  started-fault x there (Err Empty) e q = cc
+  started-fault x there (Err short_area) e q = cc
+  started-fault x there (Err bad_pad) e q = cc
+  started-fault x there (Err no_sum) e q = cc
+  started-fault x there (Err bad_sum) e q = cc
+  started-fault x there (Ok at) e q =
       let w = walked-fault x there (r + at) (walk_by how option_limit 0 (drop (r + at) original)) q in
       (w.0, record { at = at; starts = e; walks = w.1 }, w.2)
 
@@ -137,9 +138,9 @@ module _ (how : Strictness) (original : List ℕ) (r : ℕ) where
   unfolding rereading
   rereading-fault x there y e v = go (first_of (re_tests original r)) (ap faults_in e ∙ ap fault_in v ∙ fault-named x there)
     where
-      go : (o : Option ℕ) → faults_in (re_answered o (restarted how original r start)) ≡ some (x, there) → FaultAt x there
+      go : (o : Refused ℕ) → faults_in (re_answered o (restarted how original r start)) ≡ Some (x, there) → FaultAt x there
       go none q = started-fault x there start refl q
-      go (some n) q = absurd (let z : ◌≡◌ {A = ℕ} 0 1 = cc in omega arith)
+      go (some n) q = cc
 
   -- "tail" comes of a tail in the original's list, and is met where its first byte stands
   pub rereading-tail : (x : Rereading) (there : PacketOffset) → rereading how original r ≡ rereads x → x.verdict ≡ Tail there

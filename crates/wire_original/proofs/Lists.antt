@@ -19,8 +19,9 @@ use Rattle.wire_options.specs.declared.walk.Fault.TheVariants.{Malformed as malf
 use Rattle.wire_surplus.specs.Surplus.{start_of}
 use Rattle.wire_reading.specs.Reading.{is_odd, is_read}
 use Rattle.wire_original.specs.Rereading.{ReAnswer, refused, rereads, original_optionless, offset_for, rewalked, restarted, re_tests, re_answered, rereading}
-use Rattle.wire_surplus.specs.declared.Start.{Start}
-use Rattle.wire_surplus.specs.declared.Start.TheVariants.{Empty, Short as short_area, Pad as bad_pad, Unsummed as no_sum, BadSum as bad_sum, List as ListAt}
+use Rattle.std.specs.Prelude.{Result, Ok, Err}
+use Rattle.wire_surplus.specs.declared.Unlisted.{Unlisted}
+use Rattle.wire_surplus.specs.declared.Unlisted.TheVariants.{Empty, Short as short_area, Pad as bad_pad, Unsummed as no_sum, BadSum as bad_sum}
 use Rattle.wire_reading.specs.declared.Verdict.{Verdict}
 use Rattle.wire_reading.specs.declared.Verdict.TheVariants.{Bare, Short, Pad, Unsummed, BadSum, Malformed, FragData, Crowded, Tail, Padded, Read}
 use Rattle.wire_original.specs.declared.Rereading.{Rereading}
@@ -48,21 +49,21 @@ module _ (how : Strictness) (original : List ℕ) (r : ℕ) (x : Rereading) (v :
       → rewalked original r from w ≡ rereads x → RelistsIn original x
   rewalked-lists from (listed options fill) h e q =
       subst (RelistsBy original) q (record { found = options; ordered = h; ends = refl; walks = listed_plain how option_limit (drop from original) options fill e; counts = refl })
-  rewalked-lists from (faulty unsafe_list n) h e q = absurd (let z : ◌≡◌ {A = ℕ} 0 1 = cc in omega arith)
+  rewalked-lists from (faulty unsafe_list n) h e q = cc
   rewalked-lists from (faulty malformed_list n) h e q = absurd (optionless-not (Malformed (offset_for original n)) refl q)
   rewalked-lists from (faulty frag_data n) h e q = absurd (optionless-not (FragData (offset_for original n)) refl q)
   rewalked-lists from (faulty crowded_list n) h e q = absurd (optionless-not (Crowded (offset_for original n)) refl q)
   rewalked-lists from (faulty tailed n) h e q = absurd (optionless-not (Tail (offset_for original n)) refl q)
   rewalked-lists from (faulty padded_list n) h e q = absurd (optionless-not (Padded (offset_for original n)) refl q)
 
-  restarted-lists : (odd : Bool) (start : Start) → r ≤ length original → start_of odd true (drop r original) ≡ start
+  restarted-lists : (odd : Bool) (start : Result ℕ Unlisted) → r ≤ length original → start_of odd true (drop r original) ≡ start
       → restarted how original r start ≡ rereads x → RelistsIn original x
-  restarted-lists odd Empty h e q = absurd (optionless-not Bare refl q)
-  restarted-lists odd short_area h e q = absurd (optionless-not Short refl q)
-  restarted-lists odd bad_pad h e q = absurd (optionless-not Pad refl q)
-  restarted-lists odd no_sum h e q = absurd (optionless-not Unsummed refl q)
-  restarted-lists odd bad_sum h e q = absurd (optionless-not BadSum refl q)
-  restarted-lists odd (ListAt at) h e q =
+  restarted-lists odd (Err Empty) h e q = absurd (optionless-not Bare refl q)
+  restarted-lists odd (Err short_area) h e q = absurd (optionless-not Short refl q)
+  restarted-lists odd (Err bad_pad) h e q = absurd (optionless-not Pad refl q)
+  restarted-lists odd (Err no_sum) h e q = absurd (optionless-not Unsummed refl q)
+  restarted-lists odd (Err bad_sum) h e q = absurd (optionless-not BadSum refl q)
+  restarted-lists odd (Ok at) h e q =
       let within : at ≤ length (drop r original) = start-list odd true (drop r original) at e in
       rewalked-lists (r + at) (walk_by how option_limit 0 (drop (r + at) original)) (omega (arith, simp length-drop at within)) refl q
 
@@ -70,11 +71,11 @@ pub rereading-lists : (how : Strictness) (original : List ℕ) (r : ℕ) (x : Re
 unfolding rereading
 rereading-lists how original r x e v = go (first_of (re_tests original r)) refl e
   where
-    start : Start
+    start : Result ℕ Unlisted
     start = start_of (is_odd (udp_header + r)) true (drop r original)
 
     go : (o : Option ℕ) → first_of (re_tests original r) ≡ o → re_answered o (restarted how original r start) ≡ rereads x → RelistsIn original x
-    go (some n) f q = absurd (let z : ◌≡◌ {A = ℕ} 0 1 = cc in omega arith)
+    go (some n) f q = cc
     go none f q =
         let second = (first-none _ _ (first-none _ _ f).1).0 in
         restarted-lists how original r x v (is_odd (udp_header + r)) start (ltb-false (length original) r second) refl q

@@ -17,7 +17,7 @@ use Rattle.wire_offsets.specs.Places.{place_before, OptionsFrom, FaultAt, ByteOf
 use Rattle.wire_offsets.proofs.Faults.{fault-byte}
 use Rattle.wire_offsets.proofs.Parts.{rest-lies, fault-lies, options-from}
 use Rattle.wire_surplus.specs.Surplus.{start_of}
-use Rattle.wire_surplus.specs.declared.Start.TheVariants.{List as ListAt}
+use Rattle.std.specs.Prelude.{Ok}
 use Rattle.wire_reading.specs.Reading.{is_odd, verdict_of}
 use Rattle.wire_reading.specs.declared.Verdict.TheVariants.{Read}
 use Rattle.wire_original.specs.Rereading.{rereads, rereading}
@@ -28,7 +28,7 @@ use Rattle.wire_original.proofs.Lists.{RelistsIn, rereading-lists}
 -- The offset is 8 plus a place in the option list, which starts at place `from`, `into` bytes behind r: where the walk meets the fault.
 pub record FaultInOriginal (how : Strictness) (original : List ℕ) (r : ℕ) (x : Fault) (at : PacketOffset) : Type 0 where
   pub into : ℕ
-  pub starts : start_of (is_odd (udp_header + r)) true (drop r original) ≡ ListAt into
+  pub starts : start_of (is_odd (udp_header + r)) true (drop r original) ≡ Ok into
   pub from : ℕ
   pub start : from ≡ r + into
   pub place : ℕ

@@ -22,20 +22,13 @@ use Rattle.wire_options.specs.declared.walk.Fault.TheVariants.{
   Padded as padded_list,
 }
 use Rattle.wire_surplus.specs.Surplus.{start_of}
-use Rattle.wire_reading.specs.Reading.{is_odd}
+use Rattle.wire_reading.specs.Reading.{unlisted_verdict, is_odd}
 use Rattle.wire_original.specs.Rereading.{places, ReAnswer, refused, rereads, original_optionless, offset_for, rewalked, restarted, re_tests, re_answered, rereading}
-use Rattle.wire_surplus.specs.declared.Start.{Start}
-use Rattle.wire_surplus.specs.declared.Start.TheVariants.{
-  Empty,
-  Short as short_area,
-  Pad as bad_pad,
-  Unsummed as no_sum,
-  BadSum as bad_sum,
-  List as ListAt,
-}
+use Rattle.std.specs.Prelude.{Result, Ok, Err}
+use Rattle.wire_surplus.specs.declared.Unlisted.{Unlisted}
 use Rattle.wire_reading.specs.declared.Apc.TheVariants.{Absent}
 use Rattle.wire_reading.specs.declared.Verdict.{Verdict}
-use Rattle.wire_reading.specs.declared.Verdict.TheVariants.{Bare, Short, Pad, Unsummed, BadSum, Malformed, FragData, Crowded, Tail, Padded, Read}
+use Rattle.wire_reading.specs.declared.Verdict.TheVariants.{Malformed, FragData, Crowded, Tail, Padded, Read}
 use Rattle.wire_original.specs.declared.Rereading.{Rereading}
 
 -- nothing is reported of the area
@@ -69,19 +62,15 @@ rewalked-by original r from (faulty crowded_list n) = optionless-by r (Crowded (
 rewalked-by original r from (faulty tailed n) = optionless-by r (Tail (offset_for original n))
 rewalked-by original r from (faulty padded_list n) = optionless-by r (Padded (offset_for original n))
 
-restarted-by : (how : Strictness) (original : List ℕ) (r : ℕ) (start : Start) → RereadBy r (restarted how original r start)
-restarted-by how original r Empty = optionless-by r Bare
-restarted-by how original r short_area = optionless-by r Short
-restarted-by how original r bad_pad = optionless-by r Pad
-restarted-by how original r no_sum = optionless-by r Unsummed
-restarted-by how original r bad_sum = optionless-by r BadSum
-restarted-by how original r (ListAt at) = rewalked-by original r (r + at) (walk_by how option_limit 0 (drop (r + at) original))
+restarted-by : (how : Strictness) (original : List ℕ) (r : ℕ) (start : Result ℕ Unlisted) → RereadBy r (restarted how original r start)
+restarted-by how original r (Err unlisted) = optionless-by r (unlisted_verdict unlisted)
+restarted-by how original r (Ok at) = rewalked-by original r (r + at) (walk_by how option_limit 0 (drop (r + at) original))
 
 pub reread-claims : (how : Strictness) (original : List ℕ) (r : ℕ) (x : Rereading) → rereading how original r ≡ rereads x → Reread r x
 unfolding rereading
 reread-claims how original r x e = subst (RereadBy r) e (go (first_of (re_tests original r)))
   where
-    start : Start
+    start : Result ℕ Unlisted
     start = start_of (is_odd (udp_header + r)) true (drop r original)
 
     go : (o : Option ℕ) → RereadBy r (re_answered o (restarted how original r start))

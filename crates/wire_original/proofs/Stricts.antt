@@ -15,8 +15,8 @@ use Rattle.wire_nops.specs.declared.Strictness.TheVariants.{Plain}
 use Rattle.wire_options.specs.Walk.{option_limit}
 use Rattle.wire_options.proofs.Stricts.{padded-or-plain}
 use Rattle.wire_surplus.specs.Surplus.{start_of}
-use Rattle.wire_surplus.specs.declared.Start.{Start}
-use Rattle.wire_surplus.specs.declared.Start.TheVariants.{Empty, Short, Pad, Unsummed, BadSum, List as ListAt}
+use Rattle.std.specs.Prelude.{Result, Ok, Err}
+use Rattle.wire_surplus.specs.declared.Unlisted.{Unlisted}
 use Rattle.wire_reading.specs.Reading.{is_odd}
 use Rattle.wire_reading.specs.declared.Verdict.TheVariants.{Padded}
 use Rattle.wire_original.specs.Rereading.{ReAnswer, original_optionless, rewalked, restarted, re_tests, re_answered, rereading}
@@ -25,13 +25,9 @@ module _ (how : Strictness) (original : List ℕ) (r : ℕ) where
   abbrev OrPlain : ReAnswer → ReAnswer → Type 0
   OrPlain a b = ((at : PacketOffset) × (a ≡ original_optionless r (Padded at))) ⊎ (a ≡ b)
 
-  restarted-or-plain : (start : Start) → OrPlain (restarted how original r start) (restarted Plain original r start)
-  restarted-or-plain Empty = inr refl
-  restarted-or-plain Short = inr refl
-  restarted-or-plain Pad = inr refl
-  restarted-or-plain Unsummed = inr refl
-  restarted-or-plain BadSum = inr refl
-  restarted-or-plain (ListAt at) =
+  restarted-or-plain : (start : Result ℕ Unlisted) → OrPlain (restarted how original r start) (restarted Plain original r start)
+  restarted-or-plain (Err unlisted) = inr refl
+  restarted-or-plain (Ok at) =
       ⊎_elim (λ p. inl (_, ap (rewalked original r (r + at)) p.1)) (λ e. inr (ap (rewalked original r (r + at)) e))
       (padded-or-plain how option_limit (drop (r + at) original))
 
@@ -40,7 +36,7 @@ module _ (how : Strictness) (original : List ℕ) (r : ℕ) where
   unfolding rereading
   rereading-or-plain = go (first_of (re_tests original r))
     where
-      start : Start
+      start : Result ℕ Unlisted
       start = start_of (is_odd (udp_header + r)) true (drop r original)
 
       go : (o : Option ℕ) → OrPlain (re_answered o (restarted how original r start)) (re_answered o (restarted Plain original r start))

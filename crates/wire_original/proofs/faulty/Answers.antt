@@ -1,23 +1,21 @@
--- `wire_original::faulty` meets its contract, at the variant that the arm knows.
-use mathlib.Core.Path.{sym, ap, ◌∙◌}
+-- `wire_original::faulty` meets its contract: a fault is delivered with its verdict, but for an unsafe option.
+use mathlib.Core.Path.{◌≡◌, refl, ap, ◌∙◌}
+use Prim.Native.Nat.{ℕ}
+use Rattle.number_offsets.specs.declared.PacketOffset.{PacketOffset}
 use Rattle.wire_options.specs.declared.walk.Fault.{Fault}
-use Rattle.wire_original.specs.Rereading.{original_faulty}
+use Rattle.wire_options.specs.declared.walk.Fault.TheVariants.{Malformed, Unsafe, FragData, Crowded, Tail, Padded}
+use Rattle.wire_reading.specs.Reading.{verdict_of}
+use Rattle.wire_original.specs.Rereading.{original_optionless, original_faulty}
 use Rattle.wire_original.proofs.faulty.Goals as goal
 
-pub returns-in-Unsafe : goal.returns-in-Unsafe
-returns-in-Unsafe c = ap (λ (f : Fault). original_faulty c.args.r.0 f c.args.at) (sym c.in-Unsafe.is)
+delivered : (r : ℕ) (fault : Fault) (at : PacketOffset) → (fault ≡ Unsafe → ⊥) → original_optionless r (verdict_of fault at) ≡ original_faulty r fault at
+delivered r Unsafe at other = absurd (other refl)
+delivered r Malformed at other = refl
+delivered r FragData at other = refl
+delivered r Crowded at other = refl
+delivered r Tail at other = refl
+delivered r Padded at other = refl
 
-pub returns-in-Malformed : goal.returns-in-Malformed
-returns-in-Malformed c = c.optionless.ensures ∙ ap (λ (f : Fault). original_faulty c.args.r.0 f c.args.at) (sym c.in-Malformed.is)
-
-pub returns-in-FragData : goal.returns-in-FragData
-returns-in-FragData c = c.optionless-in-FragData.ensures ∙ ap (λ (f : Fault). original_faulty c.args.r.0 f c.args.at) (sym c.in-FragData.is)
-
-pub returns-in-Crowded : goal.returns-in-Crowded
-returns-in-Crowded c = c.optionless-in-Crowded.ensures ∙ ap (λ (f : Fault). original_faulty c.args.r.0 f c.args.at) (sym c.in-Crowded.is)
-
-pub returns-in-Tail : goal.returns-in-Tail
-returns-in-Tail c = c.optionless-in-Tail.ensures ∙ ap (λ (f : Fault). original_faulty c.args.r.0 f c.args.at) (sym c.in-Tail.is)
-
-pub returns-in-Padded : goal.returns-in-Padded
-returns-in-Padded c = c.optionless-in-Padded.ensures ∙ ap (λ (f : Fault). original_faulty c.args.r.0 f c.args.at) (sym c.in-Padded.is)
+pub returns-in_default : goal.returns-in_default
+returns-in_default c = let a = c.args in
+    c.optionless.ensures ∙ ap (original_optionless a.r.0) c.from.ensures ∙ delivered a.r.0 a.met.fault a.met.at c.in_default.not-Unsafe

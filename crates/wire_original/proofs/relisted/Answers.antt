@@ -4,7 +4,9 @@ use mathlib.Core.List.{List}
 use Prim.Native.Nat.{ℕ, ◌+◌, ◌-◌, ◌≤◌}
 use Rattle.number_offsets.specs.declared.OriginalOffset.{OriginalOffset}
 use Rattle.wire_nops.specs.declared.Strictness.{Strictness}
-use Rattle.wire_options.specs.declared.walk.Walk.{Walk}
+use Rattle.std.specs.Prelude.{Result, Ok}
+use Rattle.wire_options.specs.declared.walk.Listed.{Listed}
+use Rattle.wire_options.specs.declared.walk.Met.{Met}
 use native.Mathlib.Omega.{arith}
 use lib.ListN.{length, drop, length-drop}
 use Rattle.number_octets.specs.Octets.{part}
@@ -13,7 +15,6 @@ use Rattle.number_offsets.specs.Offsets.{udp_header, offset_of}
 use Rattle.number_offsets.specs.declared.PacketOffset.{PacketOffset}
 use Rattle.wire_options.specs.Walk.{option_limit, walk_answer}
 use Rattle.wire_options.specs.Strict.{walk_by}
-use Rattle.wire_options.specs.declared.walk.Walk.TheVariants.{Listed as WalkListed}
 use Rattle.wire_original.specs.Rereading.{places, rereads}
 use Rattle.wire_original.specs.ByWalk.{rewalked_by}
 use Rattle.wire_reading.specs.ByWalk.{apc_by}
@@ -30,42 +31,42 @@ list-end from base l e h =
     omega (arith, ap length (part-rest from.0 l) ∙ length-drop from.0 l)
 
 -- the walk was made of the list behind `from`
-walk : (strictness : Strictness) (from : OriginalOffset) (base : PacketOffset) (l : List ℕ) (result : Walk) → base ≡ offset_of from → from.0 ≤ length l
+walk : (strictness : Strictness) (from : OriginalOffset) (base : PacketOffset) (l : List ℕ) (result : Result Listed Met) → base ≡ offset_of from → from.0 ≤ length l
     → result ≡ walk_answer (base.0 + length (part from.0 (length l - from.0) l)) (walk_by strictness option_limit 0 (part from.0 (length l - from.0) l))
     → walk_answer (udp_header + length l) (walk_by strictness option_limit 0 (drop from.0 l)) ≡ result
 walk strictness from base l result e h q =
     sym (q ∙ ap₂ (λ (end : ℕ) (t : List ℕ). walk_answer end (walk_by strictness option_limit 0 t)) (list-end from base l e h) (part-rest from.0 l))
 
-pub walk_list-list-requires : goal.walk_list-list-requires
+pub walk_list-requires : goal.walk_list-requires
 unfolding udp_header
-walk_list-list-requires c = omega (arith, list-end c.args.from c.offset_of-base.result c.args.original.now c.offset_of-base.ensures c.requires.1)
+walk_list-requires c = omega (arith, list-end c.args.from c.offset_of-base.result c.args.original.now c.offset_of-base.ensures c.requires.1)
 
 pub apc_of-requires : goal.apc_of-requires
 apc_of-requires c = omega (arith, c.requires)
 
-pub returns-in-Listed : goal.returns-in-Listed
+pub returns-in-Ok : goal.returns-in-Ok
 unfolding option_limit
-returns-in-Listed c = let a = c.args in
+returns-in-Ok c = let a = c.args in
     let whole : a.r.0 - 0 ≡ a.r.0 = omega arith in
-    let apc = c.apc_of.ensures ∙ ap (λ (n : ℕ). apc_by (part 0 n a.original.now) c.in-Listed.apcs) whole in
+    let apc = c.apc_of.ensures ∙ ap (λ (n : ℕ). apc_by (part 0 n a.original.now) c.in-Ok.list.apcs) whole in
     ◌∙◌ {b = rewalked_by a.original.now a.r.0 a.from.0
-    (WalkListed c.in-Listed.count c.in-Listed.fill c.in-Listed.apcs)}
+    (Ok c.in-Ok.list)}
     (λ i. rereads (record {
       user = places 0 a.r.0;
       verdict = Read;
       options = places a.from.0 (length a.original.now);
-      count = c.in-Listed.count;
-      fill = c.in-Listed.fill;
+      count = c.in-Ok.list.count;
+      fill = c.in-Ok.list.fill;
       apc = apc i;
     })) refl
-    ∙ ap (rewalked_by a.original.now a.r.0 a.from.0) (sym (walk a.strictness a.from c.offset_of-base.result a.original.now _ c.offset_of-base.ensures c.requires.1 c.walk_list-list.ensures ∙ c.in-Listed.is))
+    ∙ ap (rewalked_by a.original.now a.r.0 a.from.0) (sym (walk a.strictness a.from c.offset_of-base.result a.original.now _ c.offset_of-base.ensures c.requires.1 c.walk_list.ensures ∙ c.in-Ok.is))
     ∙ rereading-by-answer a.strictness option_limit a.original.now a.r.0 a.from.0
     (walk_by a.strictness option_limit 0 (drop a.from.0 a.original.now)) refl
 
-pub returns-in-Faulty : goal.returns-in-Faulty
+pub returns-in-Err : goal.returns-in-Err
 unfolding option_limit
-returns-in-Faulty c = let a = c.args in
+returns-in-Err c = let a = c.args in
     c.faulty.ensures
-    ∙ ap (rewalked_by a.original.now a.r.0 a.from.0) (sym (walk a.strictness a.from c.offset_of-base.result a.original.now _ c.offset_of-base.ensures c.requires.1 c.walk_list-list.ensures ∙ c.in-Faulty.is))
+    ∙ ap (rewalked_by a.original.now a.r.0 a.from.0) (sym (walk a.strictness a.from c.offset_of-base.result a.original.now _ c.offset_of-base.ensures c.requires.1 c.walk_list.ensures ∙ c.in-Err.is))
     ∙ rereading-by-answer a.strictness option_limit a.original.now a.r.0 a.from.0
     (walk_by a.strictness option_limit 0 (drop a.from.0 a.original.now)) refl
