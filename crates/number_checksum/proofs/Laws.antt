@@ -1,6 +1,6 @@
 -- Laws of the folded sum: folding early changes nothing, parts laid end to end add up, and a checksum field makes the whole FFFF.
 -- Assumes nothing.
-use Rattle.std.proofs.Common.{◌≡◌, ℕ, zero, suc, ◌+◌, ◌-◌, ◌*◌, ◌/◌, ◌%◌, ◌<◌, ◌≤◌, Bool, true, false, cond, not, eqb, List, [], ◌∷◌, ◌++◌, length, get_or, take, drop, sym, refl, ap, ◌∙◌, add_comm, suc-add, arith, length-drop, take-append-drop, drop_of_length-le, length-take-le, drop-cons, drop-drop, eqb-true}
+use Rattle.std.proofs.Common.{◌≡◌, ℕ, zero, suc, ◌+◌, ◌-◌, ◌*◌, ◌/◌, ◌%◌, ◌<◌, ◌≤◌, Bool, true, false, cond, not, eqb, List, [], ◌∷◌, ◌++◌, length, get_or, drop, sym, refl, ap, ◌∙◌, add_comm, suc-add, arith, length-append, min, drop_of_length-le, drop-cons, eqb-true}
 use native.Mathlib.Nat.{mod-add-mod}
 use native.Mathlib.Numerals.{towards_suc}
 use borrow.Author.Tests.{eqb-false}
@@ -73,24 +73,25 @@ parity-odd odd zero e = absurd (omega arith)
 parity-odd odd (suc zero) e = refl
 parity-odd odd (suc (suc n)) e = two-more odd n ∙ parity-odd odd n (omega arith)
 
--- a list cut after an even number of bytes
-pub word_sum-cut : (odd : Bool) (n : ℕ) (l : List ℕ) → n % 2 ≡ 0 → n ≤ length l → word_sum odd l ≡ word_sum odd (take n l) + word_sum odd (drop n l)
-word_sum-cut odd n l even h =
-    ap (word_sum odd) (sym (take-append-drop n l)) ∙ word_sum-append odd (take n l) (drop n l)
-    ∙ ap (λ (p : Bool). word_sum odd (take n l) + word_sum p (drop n l))
-    (ap (parity_after odd) (length-take-le n l h) ∙ parity-even odd n even)
+-- a block at the front added to a folded sum: its length is even, or nothing stands behind it
+pub folded-block : (odd : Bool) (sum r : ℕ) (whole block rest : List ℕ) → whole ≡ block ++ rest → length block ≡ min 65536 (length whole)
+    → r ≡ folded (sum + word_sum odd block) → folded (r + word_sum odd rest) ≡ folded (sum + word_sum odd whole)
+unfolding word_sum
+folded-block odd sum r whole block rest e n f =
+    let cut : word_sum odd whole ≡ word_sum odd block + word_sum (parity_after odd (length block)) rest =
+    ap (word_sum odd) e ∙ word_sum-append odd block rest in
+    let size : length whole ≡ length block + length rest = ap length e ∙ length-append block rest in
+    let behind : word_sum (parity_after odd (length block)) rest ≡ word_sum odd rest = go rest (λ some. parity-even odd (length block) (omega arith)) in
+    ap (λ (x : ℕ). folded (x + word_sum odd rest)) f ∙ folded-add (sum + word_sum odd block) (word_sum odd rest) ∙ ap folded (omega arith)
+  where
+    go : (l : List ℕ) → (0 < length l → parity_after odd (length block) ≡ odd) → word_sum (parity_after odd (length block)) l ≡ word_sum odd l
+    go [] same = refl
+    go (b ∷ l) same = ap (λ (p : Bool). word_sum p (b ∷ l)) (same (omega arith))
 
--- a part of even length added to a folded sum
-pub folded-part : (odd : Bool) (at n sum r : ℕ) (l : List ℕ) → n % 2 ≡ 0 → at + n ≤ length l
-    → r ≡ folded (sum + word_sum odd (take (at + n - at) (drop at l))) → folded (r + word_sum odd (drop (at + n) l)) ≡ folded (sum + word_sum odd (drop at l))
-folded-part odd at n sum r l even fits e =
-    let size : at + n - at ≡ n = omega arith in
-    let added : r ≡ folded (sum + word_sum odd (take n (drop at l))) = e ∙ ap (λ (m : ℕ). folded (sum + word_sum odd (take m (drop at l)))) size in
-    let cut : word_sum odd (drop at l) ≡ word_sum odd (take n (drop at l)) + word_sum odd (drop n (drop at l)) =
-    word_sum-cut odd n (drop at l) even (simp length-drop (omega arith)) in
-    let behind : word_sum odd (drop n (drop at l)) ≡ word_sum odd (drop (at + n) l) = ap (word_sum odd) (drop-drop n at l) in
-    ap (λ (x : ℕ). folded (x + word_sum odd (drop (at + n) l))) added
-    ∙ folded-add (sum + word_sum odd (take n (drop at l))) (word_sum odd (drop (at + n) l)) ∙ ap folded (omega arith)
+pub word_sum-empty : (odd : Bool) (l : List ℕ) → length l ≡ 0 → word_sum odd l ≡ 0
+unfolding word_sum
+word_sum-empty odd [] h = refl
+word_sum-empty odd (b ∷ l) h = absurd (omega arith)
 
 -- two bytes at the front of what is left, the last byte, and none
 pub word_sum-two : (l : List ℕ) (i : ℕ) → i + 1 < length l

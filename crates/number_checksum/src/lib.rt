@@ -22,13 +22,10 @@ pub fn add(running: u16, bytes: &[u8], odd: bool) -> u16
     ensures { result ≡ folded (running + word_sum odd bytes.now) }
 {
     let mut sum = running;
-    let mut at = 0;
-    while BLOCK < bytes.len() - at {
-        let next = at + BLOCK;
-        sum = add_block(wide(sum), &bytes[at..next], odd);
-        at = next;
+    for block in bytes.chunks(BLOCK) {
+        sum = add_block(u64::from(sum), block, odd);
     }
-    add_block(wide(sum), &bytes[at..], odd)
+    sum
 }
 
 // The same for at most one block, and a running sum that need not be folded.
@@ -47,7 +44,7 @@ pub fn add_block(running: u64, bytes: &[u8], odd: bool) -> u16
 pub fn add_word(running: u16, word: u16) -> u16
     ensures { result ≡ folded (running + word) }
 {
-    fold(wide(running) + wide(word))
+    fold(u64::from(running) + u64::from(word))
 }
 
 // What a checksum field holds for the sum of all else: the complement, with 0 sent as FFFF.
@@ -70,13 +67,11 @@ fn block_sum(bytes: &[u8]) -> u64
     let steps = bytes.len() / 8;
     let mut added: u64 = 0;
     let mut high: u64 = 0;
-    let mut k = 0;
-    while k < steps {
+    for k in 0..steps {
         let first = word(bytes, 8 * k);
         let second = word(bytes, 8 * k + 4);
         added = num::wrapping_add_u64(added, first + second * HALF);
         high += second;
-        k += 1;
     }
     let low = num::wrapping_sub_u64(added, high % HALF * HALF);
     low + high + rest_sum(bytes, 8 * steps)
@@ -113,7 +108,7 @@ fn last_byte(bytes: &[u8], at: usize) -> u64
     ensures upper_bound { result < 256 }
 {
     if at < bytes.len() {
-        return byte(bytes[at]);
+        return u64::from(bytes[at]);
     }
     0
 }
@@ -124,10 +119,7 @@ fn word(bytes: &[u8], at: usize) -> u64
     ensures bytes_value { folded (result + word_sum true (drop (at + 4) bytes.now)) ≡ folded (word_sum true (drop at bytes.now)) }
     ensures upper_bound { result ≤ 4294967295 }
 {
-    byte(bytes[at])
-        + byte(bytes[at + 1]) * 256
-        + byte(bytes[at + 2]) * 65536
-        + byte(bytes[at + 3]) * 16777216
+    u64::from(number_octets::get_u32_little(bytes, at))
 }
 
 // The two bytes at `at`, as a little-endian number.
@@ -136,7 +128,7 @@ fn pair(bytes: &[u8], at: usize) -> u64
     ensures bytes_value { result + word_sum true (drop (at + 2) bytes.now) ≡ word_sum true (drop at bytes.now) }
     ensures upper_bound { result ≤ 65535 }
 {
-    byte(bytes[at]) + byte(bytes[at + 1]) * 256
+    u64::from(bytes[at]) + u64::from(bytes[at + 1]) * 256
 }
 
 fn fold(sum: u64) -> u16
@@ -146,16 +138,4 @@ fn fold(sum: u64) -> u16
         return 0;
     }
     ((sum - 1) % ALL_ONES + 1) as u16
-}
-
-fn byte(b: u8) -> u64
-    ensures { (result ≡ b) × (result < 256) }
-{
-    b as u64
-}
-
-fn wide(word: u16) -> u64
-    ensures { result ≡ word }
-{
-    word as u64
 }

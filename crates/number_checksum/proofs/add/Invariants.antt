@@ -1,9 +1,10 @@
-use Rattle.std.proofs.Common.{◌≡◌, ◌+◌, ◌-◌, ◌≤◌, length, drop}
+use Rattle.std.proofs.Common.{◌≡◌, ◌+◌, ◌≤◌}
 use Rattle.number_checksum.specs.Checksum.{all_ones, folded, word_sum}
 use Rattle.number_checksum.proofs.add.Given as goal
 
-abbrev pub invariant-loop-at : goal.invariant-loop-at
-invariant-loop-at l = (l.at ≤ length l.bytes) × (l.sum ≤ all_ones) × (folded (l.sum + word_sum l.odd (drop l.at l.bytes)) ≡ folded (l.running + word_sum l.odd l.bytes))
-
-abbrev pub decreases-loop-at : goal.decreases-loop-at
-decreases-loop-at l = length l.bytes - l.at
+abbrev pub invariant-loop-block : goal.invariant-loop-block
+invariant-loop-block l = record {
+  size : l.block-iterator.size ≡ 65536;
+  small : l.sum ≤ all_ones;
+  sums : folded (l.sum + word_sum l.odd l.block-iterator.rest.now) ≡ folded (l.running + word_sum l.odd l.bytes);
+}

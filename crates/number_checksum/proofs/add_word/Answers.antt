@@ -4,4 +4,4 @@ use Rattle.number_checksum.specs.Checksum.{folded}
 use Rattle.number_checksum.proofs.add_word.Goals as goal
 
 pub returns : goal.returns
-returns c = c.fold.ensures ∙ ap₂ (λ (x y : ℕ). folded (x + y)) c.wide.ensures c.wide-2.ensures
+returns c = c.fold.ensures ∙ ap₂ (λ (x y : ℕ). folded (x + y)) c.from.ensures c.from-2.ensures

@@ -8,26 +8,26 @@ use Rattle.number_checksum.proofs.block_sum.Goals as goal
 use Rattle.number_checksum.proofs.block_sum.Goals.{After-rest_sum, After-wrapping_sub_u64-low}
 
 -- less the high halves, what was added is the low halves
-low-is : (c : After-wrapping_sub_u64-low) → c.wrapping_sub_u64-low.result ≡ c.loop-k.invariant.3.low
+low-is : (c : After-wrapping_sub_u64-low) → c.wrapping_sub_u64-low.result ≡ c.loop-k.invariant.2.low
 low-is c =
     let l = c.loop-k in
-    without-high l.added l.invariant.3.low l.high c.wrapping_sub_u64-low.result l.invariant.3.sum (omega (arith, l.invariant.3.bound))
+    without-high l.added l.invariant.2.low l.high c.wrapping_sub_u64-low.result l.invariant.2.sum (omega (arith, l.invariant.2.bound))
     (omega (arith, c.wrapping_sub_u64-low.type_inv)) c.wrapping_sub_u64-low.ensures.value
 
 -- less the high halves, what was added is the low halves
-low-is-2 : (c : After-rest_sum) → c.wrapping_sub_u64-low.result ≡ c.loop-k.invariant.3.low
+low-is-2 : (c : After-rest_sum) → c.wrapping_sub_u64-low.result ≡ c.loop-k.invariant.2.low
 low-is-2 c =
     let l = c.loop-k in
-    without-high l.added l.invariant.3.low l.high c.wrapping_sub_u64-low.result l.invariant.3.sum (omega (arith, l.invariant.3.bound))
+    without-high l.added l.invariant.2.low l.high c.wrapping_sub_u64-low.result l.invariant.2.sum (omega (arith, l.invariant.2.bound))
     (omega (arith, c.wrapping_sub_u64-low.type_inv)) c.wrapping_sub_u64-low.ensures.value
 
 pub loop-k-init : goal.loop-k-init
-loop-k-init c = (search rules, search rules, search rules, record { low = 0; bound = omega arith; sum = refl; folds = ap folded (omega arith) })
+loop-k-init c = (search rules, search rules, record { low = 0; bound = omega arith; sum = refl; folds = ap folded (omega arith) })
 
 pub loop-k-preserved : goal.loop-k-preserved
 loop-k-preserved c = let bs : List ℕ = c.args.bytes.now in
     let k : ℕ = c.loop-k.k in
-    let h = c.loop-k.invariant.3 in
+    let h = c.loop-k.invariant.2 in
     let x : ℕ = c.word-first.result in
     let y : ℕ = c.word-second.result in
     let sum : ℕ = h.low + c.loop-k.high in
@@ -44,7 +44,7 @@ loop-k-preserved c = let bs : List ℕ = c.args.bytes.now in
       sum = c.wrapping_add_u64-added.ensures.value ∙ wraps c.loop-k.added h.low c.loop-k.high x y h.sum;
       folds = ap folded (omega arith) ∙ second ∙ ap folded (omega arith) ∙ first ∙ h.folds;
     } in
-    (omega arith, search rules, omega arith, halves)
+    (search rules, omega arith, halves)
 
 pub overflow_add-result : goal.overflow_add-result
 overflow_add-result c = omega (arith, low-is c)
@@ -54,7 +54,7 @@ overflow_add-result-2 c = omega (arith, low-is-2 c)
 
 pub returns : goal.returns
 returns c = let bs : List ℕ = c.args.bytes.now in
-    let h = c.loop-k.invariant.3 in
+    let h = c.loop-k.invariant.2 in
     let low : c.wrapping_sub_u64-low.result ≡ h.low = low-is-2 c in
     let sum : ℕ = h.low + c.loop-k.high in
     let left : ℕ → ℕ = λ i. word_sum true (drop i bs) in
