@@ -1,6 +1,6 @@
 -- Words of 64 bits, added wrapping with their high halves apart: less the high halves, what was added is the sum of the low halves, as long as that
 -- does not wrap. Assumes nothing.
-use Rattle.std.proofs.Common.{◌≡◌, ℕ, ◌+◌, ◌*◌, ◌%◌, ◌<◌, ◌≤◌, true, List, drop, ap, ◌∙◌, arith}
+use Rattle.std.proofs.Common.{◌≡◌, ℕ, ◌+◌, ◌-◌, ◌*◌, ◌%◌, ◌<◌, ◌≤◌, true, List, drop, ap, ◌∙◌, arith}
 use native.Mathlib.Nat.{mod-add-mod}
 use Rattle.number_checksum.specs.Checksum.{word_sum, folded}
 
@@ -18,6 +18,11 @@ wraps added low high x y e =
     ap (λ (n : ℕ). (n + (x + y * 4294967296)) % 18446744073709551616) e
     ∙ mod-add-mod (low + 4294967296 * high) 18446744073709551616 (x + y * 4294967296) ∙ ap (λ (n : ℕ). n % 18446744073709551616) whole
 
-pub without-high : (added low high r : ℕ) → added ≡ (low + 4294967296 * high) % 18446744073709551616 → low < 18446744073709551616
-    → r < 18446744073709551616 → (r + high % 4294967296 * 4294967296) % 18446744073709551616 ≡ added → r ≡ low
-without-high added low high r e hl hr back = omega arith
+without-high : (added low high : ℕ) → added ≡ (low + 4294967296 * high) % 18446744073709551616 → low < 18446744073709551616
+    → (added + (18446744073709551616 - high % 4294967296 * 4294967296)) % 18446744073709551616 ≡ low
+without-high added low high e h = omega arith
+
+-- less the high halves, what was added is the low halves
+pub low-is : {bytes : List ℕ} {k added high : ℕ} (h : Halves bytes k added high) → k ≤ 8192
+    → (added + (18446744073709551616 - high % 4294967296 * 4294967296)) % 18446744073709551616 ≡ h.low
+low-is {bytes} {k} {added} {high} h n = without-high added h.low high h.sum (omega (arith, h.bound))

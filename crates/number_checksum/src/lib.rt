@@ -7,8 +7,6 @@
 ghost use Rattle.std.specs.Prelude.{◌≡◌, ◌+◌, ◌<◌, ◌≤◌, true, length, drop};
 ghost use Rattle.number_checksum.specs.Checksum.{word_sum, folded, sent};
 
-use std::num;
-
 // How many bytes are added before a sum is folded: an even number, so that parity stays.
 const BLOCK: usize = 65536;
 
@@ -70,10 +68,10 @@ fn block_sum(bytes: &[u8]) -> u64
     for k in 0..steps {
         let first = word(bytes, 8 * k);
         let second = word(bytes, 8 * k + 4);
-        added = num::wrapping_add_u64(added, first + second * HALF);
+        added = added.wrapping_add(first + second * HALF);
         high += second;
     }
-    let low = num::wrapping_sub_u64(added, high % HALF * HALF);
+    let low = added.wrapping_sub(high % HALF * HALF);
     low + high + rest_sum(bytes, 8 * steps)
 }
 

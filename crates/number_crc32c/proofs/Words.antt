@@ -1,10 +1,10 @@
 -- Words that are stepped together: each word more moves those before it on by 32 bits. Assumes nothing.
-use mathlib.Core.Path.{◌≡◌, refl, sym, ap, ap₂, ◌∙◌}
-use mathlib.Core.List.{List, reverse}
+use mathlib.Core.Path.{◌≡◌, sym, ap, ap₂, ◌∙◌}
+use mathlib.Core.List.{List, [], ◌∷◌, reverse}
 use Prim.Native.Nat.{ℕ, ◌+◌, ◌≤◌}
 use native.Mathlib.Omega.{arith}
 use lib.Bits.{bit_xor, xor_comm, xor_zero_r}
-use lib.ListN.{length}
+use lib.ListN.{length, get_or}
 use Rattle.number_octets.specs.Octets.{Octets, number, part}
 use Rattle.number_crc_steps.specs.Steps.{steps}
 use Rattle.number_crc_steps.proofs.Xor.{xor_assoc}
@@ -61,31 +61,30 @@ module _ (r at : ℕ) (bs : List ℕ) (h : Octets bs) where
 
 -- ---- four words in four turns, the last one first
 
--- the words to come, and the sums, after i words
-pub record WordsAdded (a b c d i word next third one two three four : ℕ) : Type 0 where
-  pub none : i ≡ 0 → (word ≡ d) × (next ≡ c) × (third ≡ b)
-  pub once : i ≡ 1 → (word ≡ c) × (next ≡ b) × (third ≡ a) × (one ≡ steps 32 d)
-  pub twice : i ≡ 2 → (word ≡ b) × (next ≡ a) × (two ≡ bit_xor (steps 32 d) (steps 64 c))
-  pub thrice : i ≡ 3 → (word ≡ a) × (three ≡ bit_xor (bit_xor (steps 32 d) (steps 64 c)) (steps 96 b))
+-- the sums after i words
+pub record WordsAdded (a b c d i one two three four : ℕ) : Type 0 where
+  pub once : i ≡ 1 → one ≡ steps 32 d
+  pub twice : i ≡ 2 → two ≡ bit_xor (steps 32 d) (steps 64 c)
+  pub thrice : i ≡ 3 → three ≡ bit_xor (bit_xor (steps 32 d) (steps 64 c)) (steps 96 b)
   pub all : i ≡ 4 → four ≡ joined a b c d
 
-pub no_word : (a b c d : ℕ) {one two three four : ℕ} → WordsAdded a b c d 0 d c b one two three four
+pub no_word : (a b c d : ℕ) {one two three four : ℕ} → WordsAdded a b c d 0 one two three four
 no_word a b c d = record {
-  none = λ e. (refl, refl, refl);
   once = λ e. absurd (omega arith);
   twice = λ e. absurd (omega arith);
   thrice = λ e. absurd (omega arith);
   all = λ e. absurd (omega arith);
 }
 
-pub word-added : {a b c d i word next third one two three four one₁ two₁ three₁ four₁ : ℕ} → WordsAdded a b c d i word next third one two three four
+pub word-added : {a b c d i word one two three four one₁ two₁ three₁ four₁ : ℕ} → word ≡ get_or (d ∷ c ∷ b ∷ a ∷ []) i 0 → WordsAdded a b c d i one two three four
     → (one₁ ≡ steps 32 word) × (two₁ ≡ bit_xor one (steps 64 word)) × (three₁ ≡ bit_xor two (steps 96 word)) × (four₁ ≡ bit_xor three (steps 128 word))
-    → WordsAdded a b c d (i + 1) next third a one₁ two₁ three₁ four₁
+    → WordsAdded a b c d (i + 1) one₁ two₁ three₁ four₁
 unfolding joined
-word-added {a} {b} {c} {d} {i} t m = record {
-  none = λ e. absurd (omega arith);
-  once = λ e. let h = t.none (omega arith) in (h.1, h.2, refl, m.0 ∙ ap (steps 32) h.0);
-  twice = λ e. let h = t.once (omega arith) in (h.1, h.2, m.1 ∙ ap₂ bit_xor h.3 (ap (steps 64) h.0));
-  thrice = λ e. let h = t.twice (omega arith) in (h.1, m.2 ∙ ap₂ bit_xor h.2 (ap (steps 96) h.0));
-  all = λ e. let h = t.thrice (omega arith) in m.3 ∙ ap₂ bit_xor h.1 (ap (steps 128) h.0);
-}
+word-added {a} {b} {c} {d} {i} {word} at t m =
+    let here : (k : ℕ) → i ≡ k → word ≡ get_or (d ∷ c ∷ b ∷ a ∷ []) k 0 = λ k e. at ∙ ap (λ (n : ℕ). get_or (d ∷ c ∷ b ∷ a ∷ []) n 0) e in
+    record {
+      once = λ e. m.0 ∙ ap (steps 32) (here 0 (omega arith));
+      twice = λ e. m.1 ∙ ap₂ bit_xor (t.once (omega arith)) (ap (steps 64) (here 1 (omega arith)));
+      thrice = λ e. m.2 ∙ ap₂ bit_xor (t.twice (omega arith)) (ap (steps 96) (here 2 (omega arith)));
+      all = λ e. m.3 ∙ ap₂ bit_xor (t.thrice (omega arith)) (ap (steps 128) (here 3 (omega arith)));
+    }

@@ -43,10 +43,8 @@ fn state_after(bytes: &[u8]) -> u32
     ensures { result ≡ register ones bytes.now }
 {
     let mut state = state_after_words(bytes);
-    let mut i = bytes.len() / 4 * 4;
-    while i < bytes.len() {
-        state = step(state, bytes[i]);
-        i += 1;
+    for byte in &bytes[bytes.len() / 4 * 4..] {
+        state = step(state, *byte);
     }
     state
 }
@@ -57,11 +55,9 @@ fn state_after_words(bytes: &[u8]) -> u32
 {
     let mut state: u32 = ONES;
     let count = (bytes.len() / 4 + 3) / 4;
-    let mut k = 0;
-    while k < count {
+    for k in 0..count {
         let block = block_at(state, bytes, 16 * k);
         state = step_words(block.a, block.b, block.c, block.d);
-        k += 1;
     }
     state
 }
@@ -109,16 +105,8 @@ fn step_words(a: u32, b: u32, c: u32, d: u32) -> u32
     ensures { result ≡ joined a b c d }
 {
     let mut sums = no_sums();
-    let mut word = d;
-    let mut next = c;
-    let mut third = b;
-    let mut i: usize = 0;
-    while i < 4 {
+    for word in [d, c, b, a] {
         sums = move_word(sums, word);
-        word = next;
-        next = third;
-        third = a;
-        i += 1;
     }
     sums.four
 }
@@ -133,15 +121,13 @@ fn move_word(before: Sums, n: u32) -> Sums
     let mut by_96 = no_sums();
     let mut by_128 = no_sums();
     let mut rest = n;
-    let mut j: usize = 0;
-    while j < 4 {
+    for _ in 0..4usize {
         let row = number_crc_rows::entries(rest % 256);
         by_32 = added(0, by_32, row.after_32_24, row.after_16_8);
         by_64 = added(before.one, by_64, row.after_64_56, row.after_48_40);
         by_96 = added(before.two, by_96, row.after_96_88, row.after_80_72);
         by_128 = added(before.three, by_128, row.after_128_120, row.after_112_104);
-        rest = rest / 256;
-        j += 1;
+        rest /= 256;
     }
     Sums {
         one: by_32.four,
@@ -177,7 +163,7 @@ fn added(start: u32, sums: Sums, high: u64, low: u64) -> Sums
 fn step(state: u32, byte: u8) -> u32
     ensures { result ≡ byte_step state byte }
 {
-    let n = state ^ (byte as u32);
+    let n = state ^ u32::from(byte);
     number_crc_rows::nibble_after_8(n % 16)
         ^ number_crc_rows::nibble_after_4(n / 16 % 16)
         ^ (n / 256)

@@ -1,25 +1,10 @@
 -- `number_checksum::block_sum` meets its contract. The loop's invariant: what was added is the low halves and the high halves, which with the sum
 -- of the bytes that are left fold to the sum of the whole (`Halves`). A word of four bytes may stand for them in any such sum (`folded-plus`).
-use Rattle.std.proofs.Common.{◌≡◌, ℕ, ◌+◌, ◌*◌, ◌/◌, true, List, length, drop, refl, ap, ◌∙◌, arith, rules}
+use Rattle.std.proofs.Common.{◌≡◌, ℕ, ◌+◌, ◌*◌, ◌/◌, ◌%◌, true, List, length, drop, refl, ap, ◌∙◌, arith, rules}
 use Rattle.number_checksum.specs.Checksum.{word_sum, folded}
 use Rattle.number_checksum.proofs.Folding.{folded-plus}
-use Rattle.number_checksum.proofs.Halves.{Halves, wraps, without-high}
+use Rattle.number_checksum.proofs.Halves.{Halves, wraps, low-is}
 use Rattle.number_checksum.proofs.block_sum.Goals as goal
-use Rattle.number_checksum.proofs.block_sum.Goals.{After-rest_sum, After-wrapping_sub_u64-low}
-
--- less the high halves, what was added is the low halves
-low-is : (c : After-wrapping_sub_u64-low) → c.wrapping_sub_u64-low.result ≡ c.loop-k.invariant.2.low
-low-is c =
-    let l = c.loop-k in
-    without-high l.added l.invariant.2.low l.high c.wrapping_sub_u64-low.result l.invariant.2.sum (omega (arith, l.invariant.2.bound))
-    (omega (arith, c.wrapping_sub_u64-low.type_inv)) c.wrapping_sub_u64-low.ensures.value
-
--- less the high halves, what was added is the low halves
-low-is-2 : (c : After-rest_sum) → c.wrapping_sub_u64-low.result ≡ c.loop-k.invariant.2.low
-low-is-2 c =
-    let l = c.loop-k in
-    without-high l.added l.invariant.2.low l.high c.wrapping_sub_u64-low.result l.invariant.2.sum (omega (arith, l.invariant.2.bound))
-    (omega (arith, c.wrapping_sub_u64-low.type_inv)) c.wrapping_sub_u64-low.ensures.value
 
 pub loop-k-init : goal.loop-k-init
 loop-k-init c = (search rules, search rules, record { low = 0; bound = omega arith; sum = refl; folds = ap folded (omega arith) })
@@ -38,24 +23,28 @@ loop-k-preserved c = let bs : List ℕ = c.args.bytes.now in
     folded-plus (sum + x) (y + left (8 * k + 4 + 4)) (left (8 * k + 4)) c.word-second.ensures.bytes_value in
     let first : folded (sum + (x + left (8 * k + 4))) ≡ folded (sum + left (8 * k)) =
     folded-plus sum (x + left (8 * k + 4)) (left (8 * k)) c.word-first.ensures.bytes_value in
-    let halves : Halves bs (k + 1) c.wrapping_add_u64-added.result (c.loop-k.high + y) = record {
+    let halves : Halves bs (k + 1) ((c.loop-k.added + (x + y * 4294967296)) % 18446744073709551616) (c.loop-k.high + y) = record {
       low = h.low + x;
       bound = omega (arith, h.bound);
-      sum = c.wrapping_add_u64-added.ensures.value ∙ wraps c.loop-k.added h.low c.loop-k.high x y h.sum;
+      sum = wraps c.loop-k.added h.low c.loop-k.high x y h.sum;
       folds = ap folded (omega arith) ∙ second ∙ ap folded (omega arith) ∙ first ∙ h.folds;
     } in
     (search rules, omega arith, halves)
 
 pub overflow_add-result : goal.overflow_add-result
-overflow_add-result c = omega (arith, low-is c)
+overflow_add-result c = let h = c.loop-k.invariant.2 in
+    let low = low-is h (omega arith) in
+    omega (arith, h.bound)
 
 pub overflow_add-result-2 : goal.overflow_add-result-2
-overflow_add-result-2 c = omega (arith, low-is-2 c)
+overflow_add-result-2 c = let h = c.loop-k.invariant.2 in
+    let low = low-is h (omega arith) in
+    omega (arith, h.bound)
 
 pub returns : goal.returns
 returns c = let bs : List ℕ = c.args.bytes.now in
     let h = c.loop-k.invariant.2 in
-    let low : c.wrapping_sub_u64-low.result ≡ h.low = low-is-2 c in
+    let low = low-is h (omega arith) in
     let sum : ℕ = h.low + c.loop-k.high in
     let left : ℕ → ℕ = λ i. word_sum true (drop i bs) in
     let done : 8 * (length bs / 8) ≡ 8 * c.loop-k.k = omega arith in record {

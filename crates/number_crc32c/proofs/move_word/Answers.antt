@@ -5,22 +5,21 @@ use lib.Bits.{xor_zero_l}
 use Rattle.number_crc32c.proofs.Digits.{rest-first, no_byte, rest-next, byte-added}
 use Rattle.number_crc32c.proofs.move_word.Goals as goal
 
-pub loop-j-init : goal.loop-j-init
-loop-j-init c = (omega arith, rest-first _, no_byte _ _ _, no_byte _ _ _, no_byte _ _ _, no_byte _ _ _)
+pub loop-init : goal.loop-init
+loop-init c = (rest-first _, no_byte _ _ _, no_byte _ _ _, no_byte _ _ _, no_byte _ _ _)
 
-pub loop-j-preserved : goal.loop-j-preserved
-loop-j-preserved c = let inv = c.loop-j.invariant in
+pub loop-preserved : goal.loop-preserved
+loop-preserved c = let inv = c.loop.invariant in
     let small = c.ranges.n.fits in
     let row = c.entries-row.ensures in (
-      omega arith,
-      rest-next inv.1,
-      byte-added 8 _ small inv.1 inv.2 row.0 row.1 c.added-by_32.ensures,
-      byte-added 40 _ small inv.1 inv.3 row.2 row.3 c.added-by_64.ensures,
-      byte-added 72 _ small inv.1 inv.4 row.4 row.5 c.added-by_96.ensures,
-      byte-added 104 _ small inv.1 inv.5 row.6 row.7 c.added-by_128.ensures,
+      rest-next inv.0,
+      byte-added 8 _ small inv.0 inv.1 row.0 row.1 c.added-by_32.ensures,
+      byte-added 40 _ small inv.0 inv.2 row.2 row.3 c.added-by_64.ensures,
+      byte-added 72 _ small inv.0 inv.3 row.4 row.5 c.added-by_96.ensures,
+      byte-added 104 _ small inv.0 inv.4 row.6 row.7 c.added-by_128.ensures,
     )
 
 pub returns : goal.returns
-returns c = let inv = c.loop-j.invariant in
-    let all : c.loop-j.j ≡ 4 = omega arith in
-    (inv.2.word all ∙ xor_zero_l _, inv.3.word all, inv.4.word all, inv.5.word all)
+returns c = let inv = c.loop.invariant in
+    let all : c.loop.counter ≡ 4 = omega arith in
+    (inv.1.word all ∙ xor_zero_l _, inv.2.word all, inv.3.word all, inv.4.word all)

@@ -1,12 +1,12 @@
 use mathlib.Core.Path.{◌≡◌}
-use Prim.Native.Nat.{◌+◌, ◌-◌, ◌*◌, ◌/◌, ◌<◌, ◌≤◌}
+use Prim.Native.Nat.{◌+◌, ◌*◌, ◌/◌, ◌<◌}
 use lib.ListN.{length, take}
 use Rattle.number_crc32c.specs.Crc.{ones, register}
 use Rattle.number_crc32c.proofs.state_after_words.Given as goal
 
 abbrev pub invariant-loop-k : goal.invariant-loop-k
-invariant-loop-k l = (l.k ≤ l.count) × (l.count ≡ (length l.bytes / 4 + 3) / 4)
-    × (l.k < l.count → l.state ≡ register ones (take (16 * l.k) l.bytes)) × (l.k ≡ l.count → l.state ≡ register ones (take (length l.bytes / 4 * 4) l.bytes))
-
-abbrev pub decreases-loop-k : goal.decreases-loop-k
-decreases-loop-k l = l.count - l.k
+invariant-loop-k l = record {
+  count : l.count ≡ (length l.bytes / 4 + 3) / 4;
+  more : l.k < l.count → l.state ≡ register ones (take (16 * l.k) l.bytes);
+  done : l.k ≡ l.count → l.state ≡ register ones (take (length l.bytes / 4 * 4) l.bytes);
+}
