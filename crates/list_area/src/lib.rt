@@ -93,29 +93,27 @@ fn put_entry(list: &[u8], from: usize, crc: u32, buffer: &mut [u8], at: usize) -
     requires { at + length (wire_read crc (read_option (drop from list.now))) ≤ length buffer.old }
     ensures { Passes list.now from crc buffer.old at buffer.new result.next result.end }
 {
-    let found = list_entry::entry_at(list, from);
+    let Ok(found) = list_entry::entry_at(list, from) else {
+        return Passed {
+            next: from,
+            end: at,
+        };
+    };
     match found {
-        Ok(Entry::Fields {
+        Entry::Fields {
             kind,
             first,
             second,
             next,
-        }) => Passed {
+        } => Passed {
             next,
             end: wire::put_fields(kind, first, second, crc, buffer, at),
         },
-        Ok(Entry::Body {
-            kind,
-            start,
-            size: _,
-            next,
-        }) => Passed {
+        Entry::Body {
+            kind, start, next, ..
+        } => Passed {
             next,
             end: wire::put_option(kind, &list[start..next], buffer, at),
-        },
-        Err(_) => Passed {
-            next: from,
-            end: at,
         },
     }
 }
@@ -125,10 +123,6 @@ fn put_zeros(count: usize, buffer: &mut [u8], at: usize) -> usize
     requires { at + count ≤ length buffer.old }
     ensures { Laid buffer.old at (replicate count 0) buffer.new result }
 {
-    let mut i = 0;
-    while i < count {
-        buffer[at + i] = 0;
-        i += 1;
-    }
+    buffer[at..at + count].fill(0);
     at + count
 }

@@ -11,6 +11,7 @@ use borrow.Author.Tests.{ne_eqb}
 use lib.Dec.{leb}
 use lib.ListN.{length, take, drop, replicate, length-append}
 use lib.Seq.{take_at, drop_at}
+use Rattle.std.proofs.Common.{Ok}
 use Rattle.number_octets.specs.Octets.{number, octets}
 use Rattle.number_octets.proofs.Laws.{length-octets, number-octets}
 use Rattle.number_checksum.specs.Checksum.{word_sum, folded, sent, all_ones, parity_after}
@@ -24,7 +25,6 @@ use Rattle.wire_options.specs.Walk.{Item, Located, listed, walk_from, option_lim
 use Rattle.wire_options.specs.Strict.{strict_from, walk_by}
 use Rattle.wire_area.specs.Area.{plain, plainly, area_of as area_walk}
 use Rattle.wire_surplus.specs.Surplus.{pad_of, ocs_of, start_of}
-use Rattle.wire_surplus.specs.declared.Start.TheVariants.{List as ListAt}
 use Rattle.wire_surplus.proofs.Starts.{start-odd, start-even, summed-right}
 use Rattle.list_encoding.specs.Wire.{longest_short}
 use Rattle.list_payload.specs.Payload.{wire_of, wires, standing, padding, area_with, area_of}
@@ -122,7 +122,7 @@ summed odd list even size =
     ap (λ (n : ℕ). folded (n + word_sum odd (area_with odd (octets 2 (ocs_for odd list)) list))) size
     ∙ field-law odd (length (area_with odd (0 ∷ 0 ∷ []) list)) (padding odd) list even
 
-starts : (odd unused : Bool) (list : List ℕ) → start_of odd unused (area_with odd (octets 2 (ocs_for odd list)) list) ≡ ListAt (pad_of odd + 2)
+starts : (odd unused : Bool) (list : List ℕ) → start_of odd unused (area_with odd (octets 2 (ocs_for odd list)) list) ≡ Ok (pad_of odd + 2)
 unfolding parity_after
 starts true unused list =
     let w : ℕ = ocs_for true list in
@@ -141,7 +141,7 @@ starts false unused list =
     start-even unused area (omega arith)
     ∙ summed-right false area unused (λ z. ocs-some false list (sym ocs ∙ z)) (summed false list refl long)
 
-pub area-starts : (odd unused : Bool) (list : List ℕ) → start_of odd unused (area_of odd list) ≡ ListAt (pad_of odd + 2)
+pub area-starts : (odd unused : Bool) (list : List ℕ) → start_of odd unused (area_of odd list) ≡ Ok (pad_of odd + 2)
 area-starts odd unused list = ap (start_of odd unused) (area-is odd list) ∙ starts odd unused list
 
 pub area-length : (odd : Bool) (list : List ℕ) → length (area_of odd list) ≡ pad_of odd + 2 + length list

@@ -17,10 +17,9 @@ use Rattle.number_octets.proofs.Laws.{length-octets, number-octets}
 use Rattle.wire_nops.specs.declared.Strictness.{Strictness}
 use Rattle.wire_nops.specs.declared.Strictness.TheVariants.{Plain, Strict}
 use Rattle.wire_step.specs.Kinds.{class_of, eol, frag}
-use Rattle.wire_step.specs.Step.{header_of, step_of, step_in, fixed_step, varying_step}
+use Rattle.wire_step.specs.Step.{header_of, sound, step_of, step_in, fixed_step, varying_step}
 use Rattle.wire_step.specs.declared.Class.{Class}
 use Rattle.wire_step.specs.declared.Class.TheVariants.{Fixed, Varying}
-use Rattle.wire_step.specs.declared.Header.TheVariants.{Sound}
 use Rattle.wire_step.specs.declared.Step.TheVariants.{Eol, Found}
 use Rattle.wire_options.specs.Walk.{Item, Located, Walked, listed, faulty, before, item_of, walk_from}
 use Rattle.wire_options.specs.Strict.{strict_from, walk_by}
@@ -38,7 +37,7 @@ pub record Wired (item : Item) : Type 0 where
 -- ---- the header of an option that was written
 
 short-header : (k : ℕ) (body rest : List ℕ) → length body + 2 ≤ longest_short
-    → header_of (k ∷ (length body + 2) ∷ (body ++ rest)) ≡ Sound 2 (length body + 2)
+    → header_of (k ∷ (length body + 2) ∷ (body ++ rest)) ≡ sound 2 (length body + 2)
 unfolding header_of
 short-header k body rest h =
     let n : ℕ = length body + 2 in
@@ -51,7 +50,7 @@ short-header k body rest h =
     )
 
 long-header : (k : ℕ) (body rest : List ℕ) → longest_short < length body + 2 → length body + 4 < 65536
-    → header_of (k ∷ 255 ∷ ((octets 2 (length body + 4) ++ body) ++ rest)) ≡ Sound 4 (length body + 4)
+    → header_of (k ∷ 255 ∷ ((octets 2 (length body + 4) ++ body) ++ rest)) ≡ sound 4 (length body + 4)
 unfolding header_of
 long-header k body rest h small =
     let n : ℕ = length body + 4 in
@@ -82,7 +81,7 @@ pub record Met (item : Item) (rest : List ℕ) : Type 0 where
   pub behind : drop size (wire_of item ++ rest) ≡ rest
 
 -- the class of the kind decides with the header: in short form any class will do
-by-short : (item : Item) (l : List ℕ) → Wired item → header_of (item.kind ∷ l) ≡ Sound 2 (length item.body + 2)
+by-short : (item : Item) (l : List ℕ) → Wired item → header_of (item.kind ∷ l) ≡ sound 2 (length item.body + 2)
     → step_of (item.kind ∷ l) ≡ Found item.kind 2 (length item.body + 2)
 unfolding step_of
 by-short item l w e =
@@ -94,7 +93,7 @@ by-short item l w e =
     w.class
 
 -- and in extended form only a body of its own length
-by-long : (item : Item) (l : List ℕ) → Wired item → longest_short < length item.body + 2 → header_of (item.kind ∷ l) ≡ Sound 4 (length item.body + 4)
+by-long : (item : Item) (l : List ℕ) → Wired item → longest_short < length item.body + 2 → header_of (item.kind ∷ l) ≡ sound 4 (length item.body + 4)
     → step_of (item.kind ∷ l) ≡ Found item.kind 4 (length item.body + 4)
 unfolding step_of
 by-long item l w h e =

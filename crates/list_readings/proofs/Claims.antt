@@ -8,7 +8,9 @@ use Prim.Native.Nat.{ℕ, ◌≤◌}
 use native.Mathlib.Omega.{arith}
 use borrow.Author.Tests.{le-leb}
 use lib.ListN.{length, drop}
+use Rattle.std.proofs.Common.{Result}
 use Rattle.number_octets.specs.Octets.{Octets}
+use Rattle.number_varint.specs.declared.Full.{Full}
 use Rattle.wire_nops.specs.declared.Strictness.{Strictness}
 use Rattle.wire_nops.specs.declared.Strictness.TheVariants.{Plain}
 use Rattle.wire_options.specs.Walk.{Item, Walked, listed, walk_from, option_limit, items_of}
@@ -24,7 +26,7 @@ use Rattle.wire_reading.proofs.Lists.{Lists, lists-part, read-verdict}
 use Rattle.wire_original.proofs.Lists.{rereading-lists}
 use Rattle.list_encoding.specs.Encoding.{given, refused}
 use Rattle.list_options.specs.Listing.{too_small, fill_of, listing, room_for, ListedInto}
-use Rattle.list_options.specs.declared.Listed.{Listed}
+use Rattle.list_options.specs.declared.Listing.{Listing}
 use Rattle.list_writer.specs.Answer.{written, datagram_for}
 use Rattle.list_payload.specs.Payload.{Datagram, payload_of}
 use Rattle.list_payload.proofs.ReadBack.{back_of}
@@ -111,7 +113,7 @@ write-lists-back source destination source_port destination_port user fill list 
     let w = write-reads-back source destination source_port destination_port user fill list buffer n s t oct e in
     record { wrote = w; back = written-lists-back _ list _ w.back }
 
-pub listed_back : (d : Datagram) (list : List ℕ) (r : Reading) (buffer : List ℕ) (answer : Listed) (left : List ℕ) → ListsBack d list r
+pub listed_back : (d : Datagram) (list : List ℕ) (r : Reading) (buffer : List ℕ) (answer : Result Listing Full) (left : List ℕ) → ListsBack d list r
     → ListedInto (walk_of (payload_of d) r) buffer answer left → length list ≤ length buffer → GivesList list d.fill buffer answer left
 unfolding room_for
 listed_back d list r buffer answer left b into h =

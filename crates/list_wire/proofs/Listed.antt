@@ -21,7 +21,7 @@ use Rattle.list_entry.specs.Answer.{values}
 use Rattle.list_encoding.specs.Wire.{whole_length, crc_width, body_on_wire, option_size, wire_size, widths_of, fields_on_wire}
 use Rattle.list_entry.proofs.Parts.{then-got, as-got}
 use Rattle.list_encoding.proofs.Laws.{end-got}
-use Rattle.list_entry.proofs.Shapes.{shape-cases}
+use Rattle.list_entry.proofs.Shapes.{shape-cases, shape-token}
 use Rattle.list_entry.proofs.Numbers.{bytes_drop}
 use Rattle.list_entry.proofs.Laws.{option-read}
 use Rattle.list_entry.proofs.Places.{ValueAt}
@@ -167,6 +167,10 @@ field-none kind first second crc n2 n4 n5 n6 n7 n8 =
     rw (ne_eqb kind apc n2)
     (shape-cases kind (λ shape. field_bytes (widths_of shape) first second ≡ []) (λ e. absurd (n2 e)) (λ e. absurd (n4 e)) (λ e. absurd (n5 e))
     (λ e. absurd (n6 e)) (λ e. absurd (n7 e)) (λ e. absurd (n8 e)) (λ g h. refl) refl)
+
+pub field-token : (kind first second crc : ℕ) → 6 ≤ kind → kind < 8 → field_body kind first second crc ≡ octets 4 first
+unfolding field_body
+field-token kind first second crc h g = rw (ne_eqb kind apc (λ e. omega arith), shape-token kind h g)
 
 two_fields : (v w first second : ℕ) → length (octets v first ++ octets w second) ≡ v + (w + 0)
 two_fields v w first second =

@@ -45,26 +45,17 @@ fn has_apc(list: &[u8], start: usize, count: usize) -> bool
 fn look(list: &[u8], from: usize) -> Seen
     ensures { Sees list.now from result.next result.apc }
 {
-    let found = list_entry::entry_at(list, from);
+    let Ok(found) = list_entry::entry_at(list, from) else {
+        return Seen {
+            next: from,
+            apc: false,
+        };
+    };
     match found {
-        Ok(Entry::Fields {
-            kind,
-            first: _,
-            second: _,
-            next,
-        }) => Seen {
+        Entry::Fields { kind, next, .. } => Seen {
             next,
             apc: kind == APC,
         },
-        Ok(Entry::Body {
-            kind: _,
-            start: _,
-            size: _,
-            next,
-        }) => Seen { next, apc: false },
-        Err(_) => Seen {
-            next: from,
-            apc: false,
-        },
+        Entry::Body { next, .. } => Seen { next, apc: false },
     }
 }

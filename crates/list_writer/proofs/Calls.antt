@@ -6,6 +6,7 @@ use mathlib.Core.List.{List, ◌++◌}
 use Prim.Native.Nat.{ℕ}
 use lib.ListN.{length, take, drop}
 use lib.Seq.{take_at, drop_at}
+use Rattle.std.proofs.Common.{Ok}
 use Rattle.number_octets.specs.Octets.{Octets}
 use Rattle.wire_nops.specs.declared.Strictness.TheVariants.{Plain}
 use Rattle.wire_options.specs.Walk.{walk_from, option_limit}
@@ -18,7 +19,6 @@ use Rattle.list_options.specs.Listing.{listing}
 use Rattle.list_writer.specs.Answer.{written, datagram_for, Wrote}
 use Rattle.list_payload.specs.Back.{walk_back, ReadsBack, LeavesBack}
 use Rattle.list_payload.specs.Payload.{Datagram, payload_of}
-use Rattle.list_writer.specs.declared.Written.TheVariants.{Payload}
 use Rattle.list_payload.proofs.ReadBack.{back_of, user-there}
 use Rattle.list_payload.proofs.Claims.{ReadBack}
 use Rattle.list_writer.proofs.Claims.{write-reads-back}
@@ -58,7 +58,7 @@ module _ (d : Datagram) (list : List ℕ) (decoded : decoded_list list ≡ given
 
 pub call-reads-back : (source destination : List ℕ) (source_port destination_port : ℕ) (user : List ℕ) (fill : ℕ) (list entry exit : List ℕ) (n : ℕ)
     → length source ≡ 4 → length destination ≡ 4 → Octets list
-    → Wrote (written (datagram_for source destination source_port destination_port user fill) list entry) (Payload n) exit
+    → Wrote (written (datagram_for source destination source_port destination_port user fill) list entry) (Ok n) exit
     → LeavesBack source destination user list fill entry exit n
 call-reads-back source destination source_port destination_port user fill list entry exit n s t oct w =
     let b = write-reads-back source destination source_port destination_port user fill list entry n s t oct (sym w.answered) in

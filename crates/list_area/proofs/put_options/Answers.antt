@@ -1,7 +1,7 @@
 -- `list_area::put_options` meets its contract. The loop's invariant: what was laid, with the options still to come, is the whole.
-use mathlib.Core.Path.{refl, sym, ap, ◌∙◌}
+use mathlib.Core.Path.{◌≡◌, refl, sym, ap, ◌∙◌}
 use mathlib.Core.List.{List, [], ◌++◌, append-nil}
-use Prim.Native.Nat.{ℕ, ◌-◌}
+use Prim.Native.Nat.{ℕ, ◌+◌, ◌-◌}
 use native.Mathlib.Omega.{arith}
 use lib.ListN.{length, drop, length-append}
 use Rattle.list_entry.specs.Option.{read_option}
@@ -10,31 +10,36 @@ use Rattle.list_wire.proofs.Laying.{laid_as, laid_none, laid-length}
 use Rattle.list_wire.proofs.Listed.{turn-room, turn-laid, turn-rest, turn-none}
 use Rattle.list_area.proofs.put_options.Goals as goal
 
-pub loop-left-init : goal.loop-left-init
-loop-left-init c = ([], laid_none _ _, refl)
+pub loop-init : goal.loop-init
+loop-init c = let a = c.args in
+    let all : a.count - 0 ≡ a.count = omega arith in
+    ([], laid_none _ _, ap (λ (n : ℕ). wires_read a.crc n (drop a.start a.list.now)) all)
 
 pub put_entry-passed-requires : goal.put_entry-passed-requires
-put_entry-passed-requires c = turn-room c.args.crc c.loop-left.left (drop c.loop-left.from c.args.list.now) _ c.loop-left-test.true
-    c.loop-left.invariant.1 c.loop-left.invariant.2 c.requires
+put_entry-passed-requires c = turn-room c.args.crc (c.args.count - c.loop.counter) (drop c.loop.from c.args.list.now) _ (omega (arith, c.loop-test.true))
+    c.loop.invariant.1 c.loop.invariant.2 c.requires
 
-pub loop-left-preserved : goal.loop-left-preserved
-loop-left-preserved c = let a = c.args in
-    let r : List ℕ = drop c.loop-left.from a.list.now in
+pub loop-preserved : goal.loop-preserved
+loop-preserved c = let a = c.args in
+    let left : ℕ = a.count - c.loop.counter in
+    let r : List ℕ = drop c.loop.from a.list.now in
+    let next : List ℕ = drop c.put_entry-passed.result.next a.list.now in
     let w : List ℕ = wire_read a.crc (read_option r) in
-    let done : List ℕ = c.loop-left.invariant.0 in
-    let test = c.loop-left-test.true in
-    let put = c.put_entry-passed.ensures in (
+    let done : List ℕ = c.loop.invariant.0 in
+    let put = c.put_entry-passed.ensures in
+    let less : a.count - (c.loop.counter + 1) ≡ left - 1 = omega arith in (
       done ++ w,
-      turn-laid a.crc c.loop-left.left r _ test c.loop-left.invariant.1 c.loop-left.invariant.2 c.requires put.laid,
-      ap (λ (x : List ℕ). (done ++ w) ++ wires_read a.crc (c.loop-left.left - 1) x) put.left
-          ∙ turn-rest a.crc c.loop-left.left r _ test c.loop-left.invariant.1 c.loop-left.invariant.2 c.requires,
+      turn-laid a.crc left r _ (omega (arith, c.loop-test.true)) c.loop.invariant.1 c.loop.invariant.2 c.requires put.laid,
+      ap (λ (n : ℕ). (done ++ w) ++ wires_read a.crc n next) less
+          ∙ ap (λ (x : List ℕ). (done ++ w) ++ wires_read a.crc (left - 1) x) put.left
+          ∙ turn-rest a.crc left r _ (omega (arith, c.loop-test.true)) c.loop.invariant.1 c.loop.invariant.2 c.requires,
     )
 
 pub shape_of-buffer : goal.shape_of-buffer
-shape_of-buffer c = let rest : List ℕ = wires_read c.args.crc c.loop-left.left (drop c.loop-left.from c.args.list.now) in
-    laid-length c.loop-left.invariant.1 (omega (arith, c.requires, ap length c.loop-left.invariant.2, length-append c.loop-left.invariant.0 rest))
+shape_of-buffer c = let rest : List ℕ = wires_read c.args.crc (c.args.count - c.loop.counter) (drop c.loop.from c.args.list.now) in
+    laid-length c.loop.invariant.1 (omega (arith, c.requires, ap length c.loop.invariant.2, length-append c.loop.invariant.0 rest))
 
 pub returns : goal.returns
-returns c = let done : List ℕ = c.loop-left.invariant.0 in
-    let none = turn-none c.args.crc c.loop-left.left (drop c.loop-left.from c.args.list.now) (omega (arith, c.loop-left-test.false)) in
-    laid_as (sym (append-nil done) ∙ ap (λ (x : List ℕ). done ++ x) (sym none) ∙ c.loop-left.invariant.2) c.loop-left.invariant.1
+returns c = let done : List ℕ = c.loop.invariant.0 in
+    let none = turn-none c.args.crc (c.args.count - c.loop.counter) (drop c.loop.from c.args.list.now) (omega (arith, c.loop-test.false)) in
+    laid_as (sym (append-nil done) ∙ ap (λ (x : List ℕ). done ++ x) (sym none) ∙ c.loop.invariant.2) c.loop.invariant.1

@@ -6,11 +6,11 @@ use native.Mathlib.Omega.{arith}
 use Rattle.list_entry.specs.Shape.{shape_of}
 use Rattle.list_entry.specs.Option.{item_of, total}
 use Rattle.list_encoding.specs.Wire.{fields_on_wire}
-use Rattle.list_encoding.proofs.Checks.{fields-none}
+use Rattle.list_encoding.proofs.Checks.{fields-none, fields-token}
 use Rattle.list_payload.specs.Payload.{wire_of}
 use Rattle.list_wire.specs.Parts.{field_body}
 use Rattle.list_wire.proofs.Laying.{laid_as, narrow-bytes, byte-bytes, bare-head}
-use Rattle.list_wire.proofs.Listed.{field-none}
+use Rattle.list_wire.proofs.Listed.{field-none, field-token}
 use Rattle.list_wire.proofs.wire.put_fields.Goals as goal
 
 -- what is laid in the arm of a kind is the body of an option of that kind
@@ -31,12 +31,7 @@ unfolding fields_on_wire shape_of total
 put_mixed-requires c = let on = ap fields_on_wire c.in-5.is in rw on at c.requires
 
 pub put_wide-requires-in-6 : goal.put_wide-requires-in-6
-unfolding fields_on_wire shape_of total
-put_wide-requires-in-6 c = let on = ap fields_on_wire c.in-6.is in rw on at c.requires
-
-pub put_wide-requires-in-7 : goal.put_wide-requires-in-7
-unfolding fields_on_wire shape_of total
-put_wide-requires-in-7 c = let on = ap fields_on_wire c.in-7.is in rw on at c.requires
+put_wide-requires-in-6 c = let on = fields-token c.args.kind (omega arith) (omega arith) in rw on at c.requires
 
 pub put_pair-requires : goal.put_pair-requires
 unfolding fields_on_wire shape_of total
@@ -59,12 +54,9 @@ returns-in-5 c = let a = c.args in
     laid_as (armed _ _ _ _ _ _ c.in-5.is (ap₂ ◌++◌ (narrow-bytes a.first) (byte-bytes a.second))) c.put_mixed.ensures
 
 pub returns-in-6 : goal.returns-in-6
-unfolding field_body shape_of
-returns-in-6 c = laid_as (armed _ _ _ _ _ _ c.in-6.is refl) c.put_wide-in-6.ensures
-
-pub returns-in-7 : goal.returns-in-7
-unfolding field_body shape_of
-returns-in-7 c = laid_as (armed _ _ _ _ _ _ c.in-7.is refl) c.put_wide-in-7.ensures
+returns-in-6 c = let a = c.args in
+    let is = field-token a.kind a.first a.second a.crc (omega arith) (omega arith) in
+    laid_as (ap (λ (b : List ℕ). wire_of (item_of a.kind b)) (sym is)) c.put_wide-in-6.ensures
 
 pub returns-in-8 : goal.returns-in-8
 unfolding field_body shape_of
