@@ -2,6 +2,7 @@
 -- R-7): what remains of the option list reaches to the end of the bytes, and the options that are got from it one by one are those of the walk
 -- (`options-by-turns`). The calls of `renext` give those of a rereading likewise.
 -- Assumes nothing.
+use Rattle.std.proofs.Common.{Option, Some, None}
 use mathlib.Core.Path.{◌≡◌, refl, sym, ap, ap₂, subst, ◌∙◌}
 use mathlib.Core.Bool.{Bool, false, cond, ◌&&◌}
 use mathlib.Core.List.{List, [], ◌∷◌}
@@ -17,8 +18,7 @@ use Rattle.wire_nops.specs.declared.Strictness.{Strictness}
 use Rattle.wire_options.specs.Walk.{Item, Located, option_limit}
 use Rattle.wire_offsets.specs.Next.{next_of}
 use Rattle.wire_offsets.specs.Places.{place_from, Each, StandsFrom, OptionsFrom, Got, Turns, done, turn}
-use Rattle.wire_offsets.specs.declared.Next.{Next}
-use Rattle.wire_offsets.specs.declared.Next.TheVariants.{Found, Nothing}
+use Rattle.wire_offsets.specs.declared.Found.{Found}
 use Rattle.wire_offsets.proofs.Nexts.{next_fits}
 use Rattle.wire_offsets.proofs.Turns.{options-by-turns}
 use Rattle.wire_reading.specs.Reading.{extent, is_read}
@@ -100,7 +100,7 @@ number_read (Padded at) = refl
 number_read Read = refl
 number_read (Piece fragment) = refl
 
-module _ {Answer : Type 0} (say : ℕ → Next → Answer) (none : Answer) (bytes : List ℕ) where
+module _ {Answer : Type 0} (say : ℕ → Option Found → Answer) (none : Answer) (bytes : List ℕ) where
   -- as `next_in` and `renext_in` answer
   abbrev answered : Bool → ℕ → ℕ → Answer
   answered test from to = cond test (say from (next_of (part from (to - from) bytes))) none
@@ -127,7 +127,7 @@ module _ (bytes : List ℕ) (start : ℕ) where
   list = drop start bytes
 
   -- what is found `n` bytes behind `at` names the option that is got there
-  names-got : (fill at n kind header size : ℕ) (option : Located) → next_of (drop at list) ≡ Found n header kind size
+  names-got : (fill at n kind header size : ℕ) (option : Located) → next_of (drop at list) ≡ Some (record { at = n; header = header; kind = kind; size = size })
       → Got list (at + n) kind header size option → StandsFrom bytes start fill option
       → Names bytes start option (start + at + n) (start + at + n + header) (start + at + n + size)
   names-got fill at n kind header size option e got stands =
@@ -150,20 +150,20 @@ module _ (bytes : List ℕ) (start : ℕ) where
 
 -- Where an answer is made of what is found, none of nothing, and says of an option that is found what it is, all options of the list are got.
 module _ {Answer : Type 0} (ask : ℕ → Answer) (none : Answer) (behind : Answer → ℕ) (Says : Located → Answer → Type 0) (bytes : List ℕ) (start : ℕ)
-    (say : ℕ → Next → Answer)
+    (say : ℕ → Option Found → Answer)
     (asks : (from : ℕ) → from ≤ length bytes → ask from ≡ say from (next_of (drop from bytes)))
-    (stops : (from : ℕ) → say from Nothing ≡ none)
+    (stops : (from : ℕ) → say from None ≡ none)
     (says : (from n kind header size : ℕ) (option : Located) → kind ≡ option.item.kind
-    → Names bytes start option (from + n) (from + n + header) (from + n + size) → Says option (say from (Found n header kind size)))
-    (goes : (from n kind header size : ℕ) → behind (say from (Found n header kind size)) ≡ from + n + size) where
-  asked : (at : ℕ) (next : Next) → start + at ≤ length bytes → next_of (drop at (drop start bytes)) ≡ next → ask (start + at) ≡ say (start + at) next
+    → Names bytes start option (from + n) (from + n + header) (from + n + size) → Says option (say from (Some (record { at = n; header = header; kind = kind; size = size }))))
+    (goes : (from n kind header size : ℕ) → behind (say from (Some (record { at = n; header = header; kind = kind; size = size }))) ≡ from + n + size) where
+  asked : (at : ℕ) (next : Option Found) → start + at ≤ length bytes → next_of (drop at (drop start bytes)) ≡ next → ask (start + at) ≡ say (start + at) next
   asked at next h e = asks (start + at) h ∙ ap (say (start + at)) (ap next_of (sym (drop-drop at start bytes)) ∙ e)
 
   by-turns : (fill at : ℕ) (options : List Located) → start + at ≤ length bytes → Each (StandsFrom bytes start fill) options
       → Turns (drop start bytes) at options → OneByOne ask none behind Says (start + at) options
-  by-turns fill at [] h stand (done e) = stop (asked at Nothing h e ∙ stops (start + at))
+  by-turns fill at [] h stand (done e) = stop (asked at None h e ∙ stops (start + at))
   by-turns fill at (option ∷ later) h stand (turn n kind header size e got rest) =
-      let answer = asked at (Found n header kind size) h e in
+      let answer = asked at (Some (record { at = n; header = header; kind = kind; size = size })) h e in
       let names = names-got bytes start fill at n kind header size option e got stand.0 in
       let kinds : kind ≡ option.item.kind = sym (ap (λ (i : Item). i.kind) got.whole) in
       let on : start + (at + n + size) ≡ behind (ask (start + at)) = omega (arith, ap behind answer, goes (start + at) n kind header size) in

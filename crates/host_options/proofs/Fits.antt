@@ -17,6 +17,6 @@ pub part-fits : (bytes : List ℕ) (from to : ℕ) (next : Option Found) → fro
     → next_of (part from (to - from) bytes) ≡ next → Fits from next
 part-fits bytes from to None h k small e = tt
 part-fits bytes from to (Some found) h k small e =
-    let f = next_fits (part from (to - from) bytes) found e in
+    let f = next_fits (part from (to - from) bytes) found.at found.kind found.header found.size e in
     let long : length (part from (to - from) bytes) ≡ to - from = length_part from (to - from) bytes (omega arith) in
     (f.0, omega (arith, f.1))
