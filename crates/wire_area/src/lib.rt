@@ -4,7 +4,7 @@
 ghost use Rattle.std.specs.Prelude.{◌≡◌, ◌+◌, ◌<◌, ◌≤◌, length, drop, get_or};
 ghost use Rattle.wire_step.specs.Kinds.{frag};
 ghost use Rattle.wire_step.specs.Step.{step_of};
-ghost use Rattle.wire_area.specs.Area.{fields_of, placed_at, fragment_of, behind_frag, led_by, area_of, area_answer};
+ghost use Rattle.wire_area.specs.Area.{fields_of, fragment_of, behind_frag, led_by, area_of, area_answer};
 
 use number_offsets::{OriginalOffset, PacketOffset};
 use wire_nops::Strictness;
@@ -96,25 +96,18 @@ fn fields_of(option: &[u8], size: usize) -> Fields
     requires { (10 ≤ length option.now) × (size ≤ length option.now) }
     ensures { (result ≡ fields_of size option.now) × (result.start.0 < 65536) }
 {
-    let start = PacketOffset(number_octets::get_u16(option, 2) as usize);
-    let identification = number_octets::get_u32(option, 4);
-    let offset = number_octets::get_u16(option, 8);
-    if size == LAST_FRAG_SIZE {
-        let option_start = number_octets::get_u16(option, 10);
-        return Fields {
-            start,
-            identification,
-            offset,
-            last: true,
-            option_start,
-        };
-    }
+    let last = size == LAST_FRAG_SIZE;
+    let option_start = if last {
+        number_octets::get_u16(option, 10)
+    } else {
+        8
+    };
     Fields {
-        start,
-        identification,
-        offset,
-        last: false,
-        option_start: 8,
+        start: PacketOffset(number_octets::get_u16(option, 2) as usize),
+        identification: number_octets::get_u32(option, 4),
+        offset: number_octets::get_u16(option, 8),
+        last,
+        option_start,
     }
 }
 
@@ -124,36 +117,17 @@ fn fragment_of(fields: Fields, base: PacketOffset, behind: usize, size: usize) -
     ensures { result ≡ fragment_of fields base.0 behind size }
 {
     let start = fields.start.0;
-    if start < base.0 {
+    if start < base.0 || start - base.0 < behind || size < start - base.0 {
         return None;
     }
-    if start - base.0 < behind {
-        return None;
-    }
-    if size < start - base.0 {
-        return None;
-    }
-    let place = number_offsets::place_of(fields.offset);
-    let option_start = number_offsets::place_of(fields.option_start);
-    at_places(fields, PacketOffset(base.0 + size), place, option_start)
-}
-
-// A value before the origin of user data names no place.
-fn at_places(
-    fields: Fields,
-    end: PacketOffset,
-    place: Option<OriginalOffset>,
-    option_start: Option<OriginalOffset>,
-) -> Option<Fragment>
-    ensures { result ≡ placed_at fields end.0 place option_start }
-{
-    let place = place?;
-    let option_start = option_start?;
+    // A value before the origin of user data names no place.
+    let place = number_offsets::place_of(fields.offset)?;
+    let option_start = number_offsets::place_of(fields.option_start)?;
     Some(Fragment {
         identification: fields.identification,
         place,
         start: fields.start,
-        end,
+        end: PacketOffset(base.0 + size),
         last: fields.last,
         option_start,
     })
