@@ -9,7 +9,7 @@ ghost use Rattle.number_sets.specs.Words.{Mask, Put};
 pub const WORD: usize = 64;
 
 // Every bit of a word.
-const FULL: u64 = 18446744073709551615;
+const FULL: u64 = u64::MAX;
 
 // The bits from `first` on.
 fn from_bit(first: usize) -> u64
@@ -44,11 +44,9 @@ fn fill(words: &mut [u64], from: usize, to: usize) -> bool
     ensures { Included words.old (64 * from) (64 * to) result words.new }
 {
     let mut seen = 0u64;
-    let mut w = from;
-    while w < to {
-        seen = seen | words[w];
+    for w in from..to {
+        seen |= words[w];
         words[w] = FULL;
-        w += 1;
     }
     seen == 0
 }
@@ -68,10 +66,5 @@ pub fn include(words: &mut [u64], start: usize, end: usize) -> bool
     let head = put(words, first, low);
     let middle = fill(words, first + 1, last);
     let tail = put(words, last, high);
-    if head {
-        if middle {
-            return tail;
-        }
-    }
-    false
+    head & middle & tail
 }

@@ -8,16 +8,16 @@ use Rattle.number_sets.proofs.Sets.{included-none, full-included, then}
 use Rattle.number_sets.proofs.fill.Goals as goal
 
 pub loop-w-init : goal.loop-w-init
-loop-w-init c = (omega arith, omega arith, included-none c.args.words.now (64 * c.args.from))
+loop-w-init c = included-none c.args.words.now (64 * c.args.from)
 
 pub loop-w-preserved : goal.loop-w-preserved
 loop-w-preserved c = let ws = c.loop-w.words in
     let w = c.loop-w.w in
     let known = c.slice_known-1.given w in
     let one = full-included ws w (omega arith) (omega arith) in
-    let both = then (omega arith) (omega arith) c.loop-w.invariant.2 one in
-    (omega arith, omega arith, rw (or-zero c.loop-w.seen (get_or ws w 0)) both)
+    let both = then (omega arith) (omega arith) c.loop-w.invariant one in
+    rw (or-zero c.loop-w.seen (get_or ws w 0)) both
 
 pub returns : goal.returns
 returns c = let all : c.loop-w.w ≡ c.args.to = omega arith in
-    rw (← all) c.loop-w.invariant.2
+    rw (← all) c.loop-w.invariant
