@@ -34,7 +34,7 @@ pub fn decode(bytes: &[u8], at: usize) -> Result<Decoded, Undecoded>
     if bytes.len() <= at {
         return Err(Undecoded { at });
     }
-    let first = wide(bytes[at]);
+    let first = u64::from(bytes[at]);
     if first < 128 {
         return Ok(Decoded {
             value: first,
@@ -44,9 +44,8 @@ pub fn decode(bytes: &[u8], at: usize) -> Result<Decoded, Undecoded>
     let mut value = first % 128;
     let mut weight: u64 = 128;
     let mut room = SECOND_ROOM;
-    let mut i = at + 1;
-    while i < bytes.len() {
-        let group = wide(bytes[i]);
+    for i in at + 1..bytes.len() {
+        let group = u64::from(bytes[i]);
         // A last group of 0: a shorter form exists.
         if group == 0 {
             return Err(Undecoded { at });
@@ -64,16 +63,8 @@ pub fn decode(bytes: &[u8], at: usize) -> Result<Decoded, Undecoded>
         value += weight * (group % 128);
         weight *= 128;
         room /= 128;
-        i += 1;
     }
     Err(Undecoded { at })
-}
-
-// A byte as a number of 64 bits.
-fn wide(byte: u8) -> u64
-    ensures { result ≡ byte }
-{
-    byte as u64
 }
 
 // How many bytes the encoding of `value` is long.
@@ -83,7 +74,7 @@ pub fn encoded_length(value: u64) -> usize
     let mut rest = value;
     let mut count = 1;
     while 128 <= rest {
-        rest = rest / 128;
+        rest /= 128;
         count += 1;
     }
     count
@@ -104,7 +95,7 @@ pub fn encode(value: u64, buffer: &mut [u8], at: usize) -> Result<usize, Full>
     let mut i = at;
     while 128 <= rest {
         buffer[i] = (128 + rest % 128) as u8;
-        rest = rest / 128;
+        rest /= 128;
         i += 1;
     }
     buffer[i] = rest as u8;

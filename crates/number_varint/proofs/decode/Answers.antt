@@ -9,17 +9,17 @@ pub returns-then-bytes-at : goal.returns-then-bytes-at
 returns-then-bytes-at c = none-there _ _ (omega arith)
 
 pub returns-then-first-lt128 : goal.returns-then-first-lt128
-returns-then-first-lt128 c = one-there (record { within = omega arith; here = c.wide-first.ensures }) (omega arith)
+returns-then-first-lt128 c = one-there (record { within = omega arith; here = c.from-first.ensures }) (omega arith)
 
 pub loop-i-init : goal.loop-i-init
-loop-i-init c = partly-first (record { within = omega arith; here = c.wide-first.ensures }) (omega arith)
+loop-i-init c = partly-first (record { within = omega arith; here = c.from-first.ensures }) (omega arith)
 
 pub returns-then-group-eq0 : goal.returns-then-group-eq0
-returns-then-group-eq0 c = partly-idle c.loop-i.invariant (record { within = omega arith; here = c.wide-group.ensures }) (omega arith)
+returns-then-group-eq0 c = partly-idle c.loop-i.invariant (record { within = omega arith; here = c.from-group.ensures }) (omega arith)
 
 pub returns-then-room-group : goal.returns-then-room-group
 returns-then-room-group c = let k = c.loop-i in
-    partly-wide k.invariant (record { within = omega arith; here = c.wide-group.ensures }) (omega (arith, c.shared_slice_known-in-loop-i-1.given k.i)) (omega arith)
+    partly-wide k.invariant (record { within = omega arith; here = c.from-group.ensures }) (omega (arith, c.shared_slice_known-in-loop-i-1.given k.i)) (omega arith)
 
 pub overflow_mul-result : goal.overflow_mul-result
 overflow_mul-result c = omega (arith, partly-fits c.loop-i.invariant c.if-room-group.false)
@@ -28,11 +28,11 @@ pub overflow_add-result-then-group-lt128 : goal.overflow_add-result-then-group-l
 overflow_add-result-then-group-lt128 c = omega (arith, partly-fits c.loop-i.invariant c.if-room-group.false)
 
 pub returns-then-group-lt128 : goal.returns-then-group-lt128
-returns-then-group-lt128 c = partly-last c.loop-i.invariant (record { within = omega arith; here = c.wide-group.ensures }) (omega arith) (omega arith) (omega arith)
+returns-then-group-lt128 c = partly-last c.loop-i.invariant (record { within = omega arith; here = c.from-group.ensures }) (omega arith) (omega arith) (omega arith)
 
 -- one group more
 more : goal.loop-i-preserved
-more c = partly_more c.loop-i.invariant (record { within = omega arith; here = c.wide-group.ensures }) (omega arith) (omega arith)
+more c = partly_more c.loop-i.invariant (record { within = omega arith; here = c.from-group.ensures }) (omega arith) (omega arith)
 
 pub overflow_mul-weight : goal.overflow_mul-weight
 overflow_mul-weight c = omega (arith, weight-small c.loop-i.invariant.ahead (omega arith))

@@ -9,7 +9,7 @@ use lib.Seq.{sets, sets-eq}
 use borrow.Author.Tests.{le-leb, lt-leb}
 use Rattle.number_varint.specs.SevenBit.{encoded}
 use Rattle.number_varint.specs.Answer.{given, end_of, fits, placed, EncodedAt}
-use Rattle.std.proofs.Common.{Result, Ok, Err}
+use Rattle.std.proofs.Common.{Ok, Err}
 use Rattle.number_varint.specs.declared.Full.{Full}
 use Rattle.number_varint.proofs.Groups.{Encodes, encodes, encodes-last, encodes_more}
 use Rattle.number_varint.proofs.encode.Goals as goal
