@@ -103,21 +103,7 @@ pub struct Arrival {
 fn old(a: Assembly, time: u64) -> bool
     ensures { result ≡ old time a }
 {
-    let opened = a.opened;
-    if time < opened {
-        return false;
-    }
-    client_record::live(a) && client_record::LIFETIME <= time - opened
-}
-
-fn expired(a: Assembly, time: u64) -> Assembly
-    ensures { result ≡ expire time a }
-{
-    if old(a, time) {
-        client_record::fresh_assembly()
-    } else {
-        a
-    }
+    client_record::live(a) && client_record::LIFETIME <= time.saturating_sub(a.opened)
 }
 
 fn bytes_lost(a: Assembly, time: u64) -> u32
@@ -135,11 +121,10 @@ fn expire_all(c: Client, time: u64) -> [Assembly; client_record::ASSEMBLY_LIMIT]
     ensures { result ≡ map (expire time) c.assemblies }
 {
     let mut kept = c.assemblies;
-    let mut i = 0;
-    while i < client_record::ASSEMBLY_LIMIT {
-        let a = c.assemblies[i];
-        kept[i] = expired(a, time);
-        i += 1;
+    for i in 0..client_record::ASSEMBLY_LIMIT {
+        if old(kept[i], time) {
+            kept[i] = client_record::fresh_assembly();
+        }
     }
     kept
 }
@@ -148,13 +133,9 @@ fn expire_all(c: Client, time: u64) -> [Assembly; client_record::ASSEMBLY_LIMIT]
 fn total_lost(c: Client, time: u64) -> u64
     ensures { result ≡ sum (lost time) c.assemblies }
 {
-    let mut total = 0u64;
-    let mut i = 0;
-    while i < client_record::ASSEMBLY_LIMIT {
-        let a = c.assemblies[i];
-        let bytes = bytes_lost(a, time);
-        total += bytes as u64;
-        i += 1;
+    let mut total = 0;
+    for a in &c.assemblies {
+        total += u64::from(bytes_lost(*a, time));
     }
     total
 }
@@ -168,7 +149,7 @@ pub fn elapsed(c: Client, time: u64) -> Client
     let kept = expire_all(c, time);
     Client {
         plan: c.plan,
-        time: time,
+        time,
         offered: c.offered,
         held: c.held - gone,
         delivered: c.delivered,
@@ -186,21 +167,21 @@ pub fn elapsed(c: Client, time: u64) -> Client
 pub fn advance(client: Client, time: u64) -> Step
     ensures { StepGives (advance_on client time) result }
 {
-    if client_record_test::sound(client) {
-        if time < client.time {
-            return Step {
-                client: client,
-                answer: Err(Refusal::TimeBeforeLast),
-            };
-        }
+    if !client_record_test::sound(client) {
         return Step {
-            client: elapsed(client, time),
-            answer: Ok(Answer::Advanced),
+            client,
+            answer: Err(Refusal::UnsoundRecord),
+        };
+    }
+    if time < client.time {
+        return Step {
+            client,
+            answer: Err(Refusal::TimeBeforeLast),
         };
     }
     Step {
-        client: client,
-        answer: Err(Refusal::UnsoundRecord),
+        client: elapsed(client, time),
+        answer: Ok(Answer::Advanced),
     }
 }
 
@@ -208,23 +189,23 @@ pub fn advance(client: Client, time: u64) -> Step
 pub fn account(client: Client) -> Step
     ensures { StepGives (account_on client) result }
 {
-    if client_record_test::sound(client) {
-        let figures = Figures {
-            offered: client.offered,
-            held: client.held,
-            delivered: client.delivered,
-            expired: client.expired,
-            conflicted: client.conflicted,
-            repeated: client.repeated,
-            rejected: client.rejected,
-        };
+    if !client_record_test::sound(client) {
         return Step {
-            client: client,
-            answer: Ok(Answer::Account(figures)),
+            client,
+            answer: Err(Refusal::UnsoundRecord),
         };
     }
+    let figures = Figures {
+        offered: client.offered,
+        held: client.held,
+        delivered: client.delivered,
+        expired: client.expired,
+        conflicted: client.conflicted,
+        repeated: client.repeated,
+        rejected: client.rejected,
+    };
     Step {
-        client: client,
-        answer: Err(Refusal::UnsoundRecord),
+        client,
+        answer: Ok(Answer::Account(figures)),
     }
 }

@@ -5,7 +5,7 @@ use Prim.Native.Nat.{ℕ, ◌<◌}
 use mathlib.Core.Path.{◌≡◌, refl, sym, ap, subst, ◌∙◌}
 use mathlib.Core.Bool.{Bool, true, false, cond}
 use mathlib.Core.List.{List, [], ◌∷◌, ◌++◌}
-use mathlib.Core.Option.{Option, none, some}
+use Rattle.std.specs.Prelude.{Option, Some, None}
 use mathlib.Core.Logic.{◌↔◌}
 use native.Mathlib.Omega.{arith}
 use lib.Dec.{eqb}
@@ -57,13 +57,13 @@ after_is t (set_up g) = refl
 after_is t (arriving current k p out) = go (piece_in (reading_of p))
   where
     go : (o : Option Fragment) → (receiving k p out t o).table ≡ final t (offers current k p out o)
-    go none = refl
-    go (some f) = refl
+    go None = refl
+    go (Some f) = refl
 after_is t (arriving (another u) k p out) = go (piece_in (reading_of p))
   where
     go : (o : Option Fragment) → t ≡ final t (offers (another u) k p out o)
-    go none = refl
-    go (some f) = refl
+    go None = refl
+    go (Some f) = refl
 after_is t (calling g k a) = refl
 
 final-append : (xs ys : List Event) (t : Table) → final t (xs ++ ys) ≡ final (final t xs) ys
@@ -99,10 +99,10 @@ answered-first k t (arriving g j p out) es = go (piece_in (reading_of p))
     go : (o : Option Fragment)
         → cond (eqb j k) (answer_by (receiving j p out (table_for g t) o)) [] ++ gives k (final t (offers g j p out o)) es
         ≡ gives k t (offers g j p out o ++ es)
-    go none =
+    go None =
         ap (λ (l : List Given). l ++ gives k t es)
         (ap (λ (l : List Given). cond (eqb j k) l []) (reader-silent (reading_of p) out) ∙ if_none (eqb j k))
-    go (some f) =
+    go (Some f) =
         if-front (eqb j k) (given_by (ask_on j (offer_of p f out) (table_for g t))) (gives k (next t (asking g j (offer_of p f out))) es)
 answered-first k t (calling g j a) es = if-front (eqb j k) (given_by (ask_on j a (table_for g t))) (gives k (next t (asking g j a)) es)
 
@@ -133,12 +133,12 @@ own-call k (arriving g j p out) cs = go (eqb j k) refl (piece_in (reading_of p))
   where
     go : (x : Bool) → eqb j k ≡ x → (o : Option Fragment) → piece_in (reading_of p) ≡ o
         → own_only k (offers g j p out o) ++ all_events cs ≡ all_events (cond x (arriving g j p out ∷ cs) cs)
-    go true e none q = ap (λ (o : Option Fragment). offers g j p out o ++ all_events cs) (sym q)
-    go true e (some f) q =
+    go true e None q = ap (λ (o : Option Fragment). offers g j p out o ++ all_events cs) (sym q)
+    go true e (Some f) q =
         ap (λ (x : Bool). cond x (asking g j (offer_of p f out) ∷ []) [] ++ all_events cs) e
         ∙ ap (λ (o : Option Fragment). offers g j p out o ++ all_events cs) (sym q)
-    go false e none q = refl
-    go false e (some f) q = ap (λ (x : Bool). cond x (asking g j (offer_of p f out) ∷ []) [] ++ all_events cs) e
+    go false e None q = refl
+    go false e (Some f) q = ap (λ (x : Bool). cond x (asking g j (offer_of p f out) ∷ []) [] ++ all_events cs) e
 own-call k (calling g j a) cs = go (eqb j k)
   where
     go : (x : Bool) → cond x (asking g j a ∷ []) [] ++ all_events cs ≡ all_events (cond x (calling g j a ∷ cs) cs)
@@ -173,7 +173,7 @@ module _ (t : Table) (cs : List Call) (terms : Terms t (all_events cs)) where
       (demand-3.sum t (all_events cs) terms k (subst (λ (u : Table). k < length u.records) table_is h))
 
 module _ (t : Table) (cs : List Call) (terms : Terms t (all_events cs)) (k : ℕ) (p : Packet) (out : List ℕ) where
-  module _ (f : Fragment) (e : piece_in (reading_of p) ≡ some f) where
+  module _ (f : Fragment) (e : piece_in (reading_of p) ≡ Some f) where
     fate-is : (receive_on k p out (table_after t cs)).fate ≡ offered (ask_on k (offer_of p f out) (Table.table_after t (all_events cs))).reply
     fate-is =
         ap (λ (x : Receipt). x.fate) (received k p out (table_after t cs) f e)
@@ -224,8 +224,8 @@ module _ (t : Table) (cs : List Call) (terms : Terms t (all_events cs)) (k : ℕ
   left_alone never = go (piece_in (reading_of p)) refl
     where
       go : (o : Option Fragment) → piece_in (reading_of p) ≡ o → (receive_on k p out (table_after t cs)).out ≡ out
-      go none e = ap (λ (x : Receipt). x.out) (not-received k p out (table_after t cs) e)
-      go (some f) e =
+      go None e = ap (λ (x : Receipt). x.out) (not-received k p out (table_after t cs) e)
+      go (Some f) e =
           out-is f e
           ∙ demand-3.untouched t (all_events cs) terms k (arrival_of p.payload p.source p.destination p.time f) (bytes_of p.payload f) out
           (λ n r d. never n r (fate-is f e ∙ ap offered d))
@@ -238,8 +238,8 @@ module _ (t : Table) (cs : List Call) (terms : Terms t (all_events cs)) (k : ℕ
       silent (Reading.reads r) e = let z : ◌≡◌ {A = ℕ} 0 1 = cc in omega arith
 
       go : (o : Option Fragment) → piece_in (reading_of p) ≡ o → ⊥
-      go none e = silent (reading_of p) (sym (ap (λ (x : Receipt). x.fate) (not-received k p out (table_after t cs) e)) ∙ q)
-      go (some f) e = demand-3.sound t (all_events cs) terms k (offer_of p f out) (reply-of f e (refused 22) q)
+      go None e = silent (reading_of p) (sym (ap (λ (x : Receipt). x.fate) (not-received k p out (table_after t cs) e)) ∙ q)
+      go (Some f) e = demand-3.sound t (all_events cs) terms k (offer_of p f out) (reply-of f e (refused 22) q)
 
 isolated : (t : Table) (cs cs' : List Call) → Terms t (all_events cs) → Terms t (all_events cs') → (k : ℕ) → own_calls k cs ≡ own_calls k cs'
     → (answers_to k t (opening cs) ≡ answers_to k t (opening cs'))

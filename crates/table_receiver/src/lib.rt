@@ -3,7 +3,7 @@
 
 ghost use Rattle.std.specs.Prelude.{◌≡◌, ◌≤◌, length};
 ghost use Rattle.table_rules.specs.Table.{table_of};
-ghost use Rattle.table_receiver.specs.Receive.{piece_of, arrival_of, receive_on, Leaves};
+ghost use Rattle.table_receiver.specs.Receive.{arrival_of, receive_on, Leaves};
 
 use client_reassembly::{Answer, Arrival};
 use client_record::{Client, Flow};
@@ -19,16 +19,6 @@ pub enum Received {
     Datagram(Reading),
     // A fragment, with what the table answered.
     Fragment(Result<Answer, client_reassembly::Refusal>),
-}
-
-// The fragment of a verdict, if it has one.
-fn fragment_in(verdict: Verdict) -> Option<wire_area::Fragment>
-    ensures { result ≡ piece_of verdict }
-{
-    match verdict {
-        Verdict::Piece(fragment) => Some(fragment),
-        _ => None,
-    }
 }
 
 // The fragment as the table takes it.
@@ -73,14 +63,14 @@ pub fn receive(
     ensures { Leaves (receive_on k (record { time = time; source = source; destination = destination; strictness = strictness; payload = payload.now }) out.old (table_of records.old store.old)) result records.new store.new out.new }
 {
     let reading = reading::read(payload, source, destination, strictness)?;
-    match fragment_in(reading.verdict) {
-        None => Ok(Received::Datagram(reading)),
-        Some(fragment) => {
+    match reading.verdict {
+        Verdict::Piece(fragment) => {
             let arrival = arrival_of(payload, source, destination, time, fragment);
             let start = fragment.start.0;
             let end = fragment.end.0;
             let answer = table_calls::offer(records, store, k, arrival, &payload[start..end], out);
             Ok(Received::Fragment(answer))
         }
+        _ => Ok(Received::Datagram(reading)),
     }
 }

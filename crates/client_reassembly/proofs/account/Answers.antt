@@ -6,12 +6,12 @@ use mathlib.Core.Bool.{true, false}
 use mathlib.Core.Path.{◌≡◌, sym, ◌∙◌}
 use Rattle.client_reassembly.proofs.account.Goals as goal
 
-pub returns-then-sound : goal.returns-then-sound
-unfolding account_on first_of figures
-returns-then-sound c = let e : sound_record c.args.client ≡ true = sym c.sound.ensures ∙ c.if-sound.true in
+pub returns-then-not-sound : goal.returns-then-not-sound
+unfolding account_on first_of
+returns-then-not-sound c = let e : sound_record c.args.client ≡ false = sym c.sound.ensures ∙ c.if-not-sound.true in
     record { client = simp e; reply = simp e }
 
 pub returns : goal.returns
-unfolding account_on first_of
-returns c = let e : sound_record c.args.client ≡ false = sym c.sound.ensures ∙ c.if-sound.false in
+unfolding account_on first_of figures
+returns c = let e : sound_record c.args.client ≡ true = sym c.sound.ensures ∙ c.if-not-sound.false in
     record { client = simp e; reply = simp e }

@@ -7,20 +7,17 @@ use mathlib.Core.Bool.{true, false}
 use mathlib.Core.Path.{◌≡◌, sym, ◌∙◌}
 use Rattle.client_reassembly.proofs.advance.Goals as goal
 
+pub returns-then-not-sound : goal.returns-then-not-sound
+unfolding advance_on first_of
+returns-then-not-sound c = let e : sound_record c.args.client ≡ false = sym c.sound.ensures ∙ c.if-not-sound.true in
+    record { client = simp e; reply = simp e }
+
 pub returns-then-time-client : goal.returns-then-time-client
 unfolding advance_on first_of
-returns-then-time-client c = let e : sound_record c.args.client ≡ true = sym c.sound.ensures ∙ c.if-sound.true in
+returns-then-time-client c = let e : sound_record c.args.client ≡ true = sym c.sound.ensures ∙ c.if-not-sound.false in
     record { client = simp (e, lt-ltb _ _ c.if-time-client.true); reply = simp (e, lt-ltb _ _ c.if-time-client.true) }
-
-pub elapsed-requires : goal.elapsed-requires
-elapsed-requires c = sym c.sound.ensures ∙ c.if-sound.true
-
-pub returns-then-sound : goal.returns-then-sound
-unfolding advance_on first_of
-returns-then-sound c = let e : sound_record c.args.client ≡ true = sym c.sound.ensures ∙ c.if-sound.true in
-    record { client = simp (e, le-ltb _ _ c.if-time-client.false) c.elapsed.ensures; reply = simp (e, le-ltb _ _ c.if-time-client.false) }
 
 pub returns : goal.returns
 unfolding advance_on first_of
-returns c = let e : sound_record c.args.client ≡ false = sym c.sound.ensures ∙ c.if-sound.false in
-    record { client = simp e; reply = simp e }
+returns c = let e : sound_record c.args.client ≡ true = sym c.sound.ensures ∙ c.if-not-sound.false in
+    record { client = simp (e, le-ltb _ _ c.if-time-client.false) c.elapsed.ensures; reply = simp (e, le-ltb _ _ c.if-time-client.false) }

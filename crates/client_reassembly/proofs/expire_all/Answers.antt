@@ -1,33 +1,34 @@
--- `client_reassembly::expire_all` meets its contract: the loop's invariant says that the first `i` places are replaced (`mapped_next`).
-use Rattle.client_record.proofs.Shapes.{places}
-use Rattle.client_reassembly.proofs.Laws.{mapped_next, mapped-all}
-use Rattle.client_reassembly.specs.Advance.{expire}
-use Rattle.client_record.specs.Limits.{assembly_limit}
-use Rattle.client_record.specs.declared.Assembly.{Assembly}
-use lib.ListN.{length, set}
-use Prim.Native.Nat.{◌<◌}
+-- `client_reassembly::expire_all` meets its contract: each assembly is replaced in its place (`mapped_next`), and one that is not old is as it was.
+use Prim.Native.Nat.{ℕ}
 use mathlib.Core.List.{List}
-use mathlib.Core.Path.{◌≡◌, refl, ap₂, ◌∙◌}
-use borrow.Author.Rules.{rules}
+use mathlib.Core.Path.{◌≡◌, sym, ap, ◌∙◌}
+use lib.ListN.{get_or, set}
+use lib.Seq.{set-get_or}
+use Rattle.number_tests.proofs.Tests.{cond_yes, cond_no}
 use native.Mathlib.Omega.{arith}
+use Rattle.client_record.proofs.Shapes.{places}
+use Rattle.client_record.specs.Limits.{assembly_limit}
+use Rattle.client_record.specs.Record.{fresh_assembly}
+use Rattle.client_reassembly.proofs.Laws.{mapped_next}
+use Rattle.client_reassembly.specs.Advance.{old, expire}
 use Rattle.client_reassembly.proofs.expire_all.Goals as goal
-
-pub loop-i-init : goal.loop-i-init
-unfolding assembly_limit
-loop-i-init c = (refl, search rules, places c.args.c _ c.well_formed.0)
+use Rattle.client_reassembly.proofs.expire_all.Goals.{then-old, else-old}
 
 pub loop-i-preserved : goal.loop-i-preserved
-unfolding assembly_limit
-loop-i-preserved c = let s = c.args in
+unfolding expire assembly_limit
+loop-i-preserved c =
+    let long = places c.args.c _ c.well_formed.0 in
+    let t = c.args.time in
     let i = c.loop-i.i in
-    let h : i < length s.c.assemblies = omega arith in (
-      ap₂ (λ (k : List Assembly) (a : Assembly). set k i a) c.loop-i.invariant.0 c.expired.ensures ∙ mapped_next (expire s.time) s.c.assemblies i _ h,
-      omega arith,
-      c.loop-i.invariant.2,
-    )
-
-pub returns : goal.returns
-unfolding assembly_limit
-returns c = let s = c.args in
-    let e : c.loop-i.i ≡ length s.c.assemblies = omega arith in
-    c.loop-i.invariant.0 ∙ mapped-all (expire s.time) s.c.assemblies c.loop-i.i e
+    let ys = c.loop-i.kept in
+    let more = mapped_next (expire t) c.args.c.assemblies ys i _ (omega (arith, long, c.loop-i-test.true)) c.loop-i.invariant in
+    elim c.if-old.branch [
+      then-old w ↦
+        w.kept-is
+        ∙ ap (set ys i) (w.fresh_assembly.ensures ∙ sym (cond_yes (old t _) fresh_assembly _ (sym c.old.ensures ∙ w.if-old.true)))
+        ∙ more
+    | else-old w ↦
+        w.kept-is
+        ∙ sym (ap (set ys i) (cond_no (old t _) fresh_assembly _ (sym c.old.ensures ∙ w.if-old.false)) ∙ set-get_or ys i _)
+        ∙ more
+    ]
