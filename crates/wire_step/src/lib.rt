@@ -67,13 +67,12 @@ fn sized_step(kind: u8, header: Option<Header>) -> Step
     ensures { result ≡ sized_step (class_of kind) kind header }
 {
     match header {
-        Some(Header { size, whole }) => {
-            if fits(class_of(kind), whole) {
-                return found(kind, size, whole);
-            }
-            Step::Malformed
-        }
-        None => Step::Malformed,
+        Some(Header { size, whole }) if fits(class_of(kind), whole) => Step::Found {
+            kind,
+            header: size,
+            size: whole,
+        },
+        _ => Step::Malformed,
     }
 }
 
@@ -82,16 +81,9 @@ fn fits(class: Class, whole: usize) -> bool
     ensures { result ≡ fits class whole }
 {
     match class {
-        Class::EndOfList => false,
-        Class::NoOperation => false,
-        Class::Fixed(a, b) => {
-            if whole == a {
-                return true;
-            }
-            whole == b
-        }
+        Class::Fixed(a, b) => whole == a || whole == b,
         Class::Varying => true,
-        Class::Unsafe => false,
+        Class::EndOfList | Class::NoOperation | Class::Unsafe => false,
     }
 }
 
@@ -102,8 +94,8 @@ fn class_of(kind: u8) -> Class
     match kind {
         0 => Class::EndOfList,
         1 => Class::NoOperation,
-        2 => Class::Fixed(6, 6),
-        3 => Class::Fixed(10, 12),
+        APC => Class::Fixed(6, 6),
+        FRAG => Class::Fixed(10, 12),
         4 => Class::Fixed(4, 4),
         5 => Class::Fixed(5, 5),
         6 | 7 => Class::Fixed(6, 6),
@@ -120,7 +112,7 @@ fn header_of(rest: &[u8]) -> Option<Header>
     if rest.len() < 2 {
         return None;
     }
-    let short = rest[1] as usize;
+    let short = usize::from(rest[1]);
     if short < 2 {
         return None;
     }
@@ -141,7 +133,7 @@ fn extended(rest: &[u8]) -> Option<Header>
     requires { 255 ≤ length rest.now }
     ensures { result ≡ extended rest.now }
 {
-    let whole = number_octets::get_u16(rest, 2) as usize;
+    let whole = usize::from(number_octets::get_u16(rest, 2));
     if whole < 255 {
         return None;
     }
@@ -149,10 +141,4 @@ fn extended(rest: &[u8]) -> Option<Header>
         return None;
     }
     Some(Header { size: 4, whole })
-}
-
-fn found(kind: u8, header: usize, size: usize) -> Step
-    ensures { result ≡ Step.Found kind header size }
-{
-    Step::Found { kind, header, size }
 }

@@ -10,16 +10,16 @@ use Rattle.wire_step.proofs.extended.Goals as goal
 use Rattle.wire_step.proofs.extended.Goals.{Else-rest-whole, Then-rest-whole, Then-whole-lt255}
 
 -- the whole length, and that the list is long enough to hold it
-whole : (c : Then-whole-lt255) → c.get_u16-whole.result ≡ number (part 2 2 c.args.rest.now)
-whole c = c.get_u16-whole.ensures
+whole : (c : Then-whole-lt255) → c.from-whole.result ≡ number (part 2 2 c.args.rest.now)
+whole c = c.from-whole.ensures ∙ c.get_u16.ensures
 
 -- the whole length, and that the list is long enough to hold it
-whole-2 : (c : Then-rest-whole) → c.get_u16-whole.result ≡ number (part 2 2 c.args.rest.now)
-whole-2 c = c.get_u16-whole.ensures
+whole-2 : (c : Then-rest-whole) → c.from-whole.result ≡ number (part 2 2 c.args.rest.now)
+whole-2 c = c.from-whole.ensures ∙ c.get_u16.ensures
 
 -- the whole length, and that the list is long enough to hold it
-whole-3 : (c : Else-rest-whole) → c.get_u16-whole.result ≡ number (part 2 2 c.args.rest.now)
-whole-3 c = c.get_u16-whole.ensures
+whole-3 : (c : Else-rest-whole) → c.from-whole.result ≡ number (part 2 2 c.args.rest.now)
+whole-3 c = c.from-whole.ensures ∙ c.get_u16.ensures
 
 pub returns-then-whole-lt255 : goal.returns-then-whole-lt255
 returns-then-whole-lt255 c = let l = c.args.rest.now in

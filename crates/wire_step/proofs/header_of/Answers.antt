@@ -1,5 +1,5 @@
 -- `wire_step::header_of` meets its contract: the code's tests are the definition's, and what is too short for its length byte is too short for the extended form.
-use mathlib.Core.Path.{◌≡◌, refl, sym, ◌∙◌}
+use mathlib.Core.Path.{◌≡◌, refl, sym, ap, ◌∙◌}
 use mathlib.Core.Bool.{Bool, true, false, cond}
 use mathlib.Core.List.{List}
 use Prim.Native.Nat.{ℕ, ◌≤◌, ◌<◌}
@@ -7,7 +7,7 @@ use native.Mathlib.Omega.{arith}
 use borrow.Author.Tests.{le-leb, lt-leb, eq-eqb, ne_eqb, eqb-true}
 use lib.Dec.{eqb, leb}
 use lib.ListN.{length, get_or}
-use Rattle.wire_step.specs.Step.{within, extended, header_of}
+use Rattle.wire_step.specs.Step.{sound, within, extended, header_of}
 use Rattle.wire_step.specs.declared.Header.{Header}
 use Rattle.std.proofs.Common.{Option, None}
 use Rattle.wire_step.proofs.Steps.{extended-short}
@@ -29,22 +29,24 @@ pub returns-then-rest-lt2 : goal.returns-then-rest-lt2
 unfolding header_of
 returns-then-rest-lt2 c = simp (lt-leb _ _ c.if-rest-lt2.true)
 
-pub overflow_cast-short : goal.overflow_cast-short
-overflow_cast-short c = omega (arith, c.type_inv.rest 1)
-
 pub returns-then-short-lt2 : goal.returns-then-short-lt2
 unfolding header_of
-returns-then-short-lt2 c = let byte : ℕ = get_or c.args.rest.now 1 0 in
-    simp (le-leb _ _ c.if-rest-lt2.false, ne_eqb byte 255 (λ e. omega (arith, c.if-short-lt2.true)), lt-leb _ _ c.if-short-lt2.true)
+returns-then-short-lt2 c = let l = c.args.rest.now in
+    let byte : ℕ = get_or l 1 0 in
+    simp (le-leb 2 (length l) (omega arith), ne_eqb byte 255 (λ e. omega arith), lt-leb 2 byte (omega arith))
 
 pub returns-then-rest-short : goal.returns-then-rest-short
 returns-then-rest-short c = let l = c.args.rest.now in
-    sym (short-list l c.if-rest-lt2.false c.if-short-lt2.false c.if-rest-short.true)
+    sym (short-list l (omega arith) (omega arith) (omega arith))
 
 pub returns-then-short-eq255 : goal.returns-then-short-eq255
 unfolding header_of
-returns-then-short-eq255 c = c.extended.ensures ∙ sym (simp (le-leb _ _ c.if-rest-lt2.false, eq-eqb _ _ c.if-short-eq255.true))
+returns-then-short-eq255 c = let l = c.args.rest.now in
+    c.extended.ensures ∙ sym (simp (le-leb 2 (length l) (omega arith), eq-eqb (get_or l 1 0) 255 (omega arith)))
 
 pub returns : goal.returns
 unfolding header_of
-returns c = sym (simp (le-leb _ _ c.if-rest-lt2.false, ne_eqb _ _ c.if-short-eq255.false, le-leb _ _ c.if-short-lt2.false, le-leb _ _ c.if-rest-short.false))
+returns c = let l = c.args.rest.now in
+    let byte : ℕ = get_or l 1 0 in
+    ap (sound 2) c.from-short.ensures
+    ∙ sym (simp (le-leb 2 (length l) (omega arith), ne_eqb byte 255 (λ e. c.if-short-eq255.false (c.from-short.ensures ∙ e)), le-leb 2 byte (omega arith), le-leb byte (length l) (omega arith)))
