@@ -179,9 +179,10 @@ pub fn apc_of(bytes: &[u8], from: usize, to: usize, apcs: Apcs) -> Apc
         Apcs::Absent => Apc::Absent,
         Apcs::Same(value) => {
             if value == number_crc32c::crc32c(&bytes[from..to]) {
-                return Apc::Right;
+                Apc::Right
+            } else {
+                Apc::Wrong
             }
-            Apc::Wrong
         }
         Apcs::Different => Apc::Wrong,
     }

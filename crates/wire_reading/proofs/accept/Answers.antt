@@ -11,7 +11,7 @@ use Rattle.number_octets.proofs.Laws.{part-rest}
 use Rattle.number_offsets.specs.Offsets.{udp_header}
 use Rattle.wire_surplus.specs.Surplus.{start_of}
 use Rattle.wire_surplus.specs.declared.Unlisted.{Unlisted}
-use Rattle.wire_reading.specs.Reading.{payload_limit, is_odd, optionless, started}
+use Rattle.wire_reading.specs.Reading.{payload_limit, is_odd, started}
 use Rattle.wire_surplus.proofs.Starts.{start-empty, start-list}
 use Rattle.wire_reading.proofs.accept.Goals as goal
 
@@ -42,13 +42,3 @@ overflow_add-size c = let a = c.args in
 pub listed-requires : goal.listed-requires
 listed-requires c = let a = c.args in
     (c.requires.0, omega arith, within _ _ _ _ _ c.requires.1 (begun (is_odd a.size) a.unused a.size a.payload.now _ _ c.start_of.ensures c.in-Ok.is))
-
-pub returns-in-Ok : goal.returns-in-Ok
-returns-in-Ok c = let a = c.args in
-    c.listed.ensures
-    ∙ ap (started a.strictness a.payload.now a.size) (begun (is_odd a.size) a.unused a.size a.payload.now _ _ c.start_of.ensures c.in-Ok.is)
-
-pub returns-in-Err : goal.returns-in-Err
-returns-in-Err c = let a = c.args in
-    c.optionless-in-Err.ensures ∙ ap (optionless a.size) c.from.ensures
-    ∙ ap (started a.strictness a.payload.now a.size) (begun (is_odd a.size) a.unused a.size a.payload.now _ _ c.start_of.ensures c.in-Err.is)
