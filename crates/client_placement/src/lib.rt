@@ -120,27 +120,13 @@ fn alike_any(a: Assembly, f: Fragment) -> bool
     found
 }
 
-// The same bytes, of two slices of one length.
-fn same_bytes(a: &[u8], b: &[u8]) -> bool
-    requires { length a.now ≡ length b.now }
-    ensures { result ≡ same_bytes a.now b.now }
-{
-    let mut ok = true;
-    for i in 0..a.len() {
-        ok &= a[i] == b[i];
-    }
-    ok
-}
-
 // The fragment repeats a held one: `kept` is what is stored in its range.
+#[tactic(auto, using(client_record::proofs::Keys::pointwise_same), unfolding(client_reassembly::specs::Offer::repeats))]
 pub fn repeats(a: Assembly, f: Fragment, kept: &[u8], bytes: &[u8]) -> bool
     requires { length bytes.now ≡ length kept.now }
     ensures { result ≡ repeats a f kept.now bytes.now }
 {
-    if alike_any(a, f) {
-        return same_bytes(bytes, kept);
-    }
-    false
+    alike_any(a, f) && bytes == kept
 }
 
 // The assembly with the fragment listed after the earlier ones.

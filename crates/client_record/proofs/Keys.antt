@@ -10,12 +10,12 @@ use Rattle.client_record.specs.declared.Flow.{Flow}
 use Rattle.client_record.specs.Lists.{same_bytes}
 use Rattle.client_record.specs.Record.{same_flow}
 
-pub pointwise-same : (a b : List ℕ) → pointwise eqb a b ≡ same_bytes a b
+pub pointwise_same : (a b : List ℕ) → pointwise eqb a b ≡ same_bytes a b
 unfolding same_bytes
-pointwise-same [] [] = refl
-pointwise-same [] (y ∷ ys) = refl
-pointwise-same (x ∷ xs) [] = refl
-pointwise-same (x ∷ xs) (y ∷ ys) = ap (λ (t : Bool). eqb x y && t) (pointwise-same xs ys)
+pointwise_same [] [] = refl
+pointwise_same [] (y ∷ ys) = refl
+pointwise_same (x ∷ xs) [] = refl
+pointwise_same (x ∷ xs) (y ∷ ys) = ap (λ (t : Bool). eqb x y && t) (pointwise_same xs ys)
 
 -- what `==` of two flows ensures
 pub derived_flow : (x y : Flow)
@@ -25,4 +25,4 @@ pub derived_flow : (x y : Flow)
 unfolding same_flow
 derived_flow x y =
     ap₂ (λ (s d : Bool). s && (d && (eqb x.source_port y.source_port && eqb x.destination_port y.destination_port)))
-    (pointwise-same x.source y.source) (pointwise-same x.destination y.destination)
+    (pointwise_same x.source y.source) (pointwise_same x.destination y.destination)

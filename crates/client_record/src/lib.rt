@@ -153,7 +153,7 @@ pub fn fresh(plan: u64) -> Client
 pub fn has_key(a: Assembly, flow: Flow, identification: u32) -> bool
     ensures { result ≡ has_key flow identification a }
 {
-    flow == a.flow && identification == a.identification
+    (flow == a.flow) & (identification == a.identification)
 }
 
 // ---- one assembly

@@ -108,7 +108,7 @@ fn assemblies_tested(c: Client) -> Option<u64>
 fn same_live_key(a: Assembly, b: Assembly) -> bool
     ensures { result ≡ same_live_key a b }
 {
-    client_record::live(a) && client_record::live(b) && client_record::has_key(b, a.flow, a.identification)
+    client_record::live(a) & client_record::live(b) & client_record::has_key(b, a.flow, a.identification)
 }
 
 // One of the first `n` assemblies has the key of `a`.
