@@ -20,6 +20,7 @@ const WORDS: usize = (client_record::DATAGRAM_LIMIT + number_sets::WORD - 1) / n
 const LIMIT: u32 = client_record::DATAGRAM_LIMIT as u32;
 
 // The first place behind it.
+#[tactic(auto, unfolding(client_record::specs::Record::end))]
 fn past_of(f: Fragment) -> u32
     ensures { PastOf f result }
 {
@@ -44,6 +45,7 @@ struct Pass {
 }
 
 // The pass has no branch, so that the compiler takes several fragments at a step.
+#[tactic(auto, unfolding(client_record::specs::Limits::fragment_limit))]
 fn sweep(a: Assembly, n: usize) -> Pass
     requires { HeldCount a n }
     ensures { Passed (held_fragments a) result }
@@ -55,14 +57,11 @@ fn sweep(a: Assembly, n: usize) -> Pass
     let mut total = 0u32;
     for i in 0..n {
         let f = a.fragments[i];
-        let start = f.offset as u32;
-        let length = f.length as u32;
-        let mark = f.last as u32;
-        empty |= length == 0;
-        falls |= start < behind;
-        marks |= mark;
+        empty |= f.length == 0;
+        falls |= (f.offset as u32) < behind;
+        marks |= f.last as u32;
         behind = past_of(f);
-        total += length;
+        total += f.length as u32;
     }
     Pass {
         empty,
@@ -81,6 +80,7 @@ struct LastOnes {
     options: u32,
 }
 
+#[tactic(auto, unfolding(client_record::specs::Limits::fragment_limit))]
 fn last_ones(a: Assembly, n: usize) -> LastOnes
     requires { HeldCount a n }
     ensures { Marked (held_fragments a) result }
@@ -91,10 +91,9 @@ fn last_ones(a: Assembly, n: usize) -> LastOnes
     for i in 0..n {
         let f = a.fragments[i];
         let last = client_fragments::is_last(f);
-        let start = f.option_start as u32;
         count += chosen(last, 1, 0);
         past += chosen(last, past_of(f), 0);
-        options += chosen(last, start, 0);
+        options += chosen(last, f.option_start as u32, 0);
     }
     LastOnes {
         count,
@@ -130,6 +129,7 @@ fn most_end(a: Assembly, n: usize, marks: u32, total: u32) -> u32
 }
 
 // None of the `held` fragments ends past `most`, and no two of them overlap.
+#[tactic(auto, unfolding(client_record::specs::Limits::fragment_limit))]
 fn apart(a: Assembly, held: usize, most: u32) -> bool
     requires { Placing a held most }
     ensures { result ≡ all (λ f. leb (end f) most) (held_fragments a) && pairs (λ f g. not (overlaps f g)) (held_fragments a) }
@@ -140,8 +140,7 @@ fn apart(a: Assembly, held: usize, most: u32) -> bool
         if most < past_of(f) {
             return false;
         }
-        let start = f.offset as usize;
-        if !number_sets::include(&mut places, start, client_fragments::end_of(f)) {
+        if !number_sets::include(&mut places, f.offset as usize, client_fragments::end_of(f)) {
             return false;
         }
     }

@@ -1,7 +1,7 @@
 -- Laws of Boolean tests: two comparisons that say the same, and conjunctions.
 -- Assumes nothing.
 use mathlib.Core.Path.{◌≡◌, refl, sym, ap, ◌∙◌}
-use mathlib.Core.Bool.{Bool, true, false, ◌&&◌, and_assoc, and-true, and-false}
+use mathlib.Core.Bool.{Bool, true, false, ◌&&◌, and-true, and-false}
 use Prim.Native.Nat.{ℕ, ◌+◌, ◌-◌, ◌<◌, ◌≤◌}
 use native.Mathlib.Omega.{arith}
 use lib.Dec.{eqb, leb, ltb}
@@ -19,11 +19,6 @@ same_test a b c d f g = go (ltb a b) refl
 pub within : (o t k : ℕ) → o ≤ t → ltb (t - o) k ≡ leb o t && ltb t (o + k)
 within o t k h =
     same_test (t - o) k t (o + k) (λ p. omega arith) (λ p. omega arith) ∙ sym (ap (λ (b : Bool). b && ltb t (o + k)) (le-leb o t h))
-
--- three tests at once, and then the others
-pub front-three : (a b c d : Bool) → a && (b && (c && d)) ≡ (a && (b && c)) && d
-front-three true b c d = sym (and_assoc b c d)
-front-three false b c d = refl
 
 -- a sum is the offered bytes, at most l: not where either is over l
 pub over-offered : (s o l : ℕ) → l < o → eqb s o && leb o l ≡ false

@@ -87,6 +87,7 @@ pub struct Client {
 }
 
 // A slot that holds nothing.
+#[tactic(auto, unfolding(crate::specs::Record::fresh_fragment))]
 pub fn fresh_fragment() -> Fragment
     ensures { result ≡ fresh_fragment }
 {
@@ -98,40 +99,37 @@ pub fn fresh_fragment() -> Fragment
     }
 }
 
+#[tactic(auto, unfolding(crate::specs::Limits::address_size, crate::specs::Record::fresh_flow))]
 pub fn fresh_flow() -> Flow
     ensures { result ≡ fresh_flow }
 {
-    let zero = [0; ADDRESS];
     Flow {
-        source: zero,
-        destination: zero,
+        source: [0; ADDRESS],
+        destination: [0; ADDRESS],
         source_port: 0,
         destination_port: 0,
     }
 }
 
 // A place that holds nothing.
+#[tactic(auto, unfolding(crate::specs::Limits::fragment_limit, crate::specs::Record::fresh_assembly))]
 pub fn fresh_assembly() -> Assembly
     ensures { result ≡ fresh_assembly }
 {
-    let flow = fresh_flow();
-    let none = fresh_fragment();
-    let fragments = [none; FRAGMENT_LIMIT];
     Assembly {
-        flow,
+        flow: fresh_flow(),
         identification: 0,
         opened: 0,
         count: 0,
-        fragments,
+        fragments: [fresh_fragment(); FRAGMENT_LIMIT],
     }
 }
 
 // A client of this plan before its first call.
+#[tactic(auto, unfolding(crate::specs::Limits::assembly_limit, crate::specs::Record::fresh_client))]
 pub fn fresh(plan: u64) -> Client
     ensures { result ≡ fresh_client plan }
 {
-    let unused = fresh_assembly();
-    let assemblies = [unused; ASSEMBLY_LIMIT];
     Client {
         plan,
         time: 0,
@@ -142,7 +140,7 @@ pub fn fresh(plan: u64) -> Client
         conflicted: 0,
         repeated: 0,
         rejected: 0,
-        assemblies,
+        assemblies: [fresh_assembly(); ASSEMBLY_LIMIT],
     }
 }
 
@@ -159,6 +157,7 @@ pub fn has_key(a: Assembly, flow: Flow, identification: u32) -> bool
 // ---- one assembly
 
 // It holds fragments.
+#[tactic(auto, unfolding(crate::specs::Record::live))]
 pub fn live(a: Assembly) -> bool
     ensures { result ≡ live a }
 {

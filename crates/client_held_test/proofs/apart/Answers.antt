@@ -11,7 +11,7 @@ use lib.Seq.{take-length}
 use Rattle.number_tests.proofs.Tests.{true-false}
 use Rattle.number_sets.proofs.Sets.{blank}
 use Rattle.client_record.specs.declared.Assembly.{Assembly}
-use Rattle.client_record.specs.Limits.{datagram_limit, fragment_limit}
+use Rattle.client_record.specs.Limits.{datagram_limit}
 use Rattle.client_record.specs.Lists.{all, any, pairs}
 use Rattle.client_record.specs.Record.{end, non_empty, held_fragments}
 use Rattle.client_record.proofs.Held.{none, held_at}
@@ -32,14 +32,6 @@ past-fails a i most h l =
 pub loop-k-init : goal.loop-k-init
 unfolding all pairs any datagram_limit
 loop-k-init c = (refl, refl, λ j. blank ((datagram_limit + 63) / 64) j, refl)
-
-pub offset_bounds-a-k : goal.offset_bounds-a-k
-unfolding fragment_limit
-offset_bounds-a-k c = omega (arith, c.requires.held.within)
-
-pub bounds-a-k : goal.bounds-a-k
-unfolding fragment_limit
-bounds-a-k c = omega (arith, c.requires.held.within)
 
 pub returns-then-most-past_of : goal.returns-then-most-past_of
 returns-then-most-past_of c = let a = c.args.a in

@@ -1,14 +1,14 @@
 -- `client_held_test::held_tested` meets its contract: what is asked comes to where fragments end and whether two overlap (`decided`), and of rising ones
 -- the pass knows both.
 use Prim.Native.Nat.{ℕ}
-use mathlib.Core.Bool.{Bool, not, ◌&&◌, and-true}
+use mathlib.Core.Bool.{Bool, true, not, ◌&&◌, and-true}
 use mathlib.Core.Path.{◌≡◌, sym, ap, ap₂, ◌∙◌}
 use native.Mathlib.Omega.{arith}
 use lib.Dec.{leb}
 use borrow.Author.Tests.{not-true, not-false}
 use Rattle.std.specs.Bool.{then_some}
 use Rattle.client_record.specs.Lists.{all}
-use Rattle.client_record.specs.Record.{end, compatible, whole, held_fragments, bytes_held}
+use Rattle.client_record.specs.Record.{end, non_empty, compatible, whole, held_fragments, bytes_held}
 use Rattle.client_held_test.specs.Held.{most_of}
 use Rattle.client_held_test.proofs.OnePass.{apart_all, unsound, most-within, rising-apart, rising-ends, decided}
 use Rattle.client_held_test.proofs.held_tested.Goals.{then-s-2, else-s-2}
@@ -34,7 +34,7 @@ pub returns : goal.returns
 unfolding bytes_held
 returns c = let fs = held_fragments c.args.a in
     let total = c.sweep-s.result.total in
-    let full = not-false _ (sym c.sweep-s.ensures.empty ∙ c.if-s.false) in
+    let full : all non_empty fs ≡ true = not-false _ (sym c.sweep-s.ensures.empty ∙ c.if-s.false) in
     let sound : c.if-s-2.sound ≡ all (λ f. leb (end f) (most_of fs total)) fs && apart_all fs =
     elim c.if-s-2.branch [
       | then-s-2 w ↦ w.sound-is ∙ w.apart-sound.ensures ∙ ap (λ (most : ℕ). all (λ f. leb (end f) most) fs && apart_all fs) c.most_end-most.ensures

@@ -31,14 +31,6 @@ pub loop-i-init : goal.loop-i-init
 unfolding last_sum sum
 loop-i-init c = (refl, refl, refl, search rules, search rules, search rules)
 
-pub offset_bounds-a-i : goal.offset_bounds-a-i
-unfolding fragment_limit
-offset_bounds-a-i c = omega (arith, c.requires.within)
-
-pub bounds-a-i : goal.bounds-a-i
-unfolding fragment_limit
-bounds-a-i c = omega (arith, c.requires.within)
-
 pub overflow_add-count : goal.overflow_add-count
 unfolding fragment_limit
 overflow_add-count c = let few = under {m = 2} c.is_last-last.result c.chosen-count.ensures (omega arith) in
@@ -63,7 +55,7 @@ loop-i-preserved c = let a = c.args.a in
     let past = c.past_of.ensures.value ∙ ap end same in
     let few = under {m = 2} c.is_last-last.result c.chosen-count.ensures (omega arith) in
     let near = under {m = 2 ^ 17} c.is_last-last.result c.chosen-past.ensures c.past_of.ensures.small in
-    let small = under {m = 2 ^ 16} c.is_last-last.result c.chosen-options.ensures (omega (arith, c.struct_known-1.given)) in (
+    let small = under {m = 2 ^ 16} c.is_last-last.result c.chosen-options.ensures (omega arith) in (
       rw (c.chosen-count.ensures, mark) (sum_more (held_fragments a) c.loop-i.i h (λ f. 1) c.loop-i.invariant.0),
       rw (c.chosen-past.ensures, mark, past) (sum_more (held_fragments a) c.loop-i.i h end c.loop-i.invariant.1),
       rw (c.chosen-options.ensures, mark, same) (sum_more (held_fragments a) c.loop-i.i h (λ f. f.option_start) c.loop-i.invariant.2),

@@ -12,7 +12,6 @@ use lib.ListN.{length, take, get_or}
 use lib.Seq.{take-length}
 use Rattle.number_octets.proofs.ZeroBytes.{or-zero}
 use Rattle.client_record.specs.declared.Fragment.{Fragment}
-use Rattle.client_record.specs.Limits.{fragment_limit}
 use Rattle.client_record.specs.Lists.{all, any, sum}
 use Rattle.client_record.specs.Record.{is_last, end, non_empty, held_fragments}
 use Rattle.client_record.proofs.Held.{none, held_at}
@@ -66,14 +65,6 @@ sofar-none = record { empty_is = refl; falls_is = refl; marks_is = refl; far_is 
 
 pub loop-i-init : goal.loop-i-init
 loop-i-init c = (sofar-none, search rules)
-
-pub offset_bounds-a-i : goal.offset_bounds-a-i
-unfolding fragment_limit
-offset_bounds-a-i c = omega (arith, c.requires.within)
-
-pub bounds-a-i : goal.bounds-a-i
-unfolding fragment_limit
-bounds-a-i c = omega (arith, c.requires.within)
 
 pub loop-i-preserved : goal.loop-i-preserved
 loop-i-preserved c = let a = c.args.a in
