@@ -66,6 +66,7 @@ pub fn place_for(c: Client, o: Arrival) -> usize
 }
 
 // An assembly that the offer opens, before its first fragment.
+#[tactic(auto, unfolding(client_reassembly::specs::Offer::opening))]
 fn opening(o: Arrival) -> Assembly
     ensures { result ≡ opening o }
 {
@@ -130,7 +131,7 @@ pub fn repeats(a: Assembly, f: Fragment, kept: &[u8], bytes: &[u8]) -> bool
 }
 
 // The assembly with the fragment listed after the earlier ones.
-#[tactic(auto, unfolding(client_record::specs::Limits::fragment_limit))]
+#[tactic(auto, unfolding(client_record::specs::Limits::fragment_limit, client_reassembly::specs::Offer::added))]
 pub fn added(a: Assembly, f: Fragment) -> Assembly
     requires { a.count < fragment_limit }
     ensures { result ≡ added a f }
@@ -144,7 +145,7 @@ pub fn added(a: Assembly, f: Fragment) -> Assembly
 
 // ---- the record after each fate of a fragment of `n` bytes
 
-#[tactic(auto, unfolding(client_record::specs::Limits::offered_limit, client_record::specs::Record::figure_sum))]
+#[tactic(auto, unfolding(client_record::specs::Limits::offered_limit, client_record::specs::Record::figure_sum, client_reassembly::specs::Offer::rejecting))]
 pub fn rejecting(c: Client, n: u64) -> Client
     requires { Room c n }
     ensures { result ≡ rejecting n c }
@@ -155,7 +156,7 @@ pub fn rejecting(c: Client, n: u64) -> Client
     d
 }
 
-#[tactic(auto, unfolding(client_record::specs::Limits::offered_limit, client_record::specs::Record::figure_sum))]
+#[tactic(auto, unfolding(client_record::specs::Limits::offered_limit, client_record::specs::Record::figure_sum, client_reassembly::specs::Offer::repeating))]
 pub fn repeating(c: Client, n: u64) -> Client
     requires { Room c n }
     ensures { result ≡ repeating n c }
@@ -167,7 +168,7 @@ pub fn repeating(c: Client, n: u64) -> Client
 }
 
 // The assembly `a` at place `p` ends in a conflict.
-#[tactic(auto, unfolding(client_record::specs::Limits::offered_limit, client_record::specs::Limits::assembly_limit, client_record::specs::Record::figure_sum))]
+#[tactic(auto, unfolding(client_record::specs::Limits::offered_limit, client_record::specs::Limits::assembly_limit, client_record::specs::Record::figure_sum, client_reassembly::specs::Offer::conflicting))]
 pub fn conflicting(c: Client, p: usize, a: Assembly, n: u64) -> Client
     requires { Ending c p a n }
     ensures { result ≡ conflicting p a n c }
@@ -183,7 +184,7 @@ pub fn conflicting(c: Client, p: usize, a: Assembly, n: u64) -> Client
 }
 
 // The assembly `a` at place `p` ends in a delivery.
-#[tactic(auto, unfolding(client_record::specs::Limits::offered_limit, client_record::specs::Limits::assembly_limit, client_record::specs::Record::figure_sum))]
+#[tactic(auto, unfolding(client_record::specs::Limits::offered_limit, client_record::specs::Limits::assembly_limit, client_record::specs::Record::figure_sum, client_reassembly::specs::Offer::delivering))]
 pub fn delivering(c: Client, p: usize, a: Assembly, n: u64) -> Client
     requires { Ending c p a n }
     ensures { result ≡ delivering p a n c }
@@ -199,7 +200,7 @@ pub fn delivering(c: Client, p: usize, a: Assembly, n: u64) -> Client
 }
 
 // The assembly at place `p` is `b`, with the fragment.
-#[tactic(auto, unfolding(client_record::specs::Limits::offered_limit, client_record::specs::Limits::assembly_limit, client_record::specs::Record::figure_sum))]
+#[tactic(auto, unfolding(client_record::specs::Limits::offered_limit, client_record::specs::Limits::assembly_limit, client_record::specs::Record::figure_sum, client_reassembly::specs::Offer::storing))]
 pub fn storing(c: Client, p: usize, b: Assembly, n: u64) -> Client
     requires { Storing c p n }
     ensures { result ≡ storing p b n c }

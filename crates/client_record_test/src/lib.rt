@@ -171,6 +171,7 @@ fn figures_sum(
     held + delivered + expired + conflicted + repeated + rejected == offered
 }
 
+#[tactic(auto, unfolding(client_record::specs::Record::balanced, client_record::specs::Record::figure_sum))]
 fn balanced(c: Client) -> bool
     ensures { result ≡ balanced c }
 {
