@@ -56,18 +56,8 @@ fn measure_at(list: &[u8], at: usize) -> Result<Measured, Refusal>
 {
     let found = list_entry::entry_at(list, at)?;
     match found {
-        Entry::Fields {
-            kind,
-            first: _,
-            second: _,
-            next,
-        } => Ok(whole(fields_length(kind), next)),
-        Entry::Body {
-            kind: _,
-            start: _,
-            size,
-            next,
-        } => Ok(whole(size, next)),
+        Entry::Fields { kind, next, .. } => Ok(whole(fields_length(kind), next)),
+        Entry::Body { size, next, .. } => Ok(whole(size, next)),
     }
 }
 

@@ -80,25 +80,12 @@ fn options_size(options: &[u8]) -> usize
     while at < options.len() {
         let met = wire_step::next(&options[at..]);
         match met {
-            Step::Nop => {
-                at = behind_nops(options, at);
-            }
+            Step::Nop => at = behind_nops(options, at),
             Step::Found { kind, header, size } => {
                 total += option_size(&options[at..], kind, header, size);
                 at += size;
             }
-            Step::End => {
-                return total;
-            }
-            Step::Eol => {
-                return total;
-            }
-            Step::Malformed => {
-                return total;
-            }
-            Step::Outlawed => {
-                return total;
-            }
+            _ => return total,
         }
     }
     total
@@ -116,25 +103,12 @@ fn put_options(options: &[u8], buffer: &mut [u8], start: usize)
     while at < options.len() {
         let met = wire_step::next(&options[at..]);
         match met {
-            Step::Nop => {
-                at = behind_nops(options, at);
-            }
+            Step::Nop => at = behind_nops(options, at),
             Step::Found { kind, header, size } => {
                 out = put_option(&options[at..], kind, header, size, buffer, out);
                 at += size;
             }
-            Step::End => {
-                return;
-            }
-            Step::Eol => {
-                return;
-            }
-            Step::Malformed => {
-                return;
-            }
-            Step::Outlawed => {
-                return;
-            }
+            _ => return,
         }
     }
 }
@@ -209,7 +183,7 @@ fn content_size(rest: &[u8], content: Content) -> usize
         Content::Two(first, second) => {
             number_varint::encoded_length(first) + number_varint::encoded_length(second)
         }
-        Content::Raw { start: _, size } => number_varint::encoded_length(size as u64) + size,
+        Content::Raw { size, .. } => number_varint::encoded_length(size as u64) + size,
     }
 }
 

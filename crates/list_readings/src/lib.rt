@@ -20,12 +20,9 @@ pub fn list_reading(
         (walk_of_value payload.now reading.verdict reading.options.from.0 reading.options.to.0)
         buffer.old result buffer.new }
 {
-    let verdict = reading.verdict;
     let options = reading.options;
-    if is_listed(verdict, options, payload.len()) {
-        let from = options.from.0;
-        let to = options.to.0;
-        return list_options::list_options(&payload[from..to], buffer);
+    if is_listed(reading.verdict, options, payload.len()) {
+        return list_options::list_options(&payload[options.from.0..options.to.0], buffer);
     }
     list_options::list_options(&payload[..0], buffer)
 }
@@ -40,12 +37,9 @@ pub fn list_rereading(
         (walk_of_value original.now rereading.verdict rereading.options.from.0 rereading.options.to.0)
         buffer.old result buffer.new }
 {
-    let verdict = rereading.verdict;
     let options = rereading.options;
-    if is_relisted(verdict, options, original.len()) {
-        let start = options.from.0;
-        let end = options.to.0;
-        return list_options::list_options(&original[start..end], buffer);
+    if is_relisted(rereading.verdict, options, original.len()) {
+        return list_options::list_options(&original[options.from.0..options.to.0], buffer);
     }
     list_options::list_options(&original[..0], buffer)
 }
@@ -54,24 +48,12 @@ pub fn list_rereading(
 pub fn is_listed(verdict: Verdict, options: Extent, size: usize) -> bool
     ensures { result ≡ is_listed verdict options.from.0 options.to.0 size }
 {
-    if options.to.0 < options.from.0 {
-        return false;
-    }
-    if size < options.to.0 {
-        return false;
-    }
-    wire_reading::is_read(verdict)
+    wire_reading::is_read(verdict) && options.from.0 <= options.to.0 && options.to.0 <= size
 }
 
 // The same of a list within an original of `size` bytes.
 pub fn is_relisted(verdict: Verdict, places: OriginalExtent, size: usize) -> bool
     ensures { result ≡ is_listed verdict places.from.0 places.to.0 size }
 {
-    if places.to.0 < places.from.0 {
-        return false;
-    }
-    if size < places.to.0 {
-        return false;
-    }
-    wire_reading::is_read(verdict)
+    wire_reading::is_read(verdict) && places.from.0 <= places.to.0 && places.to.0 <= size
 }

@@ -48,7 +48,7 @@ fn datagram_sum(
 {
     let size = UDP_HEADER + data.len();
     let pseudo = wire_datagram::reading::pseudo_sum(source, destination, size);
-    let header = source_port as u64 + destination_port as u64 + size as u64;
+    let header = u64::from(source_port) + u64::from(destination_port) + size as u64;
     number_checksum::add_block(pseudo + header, data, false)
 }
 

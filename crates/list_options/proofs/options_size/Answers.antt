@@ -16,19 +16,9 @@ use Rattle.wire_options.proofs.Rests.{Rest, RestBy, Taken, rest_over, rest-nops,
 use Rattle.list_entry.specs.Option.{encoded_option}
 use Rattle.list_options.specs.Listing.{unworked}
 use Rattle.list_options.proofs.Listings.{walk-short}
-use Rattle.list_options.proofs.Rests.{whole, code, code-none, code-first, rest-sound}
+use Rattle.list_options.proofs.Rests.{whole, code, code-none, code-first, rest-sound, taken, none-left}
 use Rattle.list_options.proofs.options_size.Goals as goal
 use Rattle.list_options.proofs.options_size.Invariants.{Counted}
-
--- what a step leaves to come, made over the rest of the list
-to-come : {all : List ℕ} {at : ℕ} {options : List Located} {met step : Step} → Rest all at options → at < length all
-    → met ≡ step_of (part at (length all - at) all) → met ≡ step → RestBy all at options step
-to-come {all} {at} r h e q = rest-by r h (sym (e ∙ ap step_of (part-rest at all)) ∙ q)
-
--- the option that was found is the first of those to come
-taken : (all : List ℕ) (at : ℕ) {options : List Located} {met : Step} {kind header size : ℕ} → Rest all at options → at < length all
-    → met ≡ step_of (part at (length all - at) all) → met ≡ Found kind header size → Taken all at options kind header size
-taken all at r h e q = to-come r h e q
 
 -- nothing more to count
 ended : {all : List ℕ} {at total : ℕ} (i : Counted all at total) → [] ≡ i.options → total ≡ length (whole all)
@@ -63,35 +53,27 @@ loop-at-preserved-in-Nop c = let i = c.loop-at.invariant.1 in (
 pub option_size-total-requires : goal.option_size-total-requires
 option_size-total-requires c =
     let i = c.loop-at.invariant.1 in
-    (sym c.next-met.ensures ∙ c.in-Found.is, (taken c.args.options.now c.loop-at.at i.rest c.loop-at-test.true c.next-met.ensures c.in-Found.is).other)
+    (sym c.next-met.ensures ∙ c.in-Found.is, (taken i.rest c.loop-at-test.true c.next-met.ensures c.in-Found.is).other)
 
 pub overflow_add-total : goal.overflow_add-total
 overflow_add-total c =
-    let t = taken c.args.options.now c.loop-at.at c.loop-at.invariant.1.rest c.loop-at-test.true c.next-met.ensures c.in-Found.is in
+    let t = taken c.loop-at.invariant.1.rest c.loop-at-test.true c.next-met.ensures c.in-Found.is in
     omega (arith, counted c.loop-at.invariant.1 t c.option_size-total.ensures, walk-short c.args.options.now (λ i. omega (arith, c.type_inv.options i)))
 
 pub overflow_add-at : goal.overflow_add-at
-overflow_add-at c = let t = taken c.args.options.now c.loop-at.at c.loop-at.invariant.1.rest c.loop-at-test.true c.next-met.ensures c.in-Found.is in omega (arith, t.some, t.fits)
+overflow_add-at c = let t = taken c.loop-at.invariant.1.rest c.loop-at-test.true c.next-met.ensures c.in-Found.is in omega (arith, t.some, t.fits)
 
 pub loop-at-smaller : goal.loop-at-smaller
-loop-at-smaller c = let t = taken c.args.options.now c.loop-at.at c.loop-at.invariant.1.rest c.loop-at-test.true c.next-met.ensures c.in-Found.is in omega (arith, t.some, t.fits)
+loop-at-smaller c = let t = taken c.loop-at.invariant.1.rest c.loop-at-test.true c.next-met.ensures c.in-Found.is in omega (arith, t.some, t.fits)
 
 pub loop-at-preserved : goal.loop-at-preserved
 loop-at-preserved c =
-    let t = taken c.args.options.now c.loop-at.at c.loop-at.invariant.1.rest c.loop-at-test.true c.next-met.ensures c.in-Found.is in
+    let t = taken c.loop-at.invariant.1.rest c.loop-at-test.true c.next-met.ensures c.in-Found.is in
     (t.fits, record { options = t.later; rest = t.rest; sum = counted c.loop-at.invariant.1 t c.option_size-total.ensures })
 
-pub returns-in-End : goal.returns-in-End
-returns-in-End c = let i = c.loop-at.invariant.1 in ended i (to-come i.rest c.loop-at-test.true c.next-met.ensures c.in-End.is)
-
-pub returns-in-Eol : goal.returns-in-Eol
-returns-in-Eol c = let i = c.loop-at.invariant.1 in ended i (to-come i.rest c.loop-at-test.true c.next-met.ensures c.in-Eol.is)
-
-pub returns-in-Malformed : goal.returns-in-Malformed
-returns-in-Malformed c = let i = c.loop-at.invariant.1 in ended i (to-come i.rest c.loop-at-test.true c.next-met.ensures c.in-Malformed.is)
-
-pub returns-in-Outlawed : goal.returns-in-Outlawed
-returns-in-Outlawed c = let i = c.loop-at.invariant.1 in ended i (to-come i.rest c.loop-at-test.true c.next-met.ensures c.in-Outlawed.is)
+pub returns-in_default : goal.returns-in_default
+returns-in_default c = let i = c.loop-at.invariant.1 in
+    ended i (none-left i.rest c.loop-at-test.true _ c.next-met.ensures c.in_default.not-Nop c.in_default.not-Found)
 
 pub returns : goal.returns
 returns c = let i = c.loop-at.invariant.1 in ended i (rest_over i.rest c.loop-at-test.false)

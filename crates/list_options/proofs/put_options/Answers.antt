@@ -16,19 +16,9 @@ use Rattle.wire_options.proofs.Rests.{Rest, RestBy, Taken, rest_over, rest-nops,
 use Rattle.list_entry.specs.Option.{encoded_option}
 use Rattle.list_options.specs.Listing.{unworked, WrittenAt}
 use Rattle.list_options.proofs.Writes.{written_none, written-length, written_both}
-use Rattle.list_options.proofs.Rests.{whole, code, code-none, code-first, rest-sound}
+use Rattle.list_options.proofs.Rests.{whole, code, code-none, code-first, rest-sound, taken, none-left}
 use Rattle.list_options.proofs.put_options.Goals as goal
 use Rattle.list_options.proofs.put_options.Invariants.{PutSoFar}
-
--- what a step leaves to come, made over the rest of the list
-to-come : {all : List ℕ} {at : ℕ} {options : List Located} {met step : Step} → Rest all at options → at < length all
-    → met ≡ step_of (part at (length all - at) all) → met ≡ step → RestBy all at options step
-to-come {all} {at} r h e q = rest-by r h (sym (e ∙ ap step_of (part-rest at all)) ∙ q)
-
--- the option that was found is the first of those to come
-taken : (all : List ℕ) (at : ℕ) {options : List Located} {met : Step} {kind header size : ℕ} → Rest all at options → at < length all
-    → met ≡ step_of (part at (length all - at) all) → met ≡ Found kind header size → Taken all at options kind header size
-taken all at r h e q = to-come r h e q
 
 -- what was written, in a buffer with room for the whole
 module _ (all buffer₀ : List ℕ) (start at out : ℕ) (buffer : List ℕ) (i : PutSoFar all buffer₀ start at out buffer)
@@ -99,7 +89,7 @@ loop-at-preserved-in-Nop c = let i = c.loop-at.invariant.1 in (
 
 pub put_option-out-requires : goal.put_option-out-requires
 put_option-out-requires c =
-    let t = taken c.args.options.now c.loop-at.at c.loop-at.invariant.1.rest c.loop-at-test.true c.next-met.ensures c.in-Found.is in
+    let t = taken c.loop-at.invariant.1.rest c.loop-at-test.true c.next-met.ensures c.in-Found.is in
     rw (part-rest c.loop-at.at c.args.options.now) (
       sym (c.next-met.ensures ∙ ap step_of (part-rest c.loop-at.at c.args.options.now)) ∙ c.in-Found.is,
       t.other,
@@ -107,44 +97,20 @@ put_option-out-requires c =
     )
 
 pub overflow_add-at : goal.overflow_add-at
-overflow_add-at c = let t = taken c.args.options.now c.loop-at.at c.loop-at.invariant.1.rest c.loop-at-test.true c.next-met.ensures c.in-Found.is in omega (arith, t.some, t.fits)
+overflow_add-at c = let t = taken c.loop-at.invariant.1.rest c.loop-at-test.true c.next-met.ensures c.in-Found.is in omega (arith, t.some, t.fits)
 
 pub loop-at-smaller : goal.loop-at-smaller
-loop-at-smaller c = let t = taken c.args.options.now c.loop-at.at c.loop-at.invariant.1.rest c.loop-at-test.true c.next-met.ensures c.in-Found.is in omega (arith, t.some, t.fits)
+loop-at-smaller c = let t = taken c.loop-at.invariant.1.rest c.loop-at-test.true c.next-met.ensures c.in-Found.is in omega (arith, t.some, t.fits)
 
 pub loop-at-preserved : goal.loop-at-preserved
 loop-at-preserved c =
-    let t = taken c.args.options.now c.loop-at.at c.loop-at.invariant.1.rest c.loop-at-test.true c.next-met.ensures c.in-Found.is in
+    let t = taken c.loop-at.invariant.1.rest c.loop-at-test.true c.next-met.ensures c.in-Found.is in
     let put = rw (part-rest c.loop-at.at c.args.options.now) at c.put_option-out.ensures in
     (t.fits, put-more c.args.options.now c.args.buffer.now c.args.start c.loop-at.at c.loop-at.out c.loop-at.buffer c.loop-at.invariant.1 c.requires.1 c.in-Found.kind c.in-Found.header c.in-Found.size t put)
 
-pub shape_of-buffer-in-End : goal.shape_of-buffer-in-End
-shape_of-buffer-in-End c = as_long c.args.options.now c.args.buffer.now c.args.start c.loop-at.at c.loop-at.out c.loop-at.buffer c.loop-at.invariant.1 c.requires.1
-
-pub returns-in-End : goal.returns-in-End
-returns-in-End c = ended c.args.options.now c.args.buffer.now c.args.start c.loop-at.at c.loop-at.out c.loop-at.buffer c.loop-at.invariant.1 c.requires.1
-    (to-come c.loop-at.invariant.1.rest c.loop-at-test.true c.next-met.ensures c.in-End.is)
-
-pub shape_of-buffer-in-Eol : goal.shape_of-buffer-in-Eol
-shape_of-buffer-in-Eol c = as_long c.args.options.now c.args.buffer.now c.args.start c.loop-at.at c.loop-at.out c.loop-at.buffer c.loop-at.invariant.1 c.requires.1
-
-pub returns-in-Eol : goal.returns-in-Eol
-returns-in-Eol c = ended c.args.options.now c.args.buffer.now c.args.start c.loop-at.at c.loop-at.out c.loop-at.buffer c.loop-at.invariant.1 c.requires.1
-    (to-come c.loop-at.invariant.1.rest c.loop-at-test.true c.next-met.ensures c.in-Eol.is)
-
-pub shape_of-buffer-in-Malformed : goal.shape_of-buffer-in-Malformed
-shape_of-buffer-in-Malformed c = as_long c.args.options.now c.args.buffer.now c.args.start c.loop-at.at c.loop-at.out c.loop-at.buffer c.loop-at.invariant.1 c.requires.1
-
-pub returns-in-Malformed : goal.returns-in-Malformed
-returns-in-Malformed c = ended c.args.options.now c.args.buffer.now c.args.start c.loop-at.at c.loop-at.out c.loop-at.buffer c.loop-at.invariant.1 c.requires.1
-    (to-come c.loop-at.invariant.1.rest c.loop-at-test.true c.next-met.ensures c.in-Malformed.is)
-
-pub shape_of-buffer-in-Outlawed : goal.shape_of-buffer-in-Outlawed
-shape_of-buffer-in-Outlawed c = as_long c.args.options.now c.args.buffer.now c.args.start c.loop-at.at c.loop-at.out c.loop-at.buffer c.loop-at.invariant.1 c.requires.1
-
-pub returns-in-Outlawed : goal.returns-in-Outlawed
-returns-in-Outlawed c = ended c.args.options.now c.args.buffer.now c.args.start c.loop-at.at c.loop-at.out c.loop-at.buffer c.loop-at.invariant.1 c.requires.1
-    (to-come c.loop-at.invariant.1.rest c.loop-at-test.true c.next-met.ensures c.in-Outlawed.is)
+pub returns-in_default : goal.returns-in_default
+returns-in_default c = ended c.args.options.now c.args.buffer.now c.args.start c.loop-at.at c.loop-at.out c.loop-at.buffer c.loop-at.invariant.1 c.requires.1
+    (none-left c.loop-at.invariant.1.rest c.loop-at-test.true _ c.next-met.ensures c.in_default.not-Nop c.in_default.not-Found)
 
 pub shape_of-buffer : goal.shape_of-buffer
 shape_of-buffer c = as_long c.args.options.now c.args.buffer.now c.args.start c.loop-at.at c.loop-at.out c.loop-at.buffer c.loop-at.invariant.1 c.requires.1
