@@ -1,24 +1,15 @@
 -- `list_readings::list_rereading` meets its contract: the part is listed where the test holds, and else the empty part, whose walk has no option.
 use mathlib.Core.Path.{sym, subst⁻¹, ◌∙◌}
-use Prim.Native.Nat.{◌≤◌}
 use native.Mathlib.Omega.{arith}
 use lib.ListN.{length}
 use Rattle.wire_options.specs.Walk.{Walked, walk_from}
 use Rattle.list_options.specs.Listing.{ListedInto}
 use Rattle.list_readings.proofs.Values.{extent-inside, value-listed, value_none}
 use Rattle.list_readings.proofs.list_rereading.Goals as goal
-use Rattle.list_readings.proofs.list_rereading.Goals.{Then-is_relisted}
-
--- the list lies within the bytes where the test holds
-inside : (c : Then-is_relisted) → let a = c.args in let options = a.rereading.options in
-    (options.from.0 ≤ options.to.0) × (options.to.0 ≤ length a.original.now)
-inside c =
-    let a = c.args in
-    let options = a.rereading.options in
-    extent-inside a.rereading.verdict options.from.0 options.to.0 _ (sym c.is_relisted.ensures ∙ c.if-is_relisted.true)
 
 pub slice_bounds-list_options-count : goal.slice_bounds-list_options-count
-slice_bounds-list_options-count c = omega (arith, inside c)
+slice_bounds-list_options-count c = let a = c.args in
+    omega (arith, extent-inside a.rereading.verdict a.rereading.options.from.0 a.rereading.options.to.0 (length a.original.now) (sym c.is_relisted.ensures ∙ c.if-is_relisted.true))
 
 pub returns-then-is_relisted : goal.returns-then-is_relisted
 returns-then-is_relisted c = let a = c.args in
