@@ -22,7 +22,7 @@ use Rattle.wire_step.specs.Step.{step_of}
 use Rattle.wire_step.specs.declared.Step.{Step}
 use Rattle.wire_step.specs.declared.Step.TheVariants.{End, Eol, Nop, Found, Malformed as Unsound, Outlawed}
 use Rattle.wire_step.proofs.Steps.{step-found, nop-byte}
-use Rattle.wire_options.specs.Progress.{room_progress, nop_progress, progress_in, progress_of}
+use Rattle.wire_options.specs.Progress.{failed, room_progress, nop_progress, progress_in, progress_of}
 use Rattle.wire_options.specs.Walk.{Located, Walked, listed, faulty, items_in, before, located_of, sound, fill_is_zero, walk_from, joined, apc_of, apcs_of, walk_answer}
 use Rattle.wire_options.specs.Strict.{strict_from, walk_by}
 use Rattle.wire_options.specs.declared.walk.Fault.{Fault}
@@ -30,7 +30,8 @@ use Rattle.wire_options.specs.declared.walk.Fault.TheVariants.{Malformed, Unsafe
 use Rattle.wire_options.specs.declared.walk.Apcs.{Apcs}
 use Rattle.wire_options.specs.declared.walk.Apcs.TheVariants.{Absent, Same, Different}
 use Rattle.wire_options.specs.declared.walk.Progress.{Progress}
-use Rattle.wire_options.specs.declared.walk.Progress.TheVariants.{On, Apc, Ended, Failed}
+use Rattle.wire_options.specs.declared.walk.Progress.TheVariants.{On, Apc, Ended}
+use Rattle.wire_options.specs.declared.walk.Ahead.{Ahead}
 use Rattle.wire_options.specs.declared.walk.Listed.{Listed}
 use Rattle.wire_options.specs.declared.walk.Met.{Met}
 use Rattle.std.proofs.Common.{Result, Ok, Err}
@@ -113,14 +114,14 @@ pub record Goes (s : Strictness) (room : ℕ) (l : List ℕ) (left size : ℕ) (
   pub carries : (end : ℕ) → walk_answer end (walk_by s room 0 l) ≡ behind (room - left) apcs (walk_answer end (walk_by s left 0 (drop size l)))
 
 -- what the walk tells of a list, by how its first step goes on
-abbrev pub Tells : Strictness → ℕ → List ℕ → Progress → Type 0
-Tells s room l (On left size) = Goes s room l left size Absent
-Tells s room l (Apc left size value) = Goes s room l left size (Same value)
-Tells s room l (Ended fill) = walk_by s room 0 l ≡ listed [] fill
-Tells s room l (Failed fault ahead) = (ahead ≤ length l) × (walk_by s room 0 l ≡ faulty fault (length l - ahead))
+abbrev pub Tells : Strictness → ℕ → List ℕ → Result Progress Ahead → Type 0
+Tells s room l (Ok (On left size)) = Goes s room l left size Absent
+Tells s room l (Ok (Apc left size value)) = Goes s room l left size (Same value)
+Tells s room l (Ok (Ended fill)) = walk_by s room 0 l ≡ listed [] fill
+Tells s room l (Err ahead) = (ahead.1 ≤ length l) × (walk_by s room 0 l ≡ faulty ahead.0 (length l - ahead.1))
 
 -- a fault at the first byte
-fails-here : (s : Strictness) (room : ℕ) (l : List ℕ) (fault : Fault) → walk_by s room 0 l ≡ faulty fault (length l) → Tells s room l (Failed fault 0)
+fails-here : (s : Strictness) (room : ℕ) (l : List ℕ) (fault : Fault) → walk_by s room 0 l ≡ faulty fault (length l) → Tells s room l (failed fault 0)
 fails-here s room l fault w = (omega arith, w ∙ ap (faulty fault) (omega arith))
 
 module _ (s : Strictness) (b : ℕ) (bs : List ℕ) where
@@ -137,7 +138,7 @@ module _ (s : Strictness) (b : ℕ) (bs : List ℕ) where
       behind-run : ℕ → Answer
       behind-run end = walk_answer end (walk_by s room 0 (drop (nops_of l) l))
 
-      go : (t : Bool) → is_padding s (nops_of l) ≡ t → Tells s room l (cond t (Failed Padded nop_limit) (On room (nops_of l)))
+      go : (t : Bool) → is_padding s (nops_of l) ≡ t → Tells s room l (cond t (failed Padded nop_limit) (Ok (On room (nops_of l))))
       go true e = (omega (arith, padding-limit s (nops_of l) e), run-padded s room l e)
       go false e =
           let none : 0 ≡ room - room = omega arith in
@@ -154,7 +155,7 @@ module _ (s : Strictness) (b : ℕ) (bs : List ℕ) where
   tells-step room Eol e = go (fill_is_zero l) (walk-other s room b bs Eol e tt)
     where
       go : (t : Bool) → walk_by s room 0 l ≡ cond t (listed [] (length l)) (faulty Tail (length l - zeros_of l))
-          → Tells s room l (cond t (Ended (length l)) (Failed Tail (zeros_of l)))
+          → Tells s room l (cond t (Ok (Ended (length l))) (failed Tail (zeros_of l)))
       go true w = w
       go false w = (zeros_within l, w)
   tells-step room Unsound e = fails-here s room l Malformed (walk-other s room b bs Unsound e tt)
@@ -185,17 +186,17 @@ module _ (s : Strictness) (b : ℕ) (bs : List ℕ) where
           }
 
       -- an APC, or another option
-      by_kind : (r : ℕ) (t : Bool) → Goes s (suc r) l r size (cond t (Same value) Absent) → Tells s (suc r) l (cond t (Apc r size value) (On r size))
+      by_kind : (r : ℕ) (t : Bool) → Goes s (suc r) l r size (cond t (Same value) Absent) → Tells s (suc r) l (cond t (Ok (Apc r size value)) (Ok (On r size)))
       by_kind r true g = g
       by_kind r false g = g
 
       go : (t : Bool) (r : ℕ) → walk_by s r 0 l ≡ cond t (faulty Malformed (length l)) (sound r option (λ left. rest left (size - 1)))
-          → Tells s r l (cond t (Failed Malformed 0) (room_progress r size option.item))
+          → Tells s r l (cond t (failed Malformed 0) (room_progress r size option.item))
       go true r w = fails-here s r l Malformed w
       go false zero w = fails-here s 0 l Crowded w
       go false (suc r) w = by_kind r (eqb kind apc) (taken r w)
 
-pub tells : (s : Strictness) (room : ℕ) (l : List ℕ) (progress : Progress) → 0 < length l → progress_of s room l ≡ progress → Tells s room l progress
+pub tells : (s : Strictness) (room : ℕ) (l : List ℕ) (progress : Result Progress Ahead) → 0 < length l → progress_of s room l ≡ progress → Tells s room l progress
 unfolding progress_of
 tells s room [] progress h q = absurd (omega arith)
 tells s room (b ∷ bs) progress h q = subst (Tells s room (b ∷ bs)) q (tells-step s b bs room (step_of (b ∷ bs)) refl)
@@ -212,7 +213,7 @@ unfolding apcs_of
 answer-ended s end room l fill w = ap (walk_answer end) w
 
 pub answer-failed : (s : Strictness) (base room : ℕ) (l : List ℕ) (at : ℕ) (fault : Fault) (ahead : ℕ) → at ≤ length l
-    → Tells s room (drop at l) (Failed fault ahead)
+    → Tells s room (drop at l) (failed fault ahead)
     → walk_answer (base + length l) (walk_by s room 0 (drop at l)) ≡ Err (record { fault = fault; at = record { 0 = base + at + ahead } })
 answer-failed s base room l at fault ahead h t =
     let left : length (drop at l) ≡ length l - at = length-drop at l in

@@ -50,7 +50,7 @@ pub struct Met {
     pub at: PacketOffset,
 }
 
-// What one step of the walk comes to.
+// What a step of the walk comes to where it meets no fault.
 #[derive(Drop)]
 enum Progress {
     // The walk goes on, `size` bytes further.
@@ -67,12 +67,19 @@ enum Progress {
     Ended {
         fill: usize,
     },
-    // A fault, met so many bytes further on.
-    Failed(Fault, usize),
 }
 
+// A fault, met so many bytes further on.
+#[derive(Drop)]
+struct Ahead(Fault, usize);
+
 // Walks the list that stands at packet offset `base` and may have `room` options.
-pub fn walk_list(list: &[u8], base: PacketOffset, room: usize, strictness: Strictness) -> Result<Listed, Met>
+pub fn walk_list(
+    list: &[u8],
+    base: PacketOffset,
+    room: usize,
+    strictness: Strictness,
+) -> Result<Listed, Met>
     requires { base.0 + length list.now < 18446744073709551616 }
     ensures { result ≡ walk_answer (base.0 + length list.now) (walk_by strictness room 0 list.now) }
 {
@@ -82,27 +89,23 @@ pub fn walk_list(list: &[u8], base: PacketOffset, room: usize, strictness: Stric
     while at < list.len() {
         let turn = progress_at(&list[at..], left, strictness);
         match turn {
-            Progress::On { room: r, size } => {
+            Ok(Progress::On { room, size }) => {
                 at += size;
-                left = r;
+                left = room;
             }
-            Progress::Apc {
-                room: r,
-                size,
-                value,
-            } => {
+            Ok(Progress::Apc { room, size, value }) => {
                 at += size;
-                left = r;
+                left = room;
                 apcs = join(apcs, value);
             }
-            Progress::Ended { fill } => {
+            Ok(Progress::Ended { fill }) => {
                 return Ok(Listed {
                     count: room - left,
                     fill,
                     apcs,
                 });
             }
-            Progress::Failed(fault, ahead) => {
+            Err(Ahead(fault, ahead)) => {
                 return Err(Met {
                     fault,
                     at: PacketOffset(base.0 + at + ahead),
@@ -118,62 +121,59 @@ pub fn walk_list(list: &[u8], base: PacketOffset, room: usize, strictness: Stric
 }
 
 // One step of the walk.
-fn progress_at(rest: &[u8], room: usize, strictness: Strictness) -> Progress
+fn progress_at(rest: &[u8], room: usize, strictness: Strictness) -> Result<Progress, Ahead>
     ensures { result ≡ progress_of strictness room rest.now }
 {
     let step = wire_step::next(rest);
     match step {
-        Step::End => Progress::Ended { fill: 0 },
+        Step::End => Ok(Progress::Ended { fill: 0 }),
         Step::Eol => end_at(rest),
         Step::Nop => nops_at(rest, room, strictness),
         Step::Found { kind, header, size } => {
             if kind == FRAG {
-                return Progress::Failed(Fault::Malformed, 0);
+                return Err(Ahead(Fault::Malformed, 0));
             }
             if room == 0 {
-                return Progress::Failed(Fault::Crowded, 0);
+                return Err(Ahead(Fault::Crowded, 0));
             }
             if kind == APC {
                 let value = number_octets::get_u32(rest, header);
-                return Progress::Apc {
+                return Ok(Progress::Apc {
                     room: room - 1,
                     size,
                     value,
-                };
+                });
             }
-            on(room - 1, size)
+            Ok(Progress::On {
+                room: room - 1,
+                size,
+            })
         }
-        Step::Malformed => Progress::Failed(Fault::Malformed, 0),
-        Step::Outlawed => Progress::Failed(Fault::Unsafe, 0),
+        Step::Malformed => Err(Ahead(Fault::Malformed, 0)),
+        Step::Outlawed => Err(Ahead(Fault::Unsafe, 0)),
     }
 }
 
 // NOPs stand at the front: all in a row are passed at once. Padding is met at the one behind as many as there may be.
-fn nops_at(rest: &[u8], room: usize, strictness: Strictness) -> Progress
+fn nops_at(rest: &[u8], room: usize, strictness: Strictness) -> Result<Progress, Ahead>
     ensures { result ≡ nop_progress strictness room (nops_of rest.now) }
 {
     if wire_nops::is_padded(rest, strictness) {
-        return Progress::Failed(Fault::Padded, wire_nops::NOP_LIMIT);
+        return Err(Ahead(Fault::Padded, wire_nops::NOP_LIMIT));
     }
     let nops = wire_nops::leading_nops(rest);
-    on(room, nops)
+    Ok(Progress::On { room, size: nops })
 }
 
 // EOL stands at the front: with all behind it, it is the fill, which is zero bytes. A tail is met at the first other one.
-fn end_at(rest: &[u8]) -> Progress
+fn end_at(rest: &[u8]) -> Result<Progress, Ahead>
     ensures { result ≡ end_progress rest.now }
 {
     if zeros::all_zero(rest) {
-        return Progress::Ended { fill: rest.len() };
+        return Ok(Progress::Ended { fill: rest.len() });
     }
     let zeros = zeros::leading_zeros(rest);
-    Progress::Failed(Fault::Tail, zeros)
-}
-
-fn on(room: usize, size: usize) -> Progress
-    ensures { result ≡ Progress.On room size }
-{
-    Progress::On { room, size }
+    Err(Ahead(Fault::Tail, zeros))
 }
 
 // The APCs of a part of the list, and one behind them.
