@@ -4,14 +4,13 @@ use Prim.Native.Nat.{ℕ, ◌+◌, ◌*◌, ◌<◌, ◌≤◌}
 use mathlib.Core.Path.{◌≡◌, refl, sym, ap, ap₂, subst, ◌∙◌}
 use mathlib.Core.Bool.{Bool, true, false, not, ◌&&◌, cond}
 use mathlib.Core.List.{List, [], ◌∷◌, ◌++◌}
-use mathlib.Core.Option.{some}
 use Rattle.std.specs.Prelude.{Result, Ok, Err, IfOk}
 use native.Mathlib.Omega.{arith}
 use lib.Dec.{leb, ltb, eqb}
 use lib.ListN.{length, take, get_or}
 use Rattle.std.proofs.lemmas.List.{get_or_default}
 use lib.Seq.{take-take, take_all, length-take-le}
-use borrow.Author.Tests.{leb-true, ltb-true, ltb-false}
+use borrow.Author.Tests.{leb-true, ltb-true, ltb-false, lt-ltb, le-ltb}
 use Rattle.number_tests.specs.Tests.{first_of}
 use Rattle.number_tests.proofs.Tests.{both_true}
 use Rattle.client_record.specs.declared.Client.{Client}
@@ -46,6 +45,13 @@ range-few plan e = leb-true plan assembly_limit (both_true (leb 1 plan) (leb pla
 few-next : (i places plan : ℕ) → places ≤ i * assembly_limit → plan ≤ assembly_limit → places + plan ≤ (i + 1) * assembly_limit
 unfolding assembly_limit
 few-next i places plan a b = omega arith
+
+-- the places of client i count before client k's, or they do not
+pub lies-before : (i k before plan : ℕ) → i < k → before + plan ≡ before + cond (ltb i k) plan 0
+lies-before i k before plan h = ap (λ (b : Bool). before + cond b plan 0) (sym (lt-ltb i k h))
+
+pub lies-behind : (i k before plan : ℕ) → k ≤ i → before ≡ before + cond (ltb i k) plan 0
+lies-behind i k before plan h = let e = ap (λ (b : Bool). cond b plan 0) (le-ltb i k h) in omega (arith, e)
 
 -- ---- the first i of them
 
@@ -123,10 +129,10 @@ module _ (rs : List Client) (d : Client) (k i before places : ℕ) (s : Surveyed
     part = before-within (ltb i k) (get_or rs i d).plan;
   }
 
-  -- one record more, with its places before client k's as m
-  pub surveyed-next : (m : ℕ) → m ≡ cond (ltb i k) (get_or rs i d).plan 0 → in_range (get_or rs i d).plan ≡ true
-      → Surveyed rs k (i + 1) (before + m) (places + (get_or rs i d).plan)
-  surveyed-next m e ok = subst (λ (n : ℕ). Surveyed rs k (i + 1) (before + n) (places + (get_or rs i d).plan)) (sym e) (counted-next ok)
+  -- one record more, as the code counts its places where they lie before client k's
+  pub surveyed-next : (before' : ℕ) → before' ≡ before + cond (ltb i k) (get_or rs i d).plan 0 → in_range (get_or rs i d).plan ≡ true
+      → Surveyed rs k (i + 1) before' (places + (get_or rs i d).plan)
+  surveyed-next before' e ok = subst (λ (n : ℕ). Surveyed rs k (i + 1) n (places + (get_or rs i d).plan)) (sym e) (counted-next ok)
 
   -- one that is not in range
   pub surveyed-off : in_range (get_or rs i d).plan ≡ false → all in_range (plans_of rs) ≡ false

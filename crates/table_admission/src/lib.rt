@@ -2,7 +2,7 @@
 // store's length, and then 21. It looks at the plan of every record and copies no record.
 #![tactic(auto)]
 
-ghost use Rattle.std.specs.Prelude.{◌≡◌, cond, ltb, length};
+ghost use Rattle.std.specs.Prelude.{◌≡◌, length};
 ghost use Rattle.table_rules.specs.Table.{counted, in_range, plans_of};
 ghost use Rattle.table_admission.specs.Admission.{Places, Grants, Admits};
 
@@ -14,34 +14,24 @@ use client_record::Client;
 fn counted(count: usize) -> bool
     ensures { result ≡ counted count }
 {
-    if count < 1 {
-        return false;
-    }
-    count <= client_record::CLIENT_LIMIT
+    1 <= count && count <= client_record::CLIENT_LIMIT
 }
 
 fn in_range(plan: u64) -> bool
     ensures { result ≡ in_range plan }
 {
-    if plan < 1 {
-        return false;
-    }
-    plan <= client_record::ASSEMBLY_LIMIT as u64
-}
-
-// The places of client `i` that lie before the share of client `k`.
-fn places_before(i: usize, k: usize, plan: u64) -> usize
-    ensures { result ≡ cond (ltb i k) plan 0 }
-{
-    if i < k {
-        return plan as usize;
-    }
-    0
+    1 <= plan && plan <= client_record::ASSEMBLY_LIMIT as u64
 }
 
 // With `count` records whose plans have `places` places, `before` of them in front of client `k`'s: 20 for a store of `bytes` bytes, 21, or
 // where its share starts.
-fn by_store(count: usize, before: usize, places: usize, bytes: usize, k: usize) -> Result<usize, Refusal>
+fn by_store(
+    count: usize,
+    before: usize,
+    places: usize,
+    bytes: usize,
+    k: usize,
+) -> Result<usize, Refusal>
     requires { Places before places }
     ensures { Grants count before places bytes k result }
 {
@@ -65,12 +55,14 @@ pub fn admit(records: &[Client], bytes: usize, k: usize) -> Result<usize, Refusa
     let mut before = 0;
     let mut places = 0;
     for (i, client) in records.iter().enumerate() {
-        let plan = client.plan;
-        if !in_range(plan) {
+        if !in_range(client.plan) {
             return Err(Refusal::PlanOutOfRange);
         }
-        before += places_before(i, k, plan);
-        places += plan as usize;
+        let own = client.plan as usize;
+        if i < k {
+            before += own;
+        }
+        places += own;
     }
     by_store(records.len(), before, places, bytes, k)
 }

@@ -1,15 +1,12 @@
 -- `table_admission::admit` meets its contract. The loop's invariant: the plans of the first i records are in range, and their places and those
 -- before client k's are counted (`Surveyed`).
-use Prim.Native.Nat.{◌≤◌}
-use mathlib.Core.Path.{sym, ◌∙◌}
-use mathlib.Core.Bool.{true}
+use mathlib.Core.Path.{refl, sym, ◌∙◌}
 use native.Mathlib.Omega.{arith}
-use lib.ListN.{length}
 use Rattle.client_record.specs.Limits.{assembly_limit, client_limit}
-use Rattle.table_rules.specs.Table.{counted}
 use Rattle.table_rules.proofs.Facts.{few-clients}
 use Rattle.table_admission.proofs.Surveys.{
-  Surveyed,
+  lies-before,
+  lies-behind,
   surveyed-none,
   surveyed-next,
   surveyed-off,
@@ -20,7 +17,7 @@ use Rattle.table_admission.proofs.Surveys.{
   admits-store,
 }
 use Rattle.table_admission.proofs.admit.Goals as goal
-
+use Rattle.table_admission.proofs.admit.Goals.{then-i-k, else-i-k}
 
 pub returns-then-not-counted : goal.returns-then-not-counted
 returns-then-not-counted c = admits-count _ _ (sym c.counted.ensures ∙ c.if-not-counted.true)
@@ -35,18 +32,22 @@ returns-then-not-in_range c = admits-plan _ _ (sym c.counted.ensures ∙ c.if-no
 pub overflow_add-before : goal.overflow_add-before
 unfolding assembly_limit client_limit
 overflow_add-before c =
-    let next = surveyed-next _ _ _ _ _ _ c.loop-i.invariant c.loop-i-test.true _ c.places_before-before.ensures (sym c.in_range.ensures ∙ c.if-not-in_range.false) in
+    let next = surveyed-next _ _ _ _ _ _ c.loop-i.invariant c.loop-i-test.true _ (lies-before _ _ _ _ c.if-i-k.true) (sym c.in_range.ensures ∙ c.if-not-in_range.false) in
     omega (arith, few-clients _ (sym c.counted.ensures ∙ c.if-not-counted.false), next.front, next.few, next.part)
 
 pub overflow_add-places : goal.overflow_add-places
 unfolding assembly_limit client_limit
 overflow_add-places c =
-    let next = surveyed-next _ _ _ _ _ _ c.loop-i.invariant c.loop-i-test.true _ c.places_before-before.ensures (sym c.in_range.ensures ∙ c.if-not-in_range.false) in
+    let next = surveyed-next _ _ _ _ _ _ c.loop-i.invariant c.loop-i-test.true _ refl (sym c.in_range.ensures ∙ c.if-not-in_range.false) in
     omega (arith, few-clients _ (sym c.counted.ensures ∙ c.if-not-counted.false), next.front, next.few)
 
 pub loop-i-preserved : goal.loop-i-preserved
-loop-i-preserved c =
-    surveyed-next _ _ _ _ _ _ c.loop-i.invariant c.loop-i-test.true _ c.places_before-before.ensures (sym c.in_range.ensures ∙ c.if-not-in_range.false)
+loop-i-preserved c = surveyed-next _ _ _ _ _ _ c.loop-i.invariant c.loop-i-test.true _
+    (elim c.if-i-k.branch [
+      | then-i-k w ↦ w.before-is ∙ lies-before _ _ _ _ w.if-i-k.true
+      | else-i-k w ↦ w.before-is ∙ lies-behind _ _ _ _ w.if-i-k.false
+    ])
+    (sym c.in_range.ensures ∙ c.if-not-in_range.false)
 
 pub by_store-requires : goal.by_store-requires
 by_store-requires c = laid-places _ _ _ _ _ c.loop-i.invariant

@@ -4,10 +4,10 @@ use Rattle.client_record.specs.Limits.{client_limit}
 use Rattle.table_rules.specs.Table.{counted}
 use Rattle.table_admission.proofs.counted.Goals as goal
 
-pub returns-then-count-lt1 : goal.returns-then-count-lt1
-unfolding counted
-returns-then-count-lt1 c = simp (lt-leb _ _ c.if-count-lt1.true)
-
-pub returns : goal.returns
+pub returns-then-count-ge1 : goal.returns-then-count-ge1
 unfolding counted client_limit
-returns c = simp (le-leb _ _ c.if-count-lt1.false)
+returns-then-count-ge1 c = simp (le-leb _ _ c.if-count-ge1.true)
+
+pub returns-else-count-ge1 : goal.returns-else-count-ge1
+unfolding counted
+returns-else-count-ge1 c = simp (lt-leb _ _ c.if-count-ge1.false)
