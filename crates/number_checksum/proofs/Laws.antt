@@ -1,6 +1,6 @@
 -- Laws of the folded sum: folding early changes nothing, parts laid end to end add up, and a checksum field makes the whole FFFF.
 -- Assumes nothing.
-use Rattle.std.proofs.Common.{◌≡◌, ℕ, zero, suc, ◌+◌, ◌-◌, ◌*◌, ◌/◌, ◌%◌, ◌<◌, ◌≤◌, Bool, true, false, cond, not, eqb, List, [], ◌∷◌, ◌++◌, length, get_or, drop, sym, refl, ap, ◌∙◌, add_comm, suc-add, arith, length-append, min, drop_of_length-le, drop-cons, eqb-true}
+use Rattle.std.proofs.Common.{◌≡◌, ℕ, zero, suc, ◌+◌, ◌-◌, ◌*◌, ◌/◌, ◌%◌, ◌<◌, ◌≤◌, Bool, true, false, cond, not, eqb, List, [], ◌∷◌, ◌++◌, length, get_or, take, drop, sym, refl, ap, ◌∙◌, add_comm, suc-add, arith, length-append, min, take-append-drop, drop_of_length-le, length-take-le, drop-cons, eqb-true}
 use native.Mathlib.Nat.{mod-add-mod}
 use native.Mathlib.Numerals.{towards_suc}
 use borrow.Author.Tests.{eqb-false}
@@ -72,6 +72,13 @@ unfolding parity_after
 parity-odd odd zero e = absurd (omega arith)
 parity-odd odd (suc zero) e = refl
 parity-odd odd (suc (suc n)) e = two-more odd n ∙ parity-odd odd n (omega arith)
+
+-- a list cut after an even number of bytes
+pub word_sum-cut : (odd : Bool) (n : ℕ) (l : List ℕ) → n % 2 ≡ 0 → n ≤ length l → word_sum odd l ≡ word_sum odd (take n l) + word_sum odd (drop n l)
+word_sum-cut odd n l even h =
+    ap (word_sum odd) (sym (take-append-drop n l)) ∙ word_sum-append odd (take n l) (drop n l)
+    ∙ ap (λ (p : Bool). word_sum odd (take n l) + word_sum p (drop n l))
+    (ap (parity_after odd) (length-take-le n l h) ∙ parity-even odd n even)
 
 -- a block at the front added to a folded sum: its length is even, or nothing stands behind it
 pub folded-block : (odd : Bool) (sum r : ℕ) (whole block rest : List ℕ) → whole ≡ block ++ rest → length block ≡ min 65536 (length whole)
