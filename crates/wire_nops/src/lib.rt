@@ -40,13 +40,9 @@ pub fn is_padded(list: &[u8], strictness: Strictness) -> bool
 fn starts_padded(list: &[u8]) -> bool
     ensures { result ≡ is_padding Strictness.Strict (nops_of list.now) }
 {
-    if list.len() < PADDING {
-        return false;
-    }
-    if number_octets::get_u32_little(list, 0) != FOUR_NOPS {
-        return false;
-    }
-    number_octets::get_u32_little(list, 4) == FOUR_NOPS
+    list.len() >= PADDING
+        && number_octets::get_u32_little(list, 0) == FOUR_NOPS
+        && number_octets::get_u32_little(list, 4) == FOUR_NOPS
 }
 
 // How many stand at the front: whole blocks are passed first.

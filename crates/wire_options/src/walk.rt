@@ -182,12 +182,7 @@ fn join(a: Apcs, w: u32) -> Apcs
 {
     match a {
         Apcs::Absent => Apcs::Same(w),
-        Apcs::Same(v) => {
-            if v == w {
-                return Apcs::Same(v);
-            }
-            Apcs::Different
-        }
-        Apcs::Different => Apcs::Different,
+        Apcs::Same(v) if v == w => Apcs::Same(v),
+        _ => Apcs::Different,
     }
 }
