@@ -1,7 +1,7 @@
 // Where a fragment belongs in a client's record, what becomes of it there, and the record after each fate (document 01, "The table").
 #![tactic(auto)]
 
-ghost use Rattle.std.specs.Prelude.{◌≡◌, not, ◌<◌, length};
+ghost use Rattle.std.specs.Prelude.{◌≡◌, not, ◌<◌, length, position};
 ghost use Rattle.client_record.specs.Limits.{fragment_limit};
 ghost use Rattle.client_record.specs.Lists.{same_bytes, any};
 ghost use Rattle.client_record.specs.Record.{live, held_fragments};
@@ -22,63 +22,37 @@ fn matches(a: Assembly, o: Arrival) -> bool
     client_record::live(a) && client_record::has_key(a, o.flow, o.identification)
 }
 
-// The place of the assembly with the offer's key; past the places if there is none.
-#[tactic(auto, unfolding(client_record::specs::Limits::assembly_limit))]
-fn find(c: Client, o: Arrival) -> usize
-    ensures { result ≡ first_index (matches o) c.assemblies }
+// The place of the assembly with the offer's key.
+fn find(c: Client, o: Arrival) -> Option<usize>
+    ensures { result ≡ position (matches o) c.assemblies }
 {
-    let mut i = 0;
-    while i < client_record::ASSEMBLY_LIMIT {
-        let a = c.assemblies[i];
-        if matches(a, o) {
-            return i;
-        }
-        i += 1;
-    }
-    i
+    c.assemblies.iter().position(|a| matches(*a, o))
 }
 
-// The lowest free place; past the places if there is none.
-#[tactic(auto, unfolding(client_record::specs::Limits::assembly_limit))]
-fn lowest_free(c: Client) -> usize
-    ensures { result ≡ first_index (λ a. not (live a)) c.assemblies }
+// The lowest free place.
+fn lowest_free(c: Client) -> Option<usize>
+    ensures { result ≡ position (λ a. not (live a)) c.assemblies }
 {
-    let mut i = 0;
-    while i < client_record::ASSEMBLY_LIMIT {
-        let a = c.assemblies[i];
-        if !client_record::live(a) {
-            return i;
-        }
-        i += 1;
-    }
-    i
+    c.assemblies.iter().position(|a| !client_record::live(*a))
 }
 
 // The place where the fragment belongs; past the places if there is none.
 pub fn place_for(c: Client, o: Arrival) -> usize
     ensures { result ≡ place_for o c.assemblies }
 {
-    let i = find(c, o);
-    if i < client_record::ASSEMBLY_LIMIT {
-        return i;
-    }
-    lowest_free(c)
+    find(c, o).or(lowest_free(c)).unwrap_or(client_record::ASSEMBLY_LIMIT)
 }
 
 // An assembly that the offer opens, before its first fragment.
-#[tactic(auto, unfolding(client_reassembly::specs::Offer::opening))]
+#[tactic(auto, unfolding(client_reassembly::specs::Offer::opening, client_record::specs::Record::fresh_assembly))]
 fn opening(o: Arrival) -> Assembly
     ensures { result ≡ opening o }
 {
-    let none = client_record::fresh_assembly();
-    let flow = o.flow;
-    let fragments = none.fragments;
     Assembly {
-        flow,
+        flow: o.flow,
         identification: o.identification,
         opened: o.time,
-        count: 0,
-        fragments,
+        ..client_record::fresh_assembly()
     }
 }
 
@@ -89,10 +63,7 @@ pub fn assembly_for(c: Client, p: usize, o: Arrival) -> Assembly
     ensures { result ≡ assembly_for o p c.assemblies }
 {
     let a = c.assemblies[p];
-    if client_record::live(a) {
-        return a;
-    }
-    opening(o)
+    if client_record::live(a) { a } else { opening(o) }
 }
 
 // ---- what becomes of a fragment
@@ -132,82 +103,73 @@ pub fn repeats(a: Assembly, f: Fragment, kept: &[u8], bytes: &[u8]) -> bool
 
 // The assembly with the fragment listed after the earlier ones.
 #[tactic(auto, unfolding(client_record::specs::Limits::fragment_limit, client_reassembly::specs::Offer::added))]
-pub fn added(a: Assembly, f: Fragment) -> Assembly
+pub fn added(mut a: Assembly, f: Fragment) -> Assembly
     requires { a.count < fragment_limit }
     ensures { result ≡ added a f }
 {
-    let mut b = a;
-    let at = a.count as usize;
-    b.fragments[at] = f;
-    b.count = a.count + 1;
-    b
+    a.fragments[a.count as usize] = f;
+    a.count += 1;
+    a
 }
 
-// ---- the record after each fate of a fragment of `n` bytes
+// ---- the record after each fate of a fragment of `n` bytes: kept as one function for each, since a field can't be a parameter
 
 #[tactic(auto, unfolding(client_record::specs::Limits::offered_limit, client_record::specs::Record::figure_sum, client_reassembly::specs::Offer::rejecting))]
-pub fn rejecting(c: Client, n: u64) -> Client
+pub fn rejecting(mut c: Client, n: u64) -> Client
     requires { Room c n }
     ensures { result ≡ rejecting n c }
 {
-    let mut d = c;
-    d.offered = c.offered + n;
-    d.rejected = c.rejected + n;
-    d
+    c.offered += n;
+    c.rejected += n;
+    c
 }
 
 #[tactic(auto, unfolding(client_record::specs::Limits::offered_limit, client_record::specs::Record::figure_sum, client_reassembly::specs::Offer::repeating))]
-pub fn repeating(c: Client, n: u64) -> Client
+pub fn repeating(mut c: Client, n: u64) -> Client
     requires { Room c n }
     ensures { result ≡ repeating n c }
 {
-    let mut d = c;
-    d.offered = c.offered + n;
-    d.repeated = c.repeated + n;
-    d
+    c.offered += n;
+    c.repeated += n;
+    c
 }
 
 // The assembly `a` at place `p` ends in a conflict.
 #[tactic(auto, unfolding(client_record::specs::Limits::offered_limit, client_record::specs::Limits::assembly_limit, client_record::specs::Record::figure_sum, client_reassembly::specs::Offer::conflicting))]
-pub fn conflicting(c: Client, p: usize, a: Assembly, n: u64) -> Client
+pub fn conflicting(mut c: Client, p: usize, a: Assembly, n: u64) -> Client
     requires { Ending c p a n }
     ensures { result ≡ conflicting p a n c }
 {
-    let bytes = client_fragments::bytes_held(a) as u64;
-    let none = client_record::fresh_assembly();
-    let mut d = c;
-    d.offered = c.offered + n;
-    d.held = c.held - bytes;
-    d.conflicted = c.conflicted + (bytes + n);
-    d.assemblies[p] = none;
-    d
+    let bytes = u64::from(client_fragments::bytes_held(a));
+    c.offered += n;
+    c.held -= bytes;
+    c.conflicted += bytes + n;
+    c.assemblies[p] = client_record::fresh_assembly();
+    c
 }
 
 // The assembly `a` at place `p` ends in a delivery.
 #[tactic(auto, unfolding(client_record::specs::Limits::offered_limit, client_record::specs::Limits::assembly_limit, client_record::specs::Record::figure_sum, client_reassembly::specs::Offer::delivering))]
-pub fn delivering(c: Client, p: usize, a: Assembly, n: u64) -> Client
+pub fn delivering(mut c: Client, p: usize, a: Assembly, n: u64) -> Client
     requires { Ending c p a n }
     ensures { result ≡ delivering p a n c }
 {
-    let bytes = client_fragments::bytes_held(a) as u64;
-    let none = client_record::fresh_assembly();
-    let mut d = c;
-    d.offered = c.offered + n;
-    d.held = c.held - bytes;
-    d.delivered = c.delivered + (bytes + n);
-    d.assemblies[p] = none;
-    d
+    let bytes = u64::from(client_fragments::bytes_held(a));
+    c.offered += n;
+    c.held -= bytes;
+    c.delivered += bytes + n;
+    c.assemblies[p] = client_record::fresh_assembly();
+    c
 }
 
 // The assembly at place `p` is `b`, with the fragment.
 #[tactic(auto, unfolding(client_record::specs::Limits::offered_limit, client_record::specs::Limits::assembly_limit, client_record::specs::Record::figure_sum, client_reassembly::specs::Offer::storing))]
-pub fn storing(c: Client, p: usize, b: Assembly, n: u64) -> Client
+pub fn storing(mut c: Client, p: usize, b: Assembly, n: u64) -> Client
     requires { Storing c p n }
     ensures { result ≡ storing p b n c }
 {
-    let mut d = c;
-    d.offered = c.offered + n;
-    d.held = c.held + n;
-    d.assemblies[p] = b;
-    d
+    c.offered += n;
+    c.held += n;
+    c.assemblies[p] = b;
+    c
 }

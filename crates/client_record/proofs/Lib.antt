@@ -6,4 +6,3 @@ pub mod Lists
 pub mod Ranges
 pub mod Shapes
 pub mod SoundParts
-pub mod Tests

@@ -2,12 +2,12 @@
 // is `client_held_test`'s.
 #![tactic(auto)]
 
-ghost use Rattle.std.specs.Prelude.{◌≡◌, ◌&&◌, ◌+◌, ◌≤◌, eqb, take};
+ghost use Rattle.std.specs.Prelude.{◌≡◌, ◌&&◌, ◌≤◌, eqb, take};
 ghost use Rattle.std.specs.Bool.{then_some};
 ghost use Rattle.client_record.specs.Limits.{assembly_limit};
 ghost use Rattle.client_record.specs.Lists.{all, any, sum};
 ghost use Rattle.client_record.specs.Record.{is_fresh_fragment, spare_slots, bytes_held};
-ghost use Rattle.client_record.specs.Record.{opened_within, sound_assembly, same_live_key, keys_differ, sums_to, balanced, within_plan, sound_record};
+ghost use Rattle.client_record.specs.Record.{opened_within, sound_assembly, same_live_key, keys_differ, balanced, within_plan, sound_record};
 ghost use Rattle.client_record_test.specs.Parts.{unused_fields, sound_fields};
 
 use client_record::{Assembly, Client, Fragment};
@@ -46,14 +46,11 @@ fn unused(a: Assembly) -> bool
 }
 
 // Opened at or before `time`, and less than the lifetime before it.
+#[tactic(auto, unfolding(client_record::specs::Limits::lifetime, client_record::specs::Record::opened_within))]
 fn opened_within(a: Assembly, time: u64) -> bool
     ensures { result ≡ opened_within time a }
 {
-    let opened = a.opened;
-    if time < opened {
-        return false;
-    }
-    time - opened < client_record::LIFETIME
+    a.opened <= time && time - a.opened < client_record::LIFETIME
 }
 
 // What the record test asks of a live assembly, but for its spare slots: the bytes that it holds, where it passes.
@@ -108,7 +105,7 @@ fn assemblies_tested(c: Client) -> Option<u64>
 fn same_live_key(a: Assembly, b: Assembly) -> bool
     ensures { result ≡ same_live_key a b }
 {
-    client_record::live(a) & client_record::live(b) & client_record::has_key(b, a.flow, a.identification)
+    client_record::live(a) && client_record::live(b) && client_record::has_key(b, a.flow, a.identification)
 }
 
 // One of the first `n` assemblies has the key of `a`.
@@ -135,55 +132,18 @@ fn keys_differ(c: Client) -> bool
     ok
 }
 
-// The six figures sum to `offered`, at most the limit: with a figure over the limit they cannot.
-fn figures_sum(
-    offered: u64,
-    held: u64,
-    delivered: u64,
-    expired: u64,
-    conflicted: u64,
-    repeated: u64,
-    rejected: u64,
-) -> bool
-    ensures { result ≡ sums_to offered (held + delivered + expired + conflicted + repeated + rejected) }
-{
-    if client_record::OFFERED_LIMIT < offered {
-        return false;
-    }
-    if client_record::OFFERED_LIMIT < held {
-        return false;
-    }
-    if client_record::OFFERED_LIMIT < delivered {
-        return false;
-    }
-    if client_record::OFFERED_LIMIT < expired {
-        return false;
-    }
-    if client_record::OFFERED_LIMIT < conflicted {
-        return false;
-    }
-    if client_record::OFFERED_LIMIT < repeated {
-        return false;
-    }
-    if client_record::OFFERED_LIMIT < rejected {
-        return false;
-    }
-    held + delivered + expired + conflicted + repeated + rejected == offered
-}
-
-#[tactic(auto, unfolding(client_record::specs::Record::balanced, client_record::specs::Record::figure_sum))]
+// The six figures sum to what is offered, at most the limit; in 128 bits the sum of six numbers can't wrap.
+#[tactic(auto, unfolding(client_record::specs::Limits::offered_limit, client_record::specs::Record::sums_to, client_record::specs::Record::balanced, client_record::specs::Record::figure_sum))]
 fn balanced(c: Client) -> bool
     ensures { result ≡ balanced c }
 {
-    figures_sum(
-        c.offered,
-        c.held,
-        c.delivered,
-        c.expired,
-        c.conflicted,
-        c.repeated,
-        c.rejected,
-    )
+    let total = (c.held as u128)
+        + (c.delivered as u128)
+        + (c.expired as u128)
+        + (c.conflicted as u128)
+        + (c.repeated as u128)
+        + (c.rejected as u128);
+    total == c.offered as u128 && c.offered <= client_record::OFFERED_LIMIT
 }
 
 // The record test of document 01 (refusal 22), with document 02's clause of the plan.

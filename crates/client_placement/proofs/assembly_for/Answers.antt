@@ -23,9 +23,9 @@ returns-then-live c = let s = c.args in
     let e : any (matches s.o) xs ≡ true = sym (live_at s.o xs s.p _ c.requires.place h) ∙ sym c.live.ensures ∙ c.if-live.true in
     get_d_any xs s.p _ fresh_assembly h ∙ sym (cond_yes (any (matches s.o) xs) (get_or xs s.p fresh_assembly) (opening s.o) e)
 
-pub returns : goal.returns
+pub returns-else-live : goal.returns-else-live
 unfolding assembly_for assembly_limit
-returns c = let s = c.args in
+returns-else-live c = let s = c.args in
     let xs = s.c.assemblies in
     let len : length xs ≡ assembly_limit = places c.args.c _ c.well_formed.0 in
     let h : s.p < length xs = omega (arith, c.requires.within) in

@@ -1,30 +1,47 @@
--- `client_placement::place_for` meets its contract: the key's place is one of the places exactly where some assembly has the key (`any-first`).
-use Rattle.client_reassembly.specs.Offer.{first_index}
-use Prim.Native.Nat.{◌<◌, ◌≤◌}
-use Rattle.client_record.proofs.Shapes.{places}
+-- `client_placement::place_for` meets its contract: an assembly has the key exactly where the search for it finds a place (`found-at`).
+use Prim.Native.Nat.{ℕ, ◌+◌}
+use mathlib.Core.Bool.{Bool, true, false, not, cond}
+use mathlib.Core.List.{List, [], ◌∷◌}
+use mathlib.Core.Path.{◌≡◌, refl, sym, ap, ap₂, ◌∙◌}
 use native.Mathlib.Omega.{arith}
-use Rattle.client_reassembly.proofs.Places.{any-first, place-of-key, place-free}
-use Rattle.client_reassembly.specs.Offer.{matches}
+use lib.Dec.{ltb}
+use lib.ListN.{length}
+use borrow.Author.Tests.{ltb-false}
+use Rattle.std.specs.List.{position}
+use Rattle.std.specs.Option.{unwrap_or, option_or}
+use Rattle.std.specs.Prelude.{Option, Some, None}
+use Rattle.std.proofs.lemmas.List.Recursion.{is_position_or_len}
+use Rattle.client_record.proofs.Shapes.{places}
 use Rattle.client_record.specs.Limits.{assembly_limit}
 use Rattle.client_record.specs.Lists.{any}
-use borrow.Author.Tests.{lt-ltb, le-ltb}
-use lib.ListN.{length}
-use mathlib.Core.Bool.{true, false}
-use mathlib.Core.Path.{◌≡◌, sym, ◌∙◌}
+use Rattle.client_record.specs.Record.{live}
+use Rattle.client_record.specs.declared.Assembly.{Assembly}
+use Rattle.client_reassembly.proofs.Places.{any-first, first-le}
+use Rattle.client_reassembly.specs.Offer.{matches, first_index, place_for}
 use Rattle.client_placement.proofs.place_for.Goals as goal
 
-pub returns-then-i-lt-ASSEMBLY_LIMIT : goal.returns-then-i-lt-ASSEMBLY_LIMIT
-unfolding assembly_limit
-returns-then-i-lt-ASSEMBLY_LIMIT c = let xs = c.args.c.assemblies in
-    let len : length xs ≡ assembly_limit = places c.args.c _ c.well_formed.0 in
-    let h : first_index (matches c.args.o) xs < length xs = omega (arith, c.find-i.ensures) in
-    let e : any (matches c.args.o) xs ≡ true = any-first (matches c.args.o) xs ∙ lt-ltb _ _ h in
-    c.find-i.ensures ∙ sym (place-of-key c.args.o xs e)
+-- the first index is where a search ends
+found-at : {A : Type 0} (p : A → Bool) (xs : List A) → position p xs ≡ cond (any p xs) (Some (first_index p xs)) None
+unfolding first_index
+found-at p xs =
+    ap (λ (n : ℕ). cond (ltb n (length xs)) (Some n) None) (sym (is_position_or_len (first_index p) p refl (λ x ys. ap (cond (p x) 0) (omega arith)) xs))
+    ∙ ap (λ (b : Bool). cond b (Some (first_index p xs)) None) (sym (any-first p xs))
+
+-- the first of two places that there is
+either-place : (a b : Bool) (i j n : ℕ) → (b ≡ false → n ≡ j)
+    → unwrap_or (option_or (cond a (Some i) None) (cond b (Some j) None)) n ≡ cond a i j
+either-place true b i j n h = refl
+either-place false true i j n h = refl
+either-place false false i j n h = h refl
 
 pub returns : goal.returns
-unfolding assembly_limit
+unfolding place_for assembly_limit
 returns c = let xs = c.args.c.assemblies in
+    let o = c.args.o in
     let len : length xs ≡ assembly_limit = places c.args.c _ c.well_formed.0 in
-    let h : length xs ≤ first_index (matches c.args.o) xs = omega (arith, c.find-i.ensures) in
-    let e : any (matches c.args.o) xs ≡ false = any-first (matches c.args.o) xs ∙ le-ltb _ _ h in
-    c.lowest_free.ensures ∙ sym (place-free c.args.o xs e)
+    let free = λ (a : Assembly). not (live a) in
+    c.unwrap_or.ensures
+    ∙ ap (λ (r : Option ℕ). unwrap_or r assembly_limit)
+    (c.or.ensures ∙ ap₂ option_or (c.find.ensures ∙ found-at (matches o) xs) (c.lowest_free.ensures ∙ found-at free xs))
+    ∙ either-place (any (matches o) xs) (any free xs) (first_index (matches o) xs) (first_index free xs) assembly_limit
+    (λ e. omega (arith, len, first-le free xs, ltb-false (first_index free xs) (length xs) (sym (any-first free xs) ∙ e)))
