@@ -1,20 +1,16 @@
--- For the contracts of the four calls: what a call leaves that is refused or granted, and records that the code makes fresh from the front. The
+-- For the contracts of the four calls: what a call leaves that is refused or granted. The
 -- claims about lists of calls need none of this.
 -- Assumes nothing.
-use Prim.Native.Nat.{ℕ, zero, suc, ◌+◌, ◌<◌, ◌≤◌}
+use Prim.Native.Nat.{ℕ, ◌<◌, ◌≤◌}
 use mathlib.Core.Path.{◌≡◌, refl, sym, ap, ap₂, ◌∙◌, subst}
-use mathlib.Core.Bool.{Bool, true, false, not, ◌&&◌, cond}
-use mathlib.Core.List.{List, [], ◌∷◌, ◌++◌, map, append-nil}
+use mathlib.Core.Bool.{Bool, true, not, ◌&&◌, cond}
+use mathlib.Core.List.{List, [], ◌∷◌, ◌++◌}
 use mathlib.Core.Option.{Option, none, some}
-use native.Mathlib.Nat.{not-suc-le-zero, le_of_suc-le-suc}
-use native.Mathlib.Numerals.{add-one}
-use native.Mathlib.Omega.{arith}
 use lib.Dec.{leb, eqb}
-use lib.ListN.{length, take, drop, get_or, set, drop_of_length-le}
-use lib.Seq.{take_all}
+use lib.ListN.{length}
 use borrow.Author.Tests.{leb-false, lt-leb, leb-true, not-false}
 use Rattle.number_tests.specs.Tests.{first_of}
-use Rattle.number_tests.proofs.Tests.{true-false, both_true, first-none, first-front, first-behind}
+use Rattle.number_tests.proofs.Tests.{both_true, first-none, first-front, first-behind}
 use Rattle.client_record.specs.declared.Client.{Client}
 use Rattle.client_record.specs.Limits.{client_limit}
 use Rattle.client_record.specs.Lists.{all}
@@ -111,28 +107,3 @@ refused-reset t r ok = reset-refused-leaves t r (sym (first-client (lent_of t)) 
 pub granted-reset : (t : Table) (start : ℕ) → Admits (lent_of t) 0 (Ok start) → (records : List Client) → records ≡ (cleared t).records
     → Leaves (reset_on t) (Ok Reset) records t.store []
 granted-reset t start ok records all-fresh = reset-leaves t records (sym (first-client (lent_of t)) ∙ sym ok.tests) all-fresh
-
--- ---- a list of records that is replaced from the front, each by f of itself
-
-module _ {A : Type 0} (f : A → A) where
-  abbrev pub replaced : ℕ → List A → List A
-  replaced n d = map f (take n d) ++ drop n d
-
-  -- the next one is still as it was
-  pub replaced-at : (n : ℕ) (d : List A) (x : A) → n < length d → get_or (replaced n d) n x ≡ get_or d n x
-  replaced-at n [] x l = absurd (not-suc-le-zero l)
-  replaced-at zero (y ∷ d) x l = refl
-  replaced-at (suc n) (y ∷ d) x l = replaced-at n d x (le_of_suc-le-suc l)
-
-  replaced-suc : (n : ℕ) (d : List A) (x : A) → n < length d → set (replaced n d) n (f (get_or d n x)) ≡ replaced (suc n) d
-  replaced-suc n [] x l = absurd (not-suc-le-zero l)
-  replaced-suc zero (y ∷ d) x l = refl
-  replaced-suc (suc n) (y ∷ d) x l = ap (λ (t : List A). f y ∷ t) (replaced-suc n d x (le_of_suc-le-suc l))
-
-  pub replaced-more : (n : ℕ) (d : List A) (x : A) → n < length d → set (replaced n d) n (f (get_or d n x)) ≡ replaced (n + 1) d
-  replaced-more n d x l = subst (λ (k : ℕ). set (replaced n d) n (f (get_or d n x)) ≡ replaced k d) (sym (add-one n)) (replaced-suc n d x l)
-
-  -- to the end
-  pub replaced-all : (n : ℕ) (d : List A) → length d ≤ n → replaced n d ≡ map f d
-  replaced-all n d h =
-      ap₂ (λ (u v : List A). map f u ++ v) (take_all n d h) (drop_of_length-le d h) ∙ append-nil (map f d)

@@ -17,8 +17,7 @@ fn share_of(client: Client) -> usize
     requires { client.plan ≤ assembly_limit }
     ensures { result ≡ share_size client.plan }
 {
-    let plan = client.plan as usize;
-    plan * client_record::DATAGRAM_LIMIT
+    client.plan as usize * client_record::DATAGRAM_LIMIT
 }
 
 // Document 01's set-up: every record is fresh, with the plan that it has, and the store stays.
@@ -26,9 +25,8 @@ pub fn reset(records: &mut [Client], store: &[u8]) -> Result<Answer, Refusal>
     ensures { Leaves (reset_on (table_of records.old store.now)) result records.new store.now [] }
 {
     table_admission::admit(records, store.len(), 0)?;
-    for record in records.iter_mut() {
-        let next = client_record::fresh(record.plan);
-        *record = next;
+    for record in records {
+        *record = client_record::fresh(record.plan);
     }
     Ok(Answer::Reset)
 }
@@ -70,7 +68,5 @@ pub fn account(records: &[Client], store: &[u8], k: usize) -> Result<Answer, Ref
     ensures { Leaves (ask_on k accounting (table_of records.now store.now)) result records.now store.now [] }
 {
     table_admission::admit(records, store.len(), k)?;
-    let client = records[k];
-    let step = client_reassembly::account(client);
-    step.answer
+    client_reassembly::account(records[k]).answer
 }

@@ -1,6 +1,6 @@
 -- `table_calls::account` meets its contract: what the admission refuses leaves everything, and behind it it is the client's own account, which changes
 -- nothing.
-use mathlib.Core.Path.{◌≡◌, refl, sym, ap, subst, ◌∙◌}
+use mathlib.Core.Path.{refl, sym, ap, subst, ◌∙◌}
 use mathlib.Core.List.{[]}
 use Prim.Native.Nat.{ℕ}
 use lib.ListN.{get_or, set}
@@ -51,4 +51,4 @@ bounds-records-k c = (granted _ (table_of c.args.records.now c.args.store.now) _
 pub returns : goal.returns
 returns c =
     let g = granted c.args.k (table_of c.args.records.now c.args.store.now) _ c.in_ok-admit.ensures in
-    account-leaves _ c.args.k _ _ _ g c.account-step.ensures
+    account-leaves _ c.args.k _ _ _ g c.account.ensures

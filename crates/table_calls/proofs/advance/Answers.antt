@@ -1,6 +1,6 @@
 -- `table_calls::advance` meets its contract: what the admission refuses leaves everything, and behind it it is the client's own clock, which does not
 -- touch its share.
-use mathlib.Core.Path.{◌≡◌, refl, sym, ap, subst, ◌∙◌}
+use mathlib.Core.Path.{refl, sym, ap, subst}
 use mathlib.Core.List.{[]}
 use Prim.Native.Nat.{ℕ}
 use lib.ListN.{get_or, set}

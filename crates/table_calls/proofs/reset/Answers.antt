@@ -1,25 +1,20 @@
--- `table_calls::reset` meets its contract: what the admission refuses leaves everything, and behind it every record is made fresh, from the front.
-use Prim.Native.Nat.{ℕ, ◌+◌, ◌≤◌, ◌<◌}
-use mathlib.Core.Path.{◌≡◌, sym, ap, ap₂, subst, ◌∙◌}
-use mathlib.Core.List.{List}
-use native.Mathlib.Omega.{arith}
-use lib.ListN.{length, get_or, set, length-set}
-use Rattle.std.proofs.lemmas.List.{get_or_default}
-use Rattle.client_record.specs.declared.Client.{Client}
-use Rattle.client_record.specs.Record.{blank_client}
-use Rattle.table_rules.specs.Table.{table_of}
+-- `table_calls::reset` meets its contract: what the admission refuses leaves everything, and behind it every record is made fresh in its place.
+use Prim.Native.Nat.{ℕ, ◌≤◌}
+use mathlib.Core.List.{List, ◌++◌, map, append-nil}
+use mathlib.Core.Path.{◌≡◌, ap, ap₂, ◌∙◌}
+use lib.ListN.{length, take, drop, set, drop_of_length-le}
+use lib.Seq.{take_all}
 use Rattle.std.proofs.lemmas.Result.{err_from_is_err_and}
-use Rattle.table_calls.proofs.Contracts.{refused-reset, granted-reset, replaced, replaced-at, replaced-more, replaced-all}
+use Rattle.client_record.specs.declared.Client.{Client}
+use Rattle.client_reassembly.proofs.Laws.{mapped_next}
+use Rattle.table_rules.specs.Table.{table_of}
+use Rattle.table_calls.proofs.Contracts.{refused-reset, granted-reset}
 use Rattle.table_calls.proofs.reset.Goals as goal
 use Rattle.table_calls.proofs.reset.Invariants.{anew}
 
--- one record more is fresh, as it is read of client i
-one-more : (rs₀ rs : List Client) (i : ℕ) (d v : Client) → rs ≡ replaced anew i rs₀ → i < length rs₀ → length rs ≡ length rs₀
-    → v ≡ anew (get_or rs i d) → set rs i v ≡ replaced anew (i + 1) rs₀
-one-more rs₀ rs i d v e below long fresh =
-    let at : i < length rs = omega (arith, below, long) in
-    let plan = get_or_default rs i d blank_client at ∙ ap (λ (rs : List Client). get_or rs i blank_client) e ∙ replaced-at anew i rs₀ blank_client below in
-    ap₂ (λ (rs : List Client) (v : Client). set rs i v) e (fresh ∙ ap anew plan) ∙ replaced-more anew i rs₀ blank_client below
+-- all of them
+all-anew : (rs : List Client) (i : ℕ) → length rs ≤ i → map anew (take i rs) ++ drop i rs ≡ map anew rs
+all-anew rs i h = ap₂ (λ (u v : List Client). map anew u ++ v) (take_all i rs h) (drop_of_length-le rs h) ∙ append-nil (map anew rs)
 
 pub returns-in_err-admit : goal.returns-in_err-admit
 returns-in_err-admit c =
@@ -27,9 +22,11 @@ returns-in_err-admit c =
     rw (p.1, p.2) (refused-reset (table_of c.args.records.now c.args.store.now) _ c.in_err-admit.ensures)
 
 pub loop-record-preserved : goal.loop-record-preserved
-loop-record-preserved c = one-more _ _ _ _ _ c.loop-record.invariant c.loop-record-test.true c.loop-record.auto.records c.fresh-next.ensures
+loop-record-preserved c =
+    ap (set c.loop-record.record-items c.loop-record.record-index) c.fresh.ensures
+    ∙ mapped_next anew c.args.records.now c.loop-record.record-items c.loop-record.record-index _ c.loop-record-test.true c.loop-record.invariant
 
 pub returns : goal.returns
 returns c =
     granted-reset (table_of c.args.records.now c.args.store.now) _ c.in_ok-admit.ensures _
-    (c.loop-record.invariant ∙ replaced-all anew _ c.args.records.now c.loop-record-test.false)
+    (c.loop-record.invariant ∙ all-anew c.args.records.now _ c.loop-record-test.false)
