@@ -15,20 +15,6 @@ use Rattle.wire_reading.specs.declared.Verdict.{Verdict}
 use Rattle.list_readings.specs.Catalogue.{is_listed, walk_of_value}
 
 module _ (verdict : Verdict) (from to size : ℕ) where
-  pub backwards : to < from → is_listed verdict from to size ≡ false
-  backwards h = go (is_read verdict)
-    where
-      go : (a : Bool) → (a && leb from to && leb to size) ≡ false
-      go true = simp (lt-leb from to h)
-      go false = refl
-
-  pub beyond : from ≤ to → size < to → is_listed verdict from to size ≡ false
-  beyond h k = go (is_read verdict)
-    where
-      go : (a : Bool) → (a && leb from to && leb to size) ≡ false
-      go true = simp (le-leb from to h, lt-leb to size k)
-      go false = refl
-
   pub by-verdict : from ≤ to → to ≤ size → is_listed verdict from to size ≡ is_read verdict
   by-verdict h k = go (is_read verdict)
     where

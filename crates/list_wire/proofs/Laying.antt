@@ -48,17 +48,6 @@ pub laid_none : (t : List ℕ) (at : ℕ) → Laid t at [] t at
 laid_none t at =
     record { over = sym (ap (λ (n : ℕ). take at t ++ drop n t) (add-zero at) ∙ take-append-drop at t); ends = sym (add-zero at) }
 
--- one zero more
-pub zeros-more : (t : List ℕ) {u : List ℕ} (at i : ℕ) → u ≡ overlay t at (replicate i 0) → at + (i + 1) ≤ length t
-    → set u (at + i) 0 ≡ overlay t at (replicate (i + 1) 0)
-zeros-more t {u} at i e fits =
-    let zeros : List ℕ = replicate i 0 in
-    let n : length zeros ≡ i = length-replicate i 0 in
-    let size : length u ≡ length t = ap length e ∙ length-overlay t at zeros (omega arith) in
-    let whole : length (zeros ++ (0 ∷ [])) ≡ i + 1 = length-append zeros (0 ∷ []) ∙ omega arith in
-    overlay-sets u (at + i) (0 ∷ []) (omega arith) ∙ ap₂ (λ (x : List ℕ) (k : ℕ). overlay x (at + k) (0 ∷ [])) e (sym n)
-    ∙ overlay-append t at zeros (0 ∷ []) (omega arith) ∙ ap (overlay t at) (replicate-append-replicate i 1 0)
-
 -- ---- a part laid over a part
 
 -- the front of what was laid, laid anew

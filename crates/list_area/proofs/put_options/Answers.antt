@@ -10,11 +10,6 @@ use Rattle.list_wire.proofs.Laying.{laid_as, laid_none, laid-length}
 use Rattle.list_wire.proofs.Listed.{turn-room, turn-laid, turn-rest, turn-none}
 use Rattle.list_area.proofs.put_options.Goals as goal
 
-pub loop-init : goal.loop-init
-loop-init c = let a = c.args in
-    let all : a.count - 0 ≡ a.count = omega arith in
-    ([], laid_none _ _, ap (λ (n : ℕ). wires_read a.crc n (drop a.start a.list.now)) all)
-
 pub put_entry-passed-requires : goal.put_entry-passed-requires
 put_entry-passed-requires c = turn-room c.args.crc (c.args.count - c.loop.counter) (drop c.loop.from c.args.list.now) _ (omega (arith, c.loop-test.true))
     c.loop.invariant.1 c.loop.invariant.2 c.requires
@@ -34,10 +29,6 @@ loop-preserved c = let a = c.args in
           ∙ ap (λ (x : List ℕ). (done ++ w) ++ wires_read a.crc (left - 1) x) put.left
           ∙ turn-rest a.crc left r _ (omega (arith, c.loop-test.true)) c.loop.invariant.1 c.loop.invariant.2 c.requires,
     )
-
-pub shape_of-buffer : goal.shape_of-buffer
-shape_of-buffer c = let rest : List ℕ = wires_read c.args.crc (c.args.count - c.loop.counter) (drop c.loop.from c.args.list.now) in
-    laid-length c.loop.invariant.1 (omega (arith, c.requires, ap length c.loop.invariant.2, length-append c.loop.invariant.0 rest))
 
 pub returns : goal.returns
 returns c = let done : List ℕ = c.loop.invariant.0 in

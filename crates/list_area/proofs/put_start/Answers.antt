@@ -5,14 +5,8 @@ use Rattle.list_wire.proofs.Laying.{laid-length}
 use Rattle.list_area.proofs.Blanks.{start-even, start-odd}
 use Rattle.list_area.proofs.put_start.Goals as goal
 
-pub put_u16-requires : goal.put_u16-requires
-put_u16-requires c = simp length-set (omega arith)
-
 pub returns-then-at-eq1 : goal.returns-then-at-eq1
 returns-then-at-eq1 c = start-odd c.args.at c.if-at-eq1.true (omega (arith, c.requires)) c.put_u16.ensures
-
-pub shape_of-buffer-then-at-eq1 : goal.shape_of-buffer-then-at-eq1
-shape_of-buffer-then-at-eq1 c = laid-length (returns-then-at-eq1 c) (simp length-replicate (omega (arith, c.requires)))
 
 pub returns : goal.returns
 returns c = start-even c.args.at (omega (arith, c.if-at-eq1.false)) c.put_u16-2.ensures

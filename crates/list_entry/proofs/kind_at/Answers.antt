@@ -33,9 +33,6 @@ returns-in-8 c = c.two_fields-in-8.ensures ∙ sym (kind-two _ _ _ 4 4 (ap shape
 pub returns-in-6 : goal.returns-in-6
 returns-in-6 c = c.one_field-in-6.ensures ∙ sym (kind-one _ _ _ 4 (shape-token _ (omega arith) (omega arith)))
 
-pub returns-in-9-to-191 : goal.returns-in-9-to-191
-returns-in-9-to-191 c = c.raw_body.ensures
-
 pub returns-in-192-to-255 : goal.returns-in-192-to-255
 returns-in-192-to-255 c = sym (kind-barred _ _ _ (shape-barred _ (omega arith)))
 

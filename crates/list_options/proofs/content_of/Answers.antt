@@ -40,9 +40,6 @@ pub bounds-rest-header : goal.bounds-rest-header
 unfolding class_of
 bounds-rest-header c = let f = fixed c.args.rest.now c.requires.0 5 5 c.in-5.is refl (omega arith) in omega (arith, f)
 
-pub overflow_cast-result-in-5-2 : goal.overflow_cast-result-in-5-2
-overflow_cast-result-in-5-2 c = let a = c.args in omega (arith, c.type_inv.rest (a.header + 2))
-
 pub get_u32-requires : goal.get_u32-requires
 unfolding class_of
 get_u32-requires c = let f = fixed c.args.rest.now c.requires.0 8 10 c.in-8.is refl (omega arith) in omega (arith, f)

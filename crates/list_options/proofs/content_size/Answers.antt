@@ -20,10 +20,6 @@ pub overflow_add-result-in-Raw : goal.overflow_add-result-in-Raw
 overflow_add-result-in-Raw c = let w = rw c.in-Raw.is at c.requires in
     omega (arith, c.encoded_length-in-Raw.ensures, encoded-short c.in-Raw.size, w.1)
 
-pub returns-in-One : goal.returns-in-One
-returns-in-One c = c.encoded_length.ensures ∙ sym (ap (λ (x : Content). length (content_code c.args.rest.now x))
-    c.in-One.is)
-
 pub returns-in-Two : goal.returns-in-Two
 returns-in-Two c = let l = c.args.rest.now in
     let v = c.in-Two in

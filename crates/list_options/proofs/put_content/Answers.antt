@@ -27,9 +27,6 @@ module _ (rest : List ℕ) {content : Content} {start size : ℕ} (is : content 
   raw-room : (at : ℕ) {room : ℕ} → at + length (content_code rest content) ≤ room → at + (length (encoded size) + size) ≤ room
   raw-room at h = omega (arith, h, ap length raw-code, length-append (encoded size) (part start size rest), raw-length)
 
-pub put-requires : goal.put-requires
-put-requires c = omega (arith, c.requires.1, ap length (ap (content_code c.args.rest.now) c.in-One.is))
-
 pub put-next-requires : goal.put-next-requires
 put-next-requires c = let v = c.in-Two in
     omega (
@@ -40,36 +37,8 @@ put-next-requires c = let v = c.in-Two in
           (encoded v.second),
     )
 
-pub put-requires-in-Two : goal.put-requires-in-Two
-put-requires-in-Two c = let v = c.in-Two in
-    let fits = ap length (ap (content_code c.args.rest.now) c.in-Two.is) in
-    let both = length-append (encoded v.first) (encoded v.second) in
-    let w = c.put-next.ensures in
-    omega (arith, c.requires.1, fits, both, w.ends, written-length w (omega (arith, c.requires.1, fits, both)))
-
-pub put-next-requires-in-Raw : goal.put-next-requires-in-Raw
-put-next-requires-in-Raw c = omega (arith, raw-room c.args.rest.now c.in-Raw.is c.requires.0 c.args.at c.requires.1)
-
-pub overflow_add-end : goal.overflow_add-end
-overflow_add-end c = omega (arith, (raw-within c.args.rest.now c.in-Raw.is c.requires.0).0)
-
-pub copy-requires : goal.copy-requires
-copy-requires c =
-    let r = c.in-Raw in
-    let room = raw-room c.args.rest.now c.in-Raw.is c.requires.0 c.args.at c.requires.1 in
-    let w = c.put-next-in-Raw.ensures in
-    let same : r.start + r.size - r.start ≡ r.size = omega arith in
-    let long = ap (λ (n : ℕ). length (part r.start n c.args.rest.now)) same ∙ raw-length c.args.rest.now r.is c.requires.0 in
-    omega (arith, long, room, w.ends, written-length w (omega (arith, room)))
-
 pub overflow_add-result : goal.overflow_add-result
 overflow_add-result c = omega (arith, raw-room c.args.rest.now c.in-Raw.is c.requires.0 c.args.at c.requires.1, c.put-next-in-Raw.ensures.ends)
-
-pub returns-in-Bare : goal.returns-in-Bare
-returns-in-Bare c = rw (ap (content_code c.args.rest.now) c.in-Bare.is) (written_none _ _)
-
-pub returns-in-One : goal.returns-in-One
-returns-in-One c = rw (ap (content_code c.args.rest.now) c.in-One.is) c.put.ensures
 
 pub returns-in-Two : goal.returns-in-Two
 returns-in-Two c = let code = ap (content_code c.args.rest.now) c.in-Two.is in

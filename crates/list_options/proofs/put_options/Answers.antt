@@ -112,9 +112,6 @@ pub returns-in_default : goal.returns-in_default
 returns-in_default c = ended c.args.options.now c.args.buffer.now c.args.start c.loop-at.at c.loop-at.out c.loop-at.buffer c.loop-at.invariant.1 c.requires.1
     (none-left c.loop-at.invariant.1.rest c.loop-at-test.true _ c.next-met.ensures c.in_default.not-Nop c.in_default.not-Found)
 
-pub shape_of-buffer : goal.shape_of-buffer
-shape_of-buffer c = as_long c.args.options.now c.args.buffer.now c.args.start c.loop-at.at c.loop-at.out c.loop-at.buffer c.loop-at.invariant.1 c.requires.1
-
 pub returns : goal.returns
 returns c = ended c.args.options.now c.args.buffer.now c.args.start c.loop-at.at c.loop-at.out c.loop-at.buffer c.loop-at.invariant.1 c.requires.1
     (rest_over c.loop-at.invariant.1.rest c.loop-at-test.false)

@@ -28,11 +28,6 @@ ended-2 c =
     let none : a.count - c.loop.counter ≡ 0 = omega (arith, c.loop-test.false) in
     c.loop.invariant.1 ∙ ap (λ (n : ℕ). passed c.loop.counter c.loop.size (checked n (drop c.loop.at a.list.now))) none
 
-pub loop-init : goal.loop-init
-loop-init c = let a = c.args in
-    let all : a.count - 0 ≡ a.count = omega arith in
-    (omega arith, sym (ap (λ (n : ℕ). passed 0 0 (checked n (drop a.start a.list.now))) all ∙ passed_none _))
-
 pub returns-in_err-option : goal.returns-in_err-option
 returns-in_err-option c =
     let p = err_from_is_err_and c.from_residual.result c.from_residual.ensures.1 in

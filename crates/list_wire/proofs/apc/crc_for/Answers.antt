@@ -13,9 +13,6 @@ count : (c : Else-has_apc) → let v = c.in-Some.number in
     ValueAt 33 c.args.list.now 0 v.value v.next
 count c = value_there _ _ _ _ _ (sym c.in-Some.ensures)
 
-pub returns-in-Some : goal.returns-in-Some
-returns-in-Some c = ap (λ (n : ℕ). wires_listed n c.args.list.now) c.crc32c.ensures
-
 pub returns-in_default : goal.returns-in_default
 returns-in_default c = let v = c.in-Some.number in
     let crc : ℕ = crc_of c.args.«data».now in

@@ -10,10 +10,6 @@ use Rattle.list_wire.specs.Parts.{left_behind, apcs_read}
 use Rattle.list_wire.proofs.Listed.{apc-turn, apc-none}
 use Rattle.list_wire.proofs.apc.has_apc.Goals as goal
 
-pub loop-init : goal.loop-init
-loop-init c = let all : c.args.count ≡ c.args.count - 0 = omega arith in
-    ap (λ (n : ℕ). apcs_read n (drop c.args.start c.args.list.now)) all
-
 pub returns-then-seen : goal.returns-then-seen
 returns-then-seen c = let r : List ℕ = drop c.loop.from c.args.list.now in
     let left : ℕ = c.args.count - c.loop.counter in

@@ -29,7 +29,3 @@ put_u16-requires c = simp length-set (omega (arith, length-extended c.args.size 
 
 pub returns : goal.returns
 returns c = laid-long c.args.at c.args.kind c.args.size c.put_u16.ensures c.if-size-le-LONGEST_SHORT_BODY.false (omega (arith, length-extended c.args.size c.if-size-le-LONGEST_SHORT_BODY.false, c.requires.1))
-
-pub shape_of-buffer : goal.shape_of-buffer
-shape_of-buffer c = let room : c.args.at + whole_length c.args.size ≤ length c.args.buffer.now = c.requires.1 in
-    laid-length (returns c) (omega (arith, head-length c.args.kind c.args.size))

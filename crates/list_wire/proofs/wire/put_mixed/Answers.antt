@@ -13,17 +13,8 @@ use Rattle.list_wire.proofs.wire.put_mixed.Goals as goal
 pub put_u16-requires : goal.put_u16-requires
 put_u16-requires c = omega (arith, body-room c.args.kind 3 c.put_head-start.ensures c.requires)
 
-pub overflow_add-buffer : goal.overflow_add-buffer
-overflow_add-buffer c = omega (arith, body-ends c.args.kind 3 c.put_head-start.ensures, c.requires, c.well_formed)
-
 pub bounds-buffer-start : goal.bounds-buffer-start
 bounds-buffer-start c = omega (arith, body-room c.args.kind 3 c.put_head-start.ensures c.requires, c.put_u16.auto.bytes)
-
-pub overflow_add-result : goal.overflow_add-result
-overflow_add-result c = omega (arith, body-ends c.args.kind 3 c.put_head-start.ensures, c.requires, c.well_formed)
-
-pub shape_of-buffer : goal.shape_of-buffer
-shape_of-buffer c = simp length-set (search rules)
 
 pub returns : goal.returns
 returns c = let h = c.put_head-start.ensures in

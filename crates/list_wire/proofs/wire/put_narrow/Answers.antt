@@ -7,9 +7,6 @@ use Rattle.list_wire.proofs.wire.put_narrow.Goals as goal
 pub put_u16-requires : goal.put_u16-requires
 put_u16-requires c = body-room c.args.kind 2 c.put_head-start.ensures c.requires
 
-pub overflow_add-result : goal.overflow_add-result
-overflow_add-result c = omega (arith, body-ends c.args.kind 2 c.put_head-start.ensures, c.requires, c.well_formed)
-
 pub returns : goal.returns
 returns c = let n = length-octets 2 c.args.field in
     laid-option c.args.kind 2 c.put_head-start.ensures (laid_by 2 c.put_u16.ensures n) n c.requires

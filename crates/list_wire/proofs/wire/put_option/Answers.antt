@@ -9,9 +9,6 @@ use Rattle.list_wire.proofs.wire.put_option.Goals as goal
 pub copy-requires : goal.copy-requires
 copy-requires c = body-room c.args.kind (length c.args.body.now) c.put_head-start.ensures c.requires.1
 
-pub overflow_add-result : goal.overflow_add-result
-overflow_add-result c = omega (arith, body-ends c.args.kind (length c.args.body.now) c.put_head-start.ensures, c.requires.1, c.well_formed)
-
 pub returns : goal.returns
 returns c = let n : ℕ = length c.args.body.now in
     laid-option c.args.kind n c.put_head-start.ensures (laid_by n c.copy.ensures refl) refl c.requires.1

@@ -11,14 +11,8 @@ use Rattle.list_wire.proofs.wire.put_pair.Goals as goal
 pub put_u32-requires : goal.put_u32-requires
 put_u32-requires c = omega (arith, body-room c.args.kind 8 c.put_head-start.ensures c.requires)
 
-pub overflow_add-start : goal.overflow_add-start
-overflow_add-start c = omega (arith, body-ends c.args.kind 8 c.put_head-start.ensures, c.requires, c.well_formed)
-
 pub put_u32-requires-2 : goal.put_u32-requires-2
 put_u32-requires-2 c = omega (arith, body-room c.args.kind 8 c.put_head-start.ensures c.requires, c.put_u32.auto.bytes)
-
-pub overflow_add-result : goal.overflow_add-result
-overflow_add-result c = omega (arith, body-ends c.args.kind 8 c.put_head-start.ensures, c.requires, c.well_formed)
 
 pub returns : goal.returns
 returns c = let h = c.put_head-start.ensures in

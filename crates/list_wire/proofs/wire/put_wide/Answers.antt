@@ -7,9 +7,6 @@ use Rattle.list_wire.proofs.wire.put_wide.Goals as goal
 pub put_u32-requires : goal.put_u32-requires
 put_u32-requires c = body-room c.args.kind 4 c.put_head-start.ensures c.requires
 
-pub overflow_add-result : goal.overflow_add-result
-overflow_add-result c = omega (arith, body-ends c.args.kind 4 c.put_head-start.ensures, c.requires, c.well_formed)
-
 pub returns : goal.returns
 returns c = let n = length-octets 4 c.args.field in
     laid-option c.args.kind 4 c.put_head-start.ensures (laid_by 4 c.put_u32.ensures n) n c.requires
