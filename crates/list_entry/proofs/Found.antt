@@ -1,6 +1,6 @@
 -- What a function knows of the number that it looked for, where it passes on with `?` that there is none.
 -- Assumes nothing.
-use mathlib.Core.Path.{◌≡◌, refl, sym, ap, ◌∙◌}
+use mathlib.Core.Path.{◌≡◌, sym, ap, ◌∙◌}
 use mathlib.Core.List.{List}
 use Prim.Native.Nat.{ℕ}
 use native.Mathlib.Omega.{arith}
@@ -8,7 +8,7 @@ use lib.ListN.{drop}
 use Rattle.std.proofs.Common.{Option, Some, None, Result, Ok, Err}
 use Rattle.std.specs.Option.{ok_or}
 use Rattle.std.specs.Result.{result_ok}
-use Rattle.number_varint.specs.Answer.{found, unfound, Decoding, decoding_of, decoded_at}
+use Rattle.number_varint.specs.Answer.{found, decoding_of, decoded_at}
 use Rattle.number_varint.specs.declared.Decoded.{Decoded}
 use Rattle.number_varint.specs.declared.Undecoded.{Undecoded}
 use Rattle.list_entry.specs.Option.{refused, failed, unreadable, read_number}

@@ -100,13 +100,7 @@ fn one_field(list: &[u8], at: usize, kind: u8, limit: u64) -> Result<Entry, Refu
 }
 
 // An option of two fields.
-fn two_fields(
-    list: &[u8],
-    at: usize,
-    kind: u8,
-    limit: u64,
-    second: u64,
-) -> Result<Entry, Refusal>
+fn two_fields(list: &[u8], at: usize, kind: u8, limit: u64, second: u64) -> Result<Entry, Refusal>
     requires { (limit ≤ 4294967296) × (second ≤ 4294967296) }
     ensures { entry_answer result
         ≡ fields_before (length list.now) kind (read_two limit second (drop at list.now)) }
@@ -116,13 +110,7 @@ fn two_fields(
 }
 
 // The second field, behind one of value `first`.
-fn second_field(
-    list: &[u8],
-    at: usize,
-    kind: u8,
-    first: u32,
-    limit: u64,
-) -> Result<Entry, Refusal>
+fn second_field(list: &[u8], at: usize, kind: u8, first: u32, limit: u64) -> Result<Entry, Refusal>
     requires { limit ≤ 4294967296 }
     ensures { entry_answer result ≡ fields_before (length list.now) kind (read_behind first limit (drop at list.now)) }
 {

@@ -51,12 +51,7 @@ pub fn list_options(options: &[u8], buffer: &mut [u8]) -> Result<Listing, Full>
 }
 
 // Lists `count` options that can all be read.
-fn list_sound(
-    options: &[u8],
-    count: usize,
-    fill: usize,
-    buffer: &mut [u8],
-) -> Result<Listing, Full>
+fn list_sound(options: &[u8], count: usize, fill: usize, buffer: &mut [u8]) -> Result<Listing, Full>
     requires { Sound (walk_from option_limit 0 options.now) × (count ≡ length (items_of (walk_from option_limit 0 options.now)))
         × (fill ≡ fill_of (walk_from option_limit 0 options.now)) }
     ensures { ListedInto (walk_from option_limit 0 options.now) buffer.old result buffer.new }

@@ -1,9 +1,8 @@
 -- `list_entry::number_at` meets its contract: what `number_varint::decode` answers is the number at the position, which `number_at` holds to the limit.
-use mathlib.Core.Path.{sym, ap, ◌∙◌}
-use Rattle.number_varint.specs.Answer.{decoding_of}
+use mathlib.Core.Path.{ap, ◌∙◌}
 use Rattle.list_entry.specs.Answer.{field_answer}
 use Rattle.list_entry.proofs.Found.{decoded_found, undecoded_found}
-use Rattle.list_entry.proofs.Places.{decoded-below, decoded-over, decoded-none}
+use Rattle.list_entry.proofs.Places.{decoded-below, decoded-over}
 use Rattle.list_entry.proofs.number_at.Goals as goal
 
 pub returns-in_err-decoded : goal.returns-in_err-decoded

@@ -1,10 +1,8 @@
 -- `list_entry::raw_body` meets its contract: the number that `number_at` finds is the body's size, and the body is within the list or not.
 use mathlib.Core.Path.{sym, ap, ◌∙◌}
-use Prim.Native.Nat.{◌+◌}
 use native.Mathlib.Omega.{arith}
 use Rattle.std.proofs.Common.{Err}
 use Rattle.std.proofs.lemmas.Result.{err_from_is_err_and}
-use Rattle.list_entry.specs.Option.{longest_body}
 use Rattle.list_entry.specs.Answer.{entry_answer}
 use Rattle.list_entry.proofs.Found.{number_found, none_found}
 use Rattle.list_entry.proofs.Entries.{raw-cut, raw-there, raw-none}

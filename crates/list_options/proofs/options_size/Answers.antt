@@ -2,17 +2,15 @@
 -- (`Counted`). Assumes nothing.
 use mathlib.Core.Path.{◌≡◌, sym, ap, ◌∙◌}
 use mathlib.Core.List.{List, []}
-use Prim.Native.Nat.{ℕ, ◌+◌, ◌-◌, ◌<◌}
+use Prim.Native.Nat.{ℕ, ◌+◌, ◌-◌}
 use native.Mathlib.Omega.{arith}
 use lib.ListN.{length, drop, length-append}
 use Rattle.number_octets.specs.Octets.{part}
 use Rattle.number_octets.proofs.Laws.{part-rest}
 use Rattle.wire_step.specs.Step.{step_of}
-use Rattle.wire_step.specs.declared.Step.{Step}
-use Rattle.wire_step.specs.declared.Step.TheVariants.{Found}
 use Rattle.wire_options.specs.Walk.{Located, item_of, walk_from, option_limit, options_of}
 use Rattle.wire_options.proofs.Runs.{run-some}
-use Rattle.wire_options.proofs.Rests.{Rest, RestBy, Taken, rest_over, rest-nops, rest-by}
+use Rattle.wire_options.proofs.Rests.{Taken, rest_over, rest-nops}
 use Rattle.list_entry.specs.Option.{encoded_option}
 use Rattle.list_options.specs.Listing.{unworked}
 use Rattle.list_options.proofs.Listings.{walk-short}

@@ -10,7 +10,7 @@ use Rattle.number_varint.specs.SevenBit.{encoded}
 use Rattle.list_options.specs.Listing.{content_code, Within, WrittenAt}
 use Rattle.list_options.specs.declared.Content.{Content}
 use Rattle.list_options.specs.declared.Content.TheVariants.{Raw}
-use Rattle.list_options.proofs.Writes.{written_none, written-length, written_both}
+use Rattle.list_options.proofs.Writes.{written_both}
 use Rattle.list_options.proofs.put_content.Goals as goal
 
 -- a raw body is within the bytes, and there is room for its size and itself

@@ -8,7 +8,7 @@ use Rattle.std.proofs.Common.{Err}
 use Rattle.std.proofs.lemmas.Result.{err_from_is_err_and}
 use Rattle.list_encoding.specs.Encoding.{given}
 use Rattle.list_encoding.specs.Wire.{checked_answer}
-use Rattle.list_encoding.proofs.Checks.{sized-there, refused-there, checked, passed, passed_none, check-left, check-end, turn_on, turn-refused}
+use Rattle.list_encoding.proofs.Checks.{sized-there, refused-there, checked, passed, check-left, check-end, turn_on, turn-refused}
 use Rattle.list_encoding.proofs.check.check_options.Goals as goal
 use Rattle.list_encoding.proofs.check.check_options.Goals.{Else-at-list, Then-at-list}
 
@@ -33,7 +33,7 @@ returns-in_err-option c =
     let p = err_from_is_err_and c.from_residual.result c.from_residual.ensures.1 in
     ap checked_answer (p.1 ∙ ap Err p.2)
     ∙ sym (turn-refused c.args.list.now c.loop.at c.args.count c.loop.counter c.loop.size _ c.loop.invariant.1 c.loop-test.true
-        (refused-there _ _ _ (sym c.in_err-option.ensures)))
+    (refused-there _ _ _ (sym c.in_err-option.ensures)))
 
 pub overflow_add-size : goal.overflow_add-size
 overflow_add-size c = let o = sized-there _ _ _ _ (sym c.in_ok-option.ensures) in
