@@ -23,23 +23,15 @@ impl From<Reading> for Parts {
     ghost from_gives = { λ reading parts. gathered parts ≡ reading };
 
     fn from(reading: Reading) -> Parts {
-        let user = reading.user;
-        let options = reading.options;
-        let user_from = user.from;
-        let user_to = user.to;
-        let options_from = options.from;
-        let options_to = options.to;
-        let apc = reading.apc;
-        let verdict = reading.verdict;
         Parts {
-            user_from,
-            options_from,
+            user_from: reading.user.from,
+            options_from: reading.options.from,
             count: reading.count,
-            user_to,
-            options_to,
+            user_to: reading.user.to,
+            options_to: reading.options.to,
             fill: reading.fill,
-            apc,
-            verdict,
+            apc: reading.apc,
+            verdict: reading.verdict,
         }
     }
 }
@@ -48,25 +40,19 @@ impl From<Parts> for Reading {
     ghost from_gives = { λ parts reading. reading ≡ gathered parts };
 
     fn from(parts: Parts) -> Reading {
-        let user_from = parts.user_from;
-        let user_to = parts.user_to;
-        let options_from = parts.options_from;
-        let options_to = parts.options_to;
-        let apc = parts.apc;
-        let verdict = parts.verdict;
         Reading {
             user: Extent {
-                from: user_from,
-                to: user_to,
+                from: parts.user_from,
+                to: parts.user_to,
             },
-            verdict,
+            verdict: parts.verdict,
             options: Extent {
-                from: options_from,
-                to: options_to,
+                from: parts.options_from,
+                to: parts.options_to,
             },
             count: parts.count,
             fill: parts.fill,
-            apc,
+            apc: parts.apc,
         }
     }
 }

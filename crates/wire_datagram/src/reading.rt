@@ -70,10 +70,8 @@ pub fn examine(
         return Err(Refusal::LengthOutOfRange);
     }
     let checksum = number_octets::get_u16(payload, 6);
-    if checksum != 0 {
-        if udp_sum(&payload[..size], source, destination) != 65535 {
-            return Err(Refusal::ChecksumWrong);
-        }
+    if checksum != 0 && udp_sum(&payload[..size], source, destination) != 65535 {
+        return Err(Refusal::ChecksumWrong);
     }
     let reading = wire_reading::accept(payload, size, checksum == 0, strictness);
     Ok(Parts::from(reading))

@@ -3,7 +3,7 @@ use mathlib.Core.Path.{ap₂, ◌≡◌, sym, ap, ◌∙◌}
 use mathlib.Core.Bool.{false}
 use mathlib.Core.List.{List, ◌++◌}
 use lib.Dec.{eqb}
-use lib.ListN.{drop, length, take, length-take}
+use lib.ListN.{drop, length, take}
 use lib.Seq.{length-take-le}
 use Rattle.number_checksum.specs.Checksum.{word_sum, folded}
 use Rattle.wire_surplus.specs.Surplus.{start_of}
@@ -15,7 +15,7 @@ use native.Mathlib.Omega.{arith}
 use Rattle.number_offsets.specs.Offsets.{udp_header}
 use Rattle.wire_datagram.proofs.Refusals.{Sized, sum_of, refused-short, refused-long, refused-small, refused-large, refused-sum, reading-accepted}
 use Rattle.wire_datagram.proofs.reading.examine.Goals as goal
-use Rattle.wire_datagram.proofs.reading.examine.Goals.{then-checksum-ne0+else-udp_sum, else-checksum-ne0}
+use Rattle.wire_datagram.proofs.reading.examine.Goals.{else-checksum-ne0-via-then-checksum-ne0+else-udp_sum, else-checksum-ne0-via-else-checksum-ne0}
 
 -- what refusals 1 to 3 leave
 sized : (p : List ℕ) (size : ℕ) → size ≡ udp_length p → 8 ≤ length p → length p ≤ 65515 → 8 ≤ size → size ≤ length p → Sized p
@@ -49,14 +49,6 @@ returns-then-size-lt-UDP_HEADER c = let a = c.args in
     (λ h. sym (refused-large a.strictness a.payload.now a.source a.destination some few (omega (arith, h.0, e)) (omega (arith, h.1, e))))
     c.then-size-lt-UDP_HEADER.either
 
-pub slice_bounds-udp_sum-end : goal.slice_bounds-udp_sum-end
-unfolding udp_header payload_limit
-slice_bounds-udp_sum-end c = simp length-take (omega arith)
-
-pub udp_sum-requires : goal.udp_sum-requires
-unfolding payload_limit
-udp_sum-requires c = simp length-take (omega arith)
-
 pub returns-then-udp_sum : goal.returns-then-udp_sum
 unfolding udp_header payload_limit
 returns-then-udp_sum c = let a = c.args in
@@ -82,7 +74,7 @@ returns c = let a = c.args in
     ap reads (c.from.ensures ∙ c.accept-reading.ensures
     ∙ ap₂ (λ (n m : ℕ). started a.strictness a.payload.now n (start_of (is_odd n) (eqb m 0) (drop n a.payload.now))) e k)
     ∙ sym (reading-accepted a.strictness a.payload.now a.source a.destination z
-    (elim c.if-checksum-ne0.branch [
-      | then-checksum-ne0+else-udp_sum w ↦ inr (sym (sum_is a.payload.now a.source a.destination _ _ e (omega (arith, z.within)) w.udp_sum.ensures) ∙ w.if-udp_sum.false)
-      | else-checksum-ne0 w ↦ inl (sym k ∙ w.if-checksum-ne0.false)
+    (elim c.else-checksum-ne0.branch [
+      | else-checksum-ne0-via-then-checksum-ne0+else-udp_sum w ↦ inr (sym (sum_is a.payload.now a.source a.destination _ _ e (omega (arith, z.within)) w.udp_sum.ensures) ∙ w.if-udp_sum.false)
+      | else-checksum-ne0-via-else-checksum-ne0 w ↦ inl (sym k ∙ w.if-checksum-ne0.false)
     ]))
