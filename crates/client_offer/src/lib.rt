@@ -48,21 +48,11 @@ fn fragment_of(o: Arrival, n: usize) -> Fragment
     requires { Sized o n }
     ensures { result ≡ fragment_of o n }
 {
-    let offset = o.offset.0 as u16;
-    let length = n as u16;
-    if o.last {
-        return Fragment {
-            offset: offset,
-            length: length,
-            option_start: o.option_start.0 as u16,
-            last: 1,
-        };
-    }
     Fragment {
-        offset: offset,
-        length: length,
-        option_start: 0,
-        last: 0,
+        offset: o.offset.0 as u16,
+        length: n as u16,
+        option_start: if o.last { o.option_start.0 as u16 } else { 0 },
+        last: u16::from(o.last),
     }
 }
 
@@ -77,7 +67,6 @@ fn join(c: Client, share: &[u8], out: &mut [u8], p: usize, a: Assembly, f: Fragm
     let n = f.length as u64;
     if client_fragments::whole(b) {
         let last = client_fragments::last_of(b);
-        let options = last.option_start as usize;
         let length = client_fragments::end_of(last);
         let start = p * client_record::DATAGRAM_LIMIT;
         let stop = start + length;
@@ -86,7 +75,7 @@ fn join(c: Client, share: &[u8], out: &mut [u8], p: usize, a: Assembly, f: Fragm
             client: client_placement::delivering(c, p, a, n),
             answer: Ok(Answer::Delivered {
                 length,
-                option_start: OriginalOffset(options),
+                option_start: OriginalOffset(last.option_start as usize),
             }),
         };
     }
@@ -124,8 +113,7 @@ fn place(
             answer: Ok(Answer::Conflict),
         };
     }
-    let count = a.count as usize;
-    if count == client_record::FRAGMENT_LIMIT {
+    if a.count as usize == client_record::FRAGMENT_LIMIT {
         return Step {
             client: client_placement::rejecting(c, n),
             answer: Err(Refusal::AssemblyFull),

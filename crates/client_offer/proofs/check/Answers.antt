@@ -59,9 +59,9 @@ returns-then-offset-gt-DATAGRAM_LIMIT c = let x = c.args in
     let k = upto24 x.client x.out_length x.n _ c.sound.ensures c.if-not-sound.false c.if-out_length-lt-DATAGRAM_LIMIT.false c.if-n-eq0.false in
     let h : datagram_limit < x.o.offset.0 + x.n =
     elim c.then-offset-gt-DATAGRAM_LIMIT.branch [
-      then-offset-gt-DATAGRAM_LIMIT-via-then-offset-gt-DATAGRAM_LIMIT w ↦ omega (arith, w.if-offset-gt-DATAGRAM_LIMIT.true)
-    | then-offset-gt-DATAGRAM_LIMIT-via-else-offset-gt-DATAGRAM_LIMIT+then-offset-n w ↦
-      omega (arith, w.if-offset-gt-DATAGRAM_LIMIT.false, w.if-offset-n.true)
+      | then-offset-gt-DATAGRAM_LIMIT-via-then-offset-gt-DATAGRAM_LIMIT w ↦ omega (arith, w.if-offset-gt-DATAGRAM_LIMIT.true)
+      | then-offset-gt-DATAGRAM_LIMIT-via-else-offset-gt-DATAGRAM_LIMIT+then-offset-n w ↦
+          omega (arith, w.if-offset-gt-DATAGRAM_LIMIT.false, w.if-offset-n.true)
     ] in
     simp (k.e22, k.e23, k.e24, lt-ltb _ _ h)
 
@@ -77,8 +77,8 @@ returns-then-o-client c = let x = c.args in
     let k = upto24 x.client x.out_length x.n _ c.sound.ensures c.if-not-sound.false c.if-out_length-lt-DATAGRAM_LIMIT.false c.if-n-eq0.false in
     let e26 : (x.o.last && ltb (x.o.offset.0 + x.n) x.o.option_start.0) ≡ false =
     elim c.else-o.branch [
-      else-o-via-then-o+else-offset-n-2 w ↦ starts x.o.last _ _ w.if-offset-n-2.false
-    | else-o-via-else-o w ↦ ap (λ (b : Bool). b && ltb (x.o.offset.0 + x.n) x.o.option_start.0) w.if-o.false
+      | else-o-via-then-o+else-offset-n-2 w ↦ starts x.o.last _ _ w.if-offset-n-2.false
+      | else-o-via-else-o w ↦ ap (λ (b : Bool). b && ltb (x.o.offset.0 + x.n) x.o.option_start.0) w.if-o.false
     ] in
     simp (k.e22, k.e23, k.e24, ends x.o.offset.0 x.n c.if-offset-gt-DATAGRAM_LIMIT.false c.if-offset-n.false, e26, lt-ltb _ _ c.if-o-client.true)
 
@@ -92,8 +92,8 @@ returns-then-client-n c = let x = c.args in
     let k = upto24 x.client x.out_length x.n _ c.sound.ensures c.if-not-sound.false c.if-out_length-lt-DATAGRAM_LIMIT.false c.if-n-eq0.false in
     let e26 : (x.o.last && ltb (x.o.offset.0 + x.n) x.o.option_start.0) ≡ false =
     elim c.else-o.branch [
-      else-o-via-then-o+else-offset-n-2 w ↦ starts x.o.last _ _ w.if-offset-n-2.false
-    | else-o-via-else-o w ↦ ap (λ (b : Bool). b && ltb (x.o.offset.0 + x.n) x.o.option_start.0) w.if-o.false
+      | else-o-via-then-o+else-offset-n-2 w ↦ starts x.o.last _ _ w.if-offset-n-2.false
+      | else-o-via-else-o w ↦ ap (λ (b : Bool). b && ltb (x.o.offset.0 + x.n) x.o.option_start.0) w.if-o.false
     ] in
     let h : offered_limit < x.client.offered + x.n = omega (arith, (sound-parts x.client k.e22).limit, c.if-client-n.true) in
     simp (k.e22, k.e23, k.e24, ends x.o.offset.0 x.n c.if-offset-gt-DATAGRAM_LIMIT.false c.if-offset-n.false, e26, le-ltb _ _ c.if-o-client.false, lt-ltb _ _ h)
@@ -104,8 +104,8 @@ returns c = let x = c.args in
     let k = upto24 x.client x.out_length x.n _ c.sound.ensures c.if-not-sound.false c.if-out_length-lt-DATAGRAM_LIMIT.false c.if-n-eq0.false in
     let e26 : (x.o.last && ltb (x.o.offset.0 + x.n) x.o.option_start.0) ≡ false =
     elim c.else-o.branch [
-      else-o-via-then-o+else-offset-n-2 w ↦ starts x.o.last _ _ w.if-offset-n-2.false
-    | else-o-via-else-o w ↦ ap (λ (b : Bool). b && ltb (x.o.offset.0 + x.n) x.o.option_start.0) w.if-o.false
+      | else-o-via-then-o+else-offset-n-2 w ↦ starts x.o.last _ _ w.if-offset-n-2.false
+      | else-o-via-else-o w ↦ ap (λ (b : Bool). b && ltb (x.o.offset.0 + x.n) x.o.option_start.0) w.if-o.false
     ] in
     let h : x.client.offered + x.n ≤ offered_limit = omega (arith, (sound-parts x.client k.e22).limit, c.if-client-n.false) in
     simp (k.e22, k.e23, k.e24, ends x.o.offset.0 x.n c.if-offset-gt-DATAGRAM_LIMIT.false c.if-offset-n.false, e26, le-ltb _ _ c.if-o-client.false, le-ltb _ _ h)

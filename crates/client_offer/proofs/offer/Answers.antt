@@ -10,7 +10,6 @@ use Rattle.client_reassembly.specs.declared.Arrival.{Arrival}
 use Rattle.client_reassembly.specs.Advance.{elapse}
 use Rattle.client_reassembly.specs.Offer.{Outcome, taken, refuse_or, fragment_on}
 use Rattle.client_reassembly.specs.Post.{Share, Taking}
-use Rattle.client_offer.specs.Checked.{checked_number}
 use Rattle.client_reassembly.proofs.Fates.{left-of}
 use Rattle.client_record.proofs.SoundParts.{sound-parts}
 use Rattle.client_reassembly.proofs.Kept.{elapse-planned}

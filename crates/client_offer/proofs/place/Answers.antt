@@ -60,13 +60,13 @@ returns-then-conflicts_any c =
     (sym c.conflicts_any.ensures ∙ c.if-conflicts_any.true))
     (record { client = c.conflicting.ensures; reply = refl; share_left = refl; out_left = refl })
 
-pub returns-then-count-eq-FRAGMENT_LIMIT : goal.returns-then-count-eq-FRAGMENT_LIMIT
+pub returns-then-a-eq-FRAGMENT_LIMIT : goal.returns-then-a-eq-FRAGMENT_LIMIT
 unfolding is_conflict is_full fragment_limit datagram_limit
-returns-then-count-eq-FRAGMENT_LIMIT c =
+returns-then-a-eq-FRAGMENT_LIMIT c =
     let x = c.args in
     left-of
     (placed-full x.c x.share.now x.out.now x.p x.a x.f x.bytes.now (sym (repeat-is x.a x.f x.p x.share.now x.bytes.now _ c.repeats.ensures) ∙ c.if-repeats.false)
-    (sym c.conflicts_any.ensures ∙ c.if-conflicts_any.false) (eq-eqb x.a.count fragment_limit c.if-count-eq-FRAGMENT_LIMIT.true))
+    (sym c.conflicts_any.ensures ∙ c.if-conflicts_any.false) (eq-eqb x.a.count fragment_limit c.if-a-eq-FRAGMENT_LIMIT.true))
     (record { client = c.rejecting.ensures; reply = refl; share_left = refl; out_left = refl })
 
 pub copy-requires : goal.copy-requires
@@ -79,7 +79,7 @@ join-requires c =
     let k = c.requires in
     let x = c.args in
     let all_slots : length x.a.fragments ≡ fragment_limit = slots x.a _ c.well_formed.1.1.1.1.0 in
-    let room : x.a.count < fragment_limit = omega (arith, c.if-count-eq-FRAGMENT_LIMIT.false, k.slots) in
+    let room : x.a.count < fragment_limit = omega (arith, c.if-a-eq-FRAGMENT_LIMIT.false, k.slots) in
     let apart : is_conflict x.a x.f ≡ false = sym c.conflicts_any.ensures ∙ c.if-conflicts_any.false in
     record {
       ending = k.ending;
@@ -98,6 +98,6 @@ returns c =
     let x = c.args in
     left-of
     (placed-joined x.c x.share.now x.out.now x.p x.a x.f x.bytes.now (sym (repeat-is x.a x.f x.p x.share.now x.bytes.now _ c.repeats.ensures) ∙ c.if-repeats.false)
-    (sym c.conflicts_any.ensures ∙ c.if-conflicts_any.false) (ne_eqb x.a.count fragment_limit c.if-count-eq-FRAGMENT_LIMIT.false)
+    (sym c.conflicts_any.ensures ∙ c.if-conflicts_any.false) (ne_eqb x.a.count fragment_limit c.if-a-eq-FRAGMENT_LIMIT.false)
     ∙ ap (λ (share : List ℕ). joined x.c share x.out.now x.p x.a x.f) (sym c.copy.ensures))
     c.join.ensures
