@@ -27,6 +27,7 @@ fn past_of(f: Fragment) -> u32
     (f.offset as u32) + (f.length as u32)
 }
 
+// Kept as a function, so that the loop that chooses has no branch.
 fn chosen(test: bool, a: u32, b: u32) -> u32
     ensures { result ≡ cond test a b }
 {

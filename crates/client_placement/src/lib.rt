@@ -40,7 +40,9 @@ fn lowest_free(c: Client) -> Option<usize>
 pub fn place_for(c: Client, o: Arrival) -> usize
     ensures { result ≡ place_for o c.assemblies }
 {
-    find(c, o).or(lowest_free(c)).unwrap_or(client_record::ASSEMBLY_LIMIT)
+    find(c, o)
+        .or(lowest_free(c))
+        .unwrap_or(client_record::ASSEMBLY_LIMIT)
 }
 
 // An assembly that the offer opens, before its first fragment.
@@ -63,7 +65,11 @@ pub fn assembly_for(c: Client, p: usize, o: Arrival) -> Assembly
     ensures { result ≡ assembly_for o p c.assemblies }
 {
     let a = c.assemblies[p];
-    if client_record::live(a) { a } else { opening(o) }
+    if client_record::live(a) {
+        a
+    } else {
+        opening(o)
+    }
 }
 
 // ---- what becomes of a fragment
@@ -80,7 +86,7 @@ fn alike(f: Fragment, g: Fragment) -> bool
         && (!last || f.option_start == g.option_start)
 }
 
-// Some held fragment is alike.
+// Some held fragment is alike. Kept without an early end, as `client_fragments::conflicts_any`.
 #[tactic(auto, unfolding(client_record::specs::Limits::fragment_limit))]
 fn alike_any(a: Assembly, f: Fragment) -> bool
     ensures { result ≡ any (alike f) (held_fragments a) }

@@ -24,7 +24,7 @@ fn slot_word(f: Fragment) -> u64
     (f.offset as u64) | length | options | last
 }
 
-// The slots behind the held fragments are as in a fresh record.
+// The slots behind the held fragments are as in a fresh record. The loop has no branch, so that the compiler takes several slots at a step.
 fn spare_fresh(a: Assembly) -> bool
     ensures { result ≡ all is_fresh_fragment (spare_slots a) }
 {
@@ -42,7 +42,7 @@ fn spare_fresh(a: Assembly) -> bool
 fn unused(a: Assembly) -> bool
     ensures { result ≡ unused_fields a }
 {
-    a.flow == client_record::fresh_flow() && a.identification == 0 && a.opened == 0
+    (a.flow == client_record::fresh_flow()) & (a.identification == 0) & (a.opened == 0)
 }
 
 // Opened at or before `time`, and less than the lifetime before it.
@@ -87,15 +87,13 @@ fn assembly_tested(a: Assembly, time: u64) -> Option<u32>
 fn assemblies_tested(c: Client) -> Option<u64>
     ensures { result ≡ then_some (all (sound_assembly c.time) c.assemblies && within_plan c) (sum bytes_held c.assemblies) }
 {
-    let time = c.time;
     let plan = c.plan as usize;
     let mut total = 0u64;
     for i in 0..client_record::ASSEMBLY_LIMIT {
-        let a = c.assemblies[i];
-        if plan <= i && client_record::live(a) {
+        if plan <= i && client_record::live(c.assemblies[i]) {
             return None;
         }
-        total += u64::from(assembly_tested(a, time)?);
+        total += u64::from(assembly_tested(c.assemblies[i], c.time)?);
     }
     Some(total)
 }
@@ -105,10 +103,12 @@ fn assemblies_tested(c: Client) -> Option<u64>
 fn same_live_key(a: Assembly, b: Assembly) -> bool
     ensures { result ≡ same_live_key a b }
 {
-    client_record::live(a) && client_record::live(b) && client_record::has_key(b, a.flow, a.identification)
+    client_record::live(a)
+        && client_record::live(b)
+        && client_record::has_key(b, a.flow, a.identification)
 }
 
-// One of the first `n` assemblies has the key of `a`.
+// One of the first `n` assemblies has the key of `a`. Kept without an early end, as keys of a sound record differ.
 #[tactic(auto, unfolding(client_record::specs::Limits::assembly_limit))]
 fn key_among(c: Client, n: usize, a: Assembly) -> bool
     requires { n ≤ assembly_limit }
