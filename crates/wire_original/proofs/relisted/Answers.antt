@@ -41,9 +41,6 @@ pub walk_list-requires : goal.walk_list-requires
 unfolding udp_header
 walk_list-requires c = omega (arith, list-end c.args.from c.offset_of-base.result c.args.original.now c.offset_of-base.ensures c.requires.1)
 
-pub apc_of-requires : goal.apc_of-requires
-apc_of-requires c = omega (arith, c.requires)
-
 pub returns-in-Ok : goal.returns-in-Ok
 unfolding option_limit
 returns-in-Ok c = let a = c.args in

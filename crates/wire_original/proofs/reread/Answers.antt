@@ -5,7 +5,7 @@ use mathlib.Core.List.{List}
 use Prim.Native.Nat.{ℕ, ◌+◌, ◌-◌, ◌%◌, ◌≤◌}
 use native.Mathlib.Omega.{arith}
 use lib.Dec.{eqb}
-use lib.ListN.{length, drop, length-take, length-drop}
+use lib.ListN.{length, drop, length-drop}
 use Rattle.std.specs.Prelude.{Result, Ok}
 use Rattle.number_octets.specs.Octets.{part}
 use Rattle.number_octets.proofs.Laws.{part-rest}
@@ -55,9 +55,6 @@ returns-then-original-r-2 c = let a = c.args in
     let none : length (drop r l) ≡ 0 = simp length-drop (omega arith) in
     c.optionless.ensures
     ∙ taken a.strictness l r _ c.if-original-gt-ORIGINAL_LIMIT.false c.if-original-r.false (sym (start-empty true (drop r l) (is_odd (udp_header + r)) none))
-
-pub start_of-requires : goal.start_of-requires
-start_of-requires c = simp (length-take, length-drop) (omega arith)
 
 pub overflow_add-r : goal.overflow_add-r
 overflow_add-r c = let a = c.args in
