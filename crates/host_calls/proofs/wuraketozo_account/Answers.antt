@@ -3,4 +3,4 @@ use Rattle.host_calls.proofs.Facts.{leaves}
 use Rattle.host_calls.proofs.wuraketozo_account.Goals as goal
 
 pub returns : goal.returns
-returns c = leaves c.account-answer.ensures c.answer_of.ensures
+returns c = leaves c.account.ensures c.from.ensures

@@ -3,4 +3,4 @@ use Rattle.host_calls.proofs.Facts.{leaves}
 use Rattle.host_calls.proofs.wuraketozo_advance.Goals as goal
 
 pub returns : goal.returns
-returns c = leaves c.advance-answer.ensures c.answer_of.ensures
+returns c = leaves c.advance.ensures c.from.ensures

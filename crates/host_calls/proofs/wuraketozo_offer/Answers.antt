@@ -5,4 +5,4 @@ use Rattle.host_calls.proofs.wuraketozo_offer.Goals as goal
 
 pub returns : goal.returns
 returns c = let a = c.args in
-    offers a.k a.fragment a.bytes.now a.out.now (table_of a.records.now a.store.now) c.arrival_of-arrival.ensures c.offer-answer.ensures c.answer_of.ensures
+    offers a.k a.fragment a.bytes.now a.out.now (table_of a.records.now a.store.now) c.from-arrival.ensures c.offer.ensures c.from.ensures

@@ -17,4 +17,4 @@ returns c = let a = c.args in
     } in
     receives
     (ap (λ (how : Strictness). receive_on a.k (as-asked how) a.out.now (table_of a.records.now a.store.now)) c.strictness_for-how.ensures)
-    c.receive-received.ensures c.received_of.ensures
+    c.receive-received.ensures c.from.ensures

@@ -3,4 +3,4 @@ use Rattle.host_calls.proofs.Facts.{leaves}
 use Rattle.host_calls.proofs.wuraketozo_reset.Goals as goal
 
 pub returns : goal.returns
-returns c = leaves c.reset-answer.ensures c.answer_of.ensures
+returns c = leaves c.reset.ensures c.from.ensures

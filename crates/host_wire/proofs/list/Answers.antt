@@ -4,4 +4,4 @@ use Rattle.host_wire.proofs.list.Goals as goal
 
 pub returns : goal.returns
 returns c = let a = c.args in
-    lists a.payload.now a.verdict a.options c.reading_for-reading.ensures c.list_reading.ensures c.listing_of.ensures
+    lists a.payload.now a.verdict a.options c.reading_for-reading.ensures c.list_reading.ensures c.from.ensures

@@ -7,6 +7,6 @@ use Rattle.host_wire.proofs.reread.Goals as goal
 
 pub returns : goal.returns
 returns c = let a = c.args in
-    c.rereading_of.ensures
+    c.from.ensures
     ∙ ap host_rereading (c.reread.ensures
     ∙ ap (λ (how : Strictness). rereading how a.original.now a.option_start.0) c.strictness_for.ensures)

@@ -3,4 +3,4 @@ use Rattle.host_wire.proofs.Facts.{writes}
 use Rattle.host_wire.proofs.write.Goals as goal
 
 pub returns : goal.returns
-returns c = writes c.write.ensures c.written_of.ensures
+returns c = writes c.write.ensures c.from.ensures
