@@ -1,5 +1,5 @@
 -- `program_lines::put_items` meets its contract. The loop's invariant: what is put, with the lines of the rest, are the lines of the list (`Saying`).
-use Rattle.std.proofs.Common.{Option, Some, None}
+use Rattle.std.proofs.Common.{Option, Some}
 use mathlib.Core.Path.{◌≡◌, sym, ap, ◌∙◌}
 use mathlib.Core.List.{List}
 use Prim.Native.Nat.{ℕ, ◌+◌, ◌-◌, ◌≤◌}
