@@ -105,6 +105,7 @@ fn last_ones(a: Assembly, n: usize) -> LastOnes
 
 // Where fragments may end: at the known end, or where the longest original does. 0 if the known end can't be: two are last, it lies before
 // the option start or past the longest original, or there are as many bytes as places before it.
+#[tactic(auto, unfolding(client_record::specs::Limits::datagram_limit, crate::specs::Held::most_of, crate::specs::Held::ends_well))]
 fn most_end(a: Assembly, n: usize, marks: u32, total: u32) -> u32
     requires { Marking a n marks }
     ensures { result ≡ most_of (held_fragments a) total }

@@ -6,8 +6,7 @@ use mathlib.Core.Path.{◌≡◌, refl, sym, ap, ap₂, ◌∙◌}
 use native.Mathlib.Omega.{arith}
 use borrow.Author.Tests.{le-leb, lt-leb}
 use lib.Dec.{leb}
-use lib.ListN.{length, take, get_or}
-use lib.Seq.{take-length}
+use lib.ListN.{length, get_or}
 use Rattle.number_tests.proofs.Tests.{true-false}
 use Rattle.number_sets.proofs.Sets.{blank}
 use Rattle.client_record.specs.declared.Assembly.{Assembly}
@@ -72,9 +71,3 @@ loop-k-preserved c = let a = c.args.a in
       marks-more (held_fragments a) c.loop-k.k none h _ c.loop-k.invariant.2 _ inc.joined,
       inc.size ∙ c.loop-k.invariant.3,
     )
-
-pub returns : goal.returns
-returns c = let a = c.args.a in
-    let e : c.loop-k.k ≡ length (held_fragments a) = omega (arith, c.requires.held.count) in
-    let all_of = sym (take-length (held_fragments a)) ∙ ap (λ (j : ℕ). take j (held_fragments a)) (sym e) in
-    sym (ap₂ ◌&&◌ (ap (all (λ f. leb (end f) _)) all_of ∙ c.loop-k.invariant.0) (ap apart_all all_of ∙ c.loop-k.invariant.1))

@@ -19,9 +19,6 @@ returns-then-s c = let a = c.args.a in
     ap (λ (x : Bool). then_some (x && (compatible (held_fragments a) && not (whole (held_fragments a)))) (bytes_held a))
     (sym (unsound (held_fragments a) (not-true _ (sym c.sweep-s.ensures.empty ∙ c.if-s.true))))
 
-pub most_end-most-requires : goal.most_end-most-requires
-most_end-most-requires c = record { held = c.requires; some = c.sweep-s.ensures.marks }
-
 pub apart-sound-requires : goal.apart-sound-requires
 apart-sound-requires c = let a = c.args.a in
     record {

@@ -6,10 +6,8 @@ use mathlib.Core.List.{List}
 use native.Mathlib.Omega.{arith}
 use borrow.Author.Rules.{rules}
 use lib.ListN.{length, take, get_or}
-use lib.Seq.{take-length}
 use Rattle.number_tests.proofs.Tests.{cond_either}
 use Rattle.client_record.specs.declared.Fragment.{Fragment}
-use Rattle.client_record.specs.Limits.{fragment_limit}
 use Rattle.client_record.specs.Lists.{sum}
 use Rattle.client_record.specs.Record.{is_last, end, held_fragments}
 use Rattle.client_record.proofs.Held.{none, held_at}
@@ -31,22 +29,6 @@ pub loop-i-init : goal.loop-i-init
 unfolding last_sum sum
 loop-i-init c = (refl, refl, refl, search rules, search rules, search rules)
 
-pub overflow_add-count : goal.overflow_add-count
-unfolding fragment_limit
-overflow_add-count c = let few = under {m = 2} c.is_last-last.result c.chosen-count.ensures (omega arith) in
-    omega (arith, c.requires.within)
-
-pub overflow_add-past : goal.overflow_add-past
-unfolding fragment_limit
-overflow_add-past c = let near = under {m = 2 ^ 17} c.is_last-last.result c.chosen-past.ensures c.past_of.ensures.small in
-    omega (arith, c.requires.within)
-
-pub overflow_add-options : goal.overflow_add-options
-unfolding fragment_limit
-overflow_add-options c = let near = under {m = 2 ^ 16} c.is_last-last.result c.chosen-options.ensures
-    (omega arith) in
-    omega (arith, c.requires.within)
-
 pub loop-i-preserved : goal.loop-i-preserved
 loop-i-preserved c = let a = c.args.a in
     let h : c.loop-i.i < length (held_fragments a) = omega (arith, c.requires.count) in
@@ -63,13 +45,3 @@ loop-i-preserved c = let a = c.args.a in
       omega arith,
       omega arith,
     )
-
-pub returns : goal.returns
-returns c = let a = c.args.a in
-    let e : c.loop-i.i ≡ length (held_fragments a) = omega (arith, c.requires.count) in
-    let all_of = ap (λ (k : ℕ). take k (held_fragments a)) e ∙ take-length (held_fragments a) in
-    record {
-      count = c.loop-i.invariant.0 ∙ ap (last_sum (λ f. 1)) all_of;
-      past = c.loop-i.invariant.1 ∙ ap (last_sum end) all_of;
-      options = c.loop-i.invariant.2 ∙ ap (last_sum (λ f. f.option_start)) all_of;
-    }

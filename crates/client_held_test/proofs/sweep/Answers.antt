@@ -9,7 +9,6 @@ use borrow.Author.Tests.{leb-true, leb-false, le-ltb, lt-ltb}
 use lib.Bits.{bit_or}
 use lib.Dec.{eqb, leb, ltb}
 use lib.ListN.{length, take, get_or}
-use lib.Seq.{take-length}
 use Rattle.number_octets.proofs.ZeroBytes.{or-zero}
 use Rattle.client_record.specs.declared.Fragment.{Fragment}
 use Rattle.client_record.specs.Lists.{all, any, sum}
@@ -73,16 +72,3 @@ loop-i-preserved c = let a = c.args.a in
       rw (c.past_of-behind.ensures.value, same) (sofar-next (held_fragments a) c.loop-i.i h c.loop-i.invariant.0),
       search rules,
     )
-
-pub returns : goal.returns
-returns c = let a = c.args.a in
-    let e : c.loop-i.i ≡ length (held_fragments a) = omega (arith, c.requires.count) in
-    let all_of = ap (λ (k : ℕ). take k (held_fragments a)) e ∙ take-length (held_fragments a) in
-    let s = c.loop-i.invariant.0 in
-    record {
-      empty = s.empty_is ∙ ap (λ (fs : List Fragment). not (all non_empty fs)) all_of;
-      falls = s.falls_is ∙ ap (λ (fs : List Fragment). not (rises_from 0 fs)) all_of;
-      marks = s.marks_is ∙ ap (λ (fs : List Fragment). not (any is_last fs)) all_of;
-      end = s.far_is ∙ ap (behind 0) all_of;
-      total = s.total_is ∙ ap (sum (λ f. f.length)) all_of;
-    }
