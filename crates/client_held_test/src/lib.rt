@@ -115,16 +115,7 @@ fn most_end(a: Assembly, n: usize, marks: u32, total: u32) -> u32
     }
     let last = last_ones(a, n);
     let past = last.past;
-    if 1 < last.count {
-        return 0;
-    }
-    if past < last.options {
-        return 0;
-    }
-    if LIMIT < past {
-        return 0;
-    }
-    if past == total {
+    if 1 < last.count || past < last.options || LIMIT < past || past == total {
         return 0;
     }
     past
