@@ -18,11 +18,13 @@ wraps added low high x y e =
     ap (λ (n : ℕ). (n + (x + y * 4294967296)) % 18446744073709551616) e
     ∙ mod-add-mod (low + 4294967296 * high) 18446744073709551616 (x + y * 4294967296) ∙ ap (λ (n : ℕ). n % 18446744073709551616) whole
 
-without-high : (added low high : ℕ) → added ≡ (low + 4294967296 * high) % 18446744073709551616 → low < 18446744073709551616
-    → (added + (18446744073709551616 - high % 4294967296 * 4294967296)) % 18446744073709551616 ≡ low
-without-high added low high e h = omega arith
+pub without-high : (added low high r : ℕ) → added ≡ (low + 4294967296 * high) % 18446744073709551616 → low < 18446744073709551616
+    → r < 18446744073709551616 → (r + high % 4294967296 * 4294967296) % 18446744073709551616 ≡ added → r ≡ low
+without-high added low high r e hl hr back = omega arith
 
--- less the high halves, what was added is the low halves
+-- what the code takes off
 pub low-is : {bytes : List ℕ} {k added high : ℕ} (h : Halves bytes k added high) → k ≤ 8192
     → (added + (18446744073709551616 - high % 4294967296 * 4294967296)) % 18446744073709551616 ≡ h.low
-low-is {bytes} {k} {added} {high} h n = without-high added h.low high h.sum (omega (arith, h.bound))
+low-is {bytes} {k} {added} {high} h n =
+    without-high added h.low high ((added + (18446744073709551616 - high % 4294967296 * 4294967296)) % 18446744073709551616)
+    h.sum (omega (arith, h.bound)) (omega arith) (omega (arith, h.sum))
