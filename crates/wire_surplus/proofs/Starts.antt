@@ -35,19 +35,9 @@ module _ (unused : Bool) (area : List ℕ) where
   start-even h = simp (ne_eqb (length area) 0 (λ e. omega arith), le-ltb (length area) 2 h)
 
 module _ (odd : Bool) (area : List ℕ) where
-  pub summed-unused : ocs_of odd area ≡ 0 → summed_of odd true area ≡ Ok (pad_of odd + 2)
-  summed-unused e = simp (eq-eqb (ocs_of odd area) 0 e)
-
-  pub summed-missing : ocs_of odd area ≡ 0 → summed_of odd false area ≡ Err Unsummed
-  summed-missing e = simp (eq-eqb (ocs_of odd area) 0 e)
-
   pub summed-right : (unused : Bool) → (ocs_of odd area ≡ 0 → ⊥) → folded (length area + word_sum odd area) ≡ all_ones
       → summed_of odd unused area ≡ Ok (pad_of odd + 2)
   summed-right unused d e = simp (ne_eqb (ocs_of odd area) 0 d, eq-eqb (folded (length area + word_sum odd area)) all_ones e)
-
-  pub summed-wrong : (unused : Bool) → (ocs_of odd area ≡ 0 → ⊥) → (folded (length area + word_sum odd area) ≡ all_ones → ⊥)
-      → summed_of odd unused area ≡ Err BadSum
-  summed-wrong unused d e = simp (ne_eqb (ocs_of odd area) 0 d, ne_eqb (folded (length area + word_sum odd area)) all_ones e)
 
 -- a list that starts does so within the area
 pub start-list : (odd unused : Bool) (area : List ℕ) (at : ℕ) → start_of odd unused area ≡ Ok at → at ≤ length area
