@@ -3,7 +3,7 @@
 // document 01's number. What a value does not say is 0. Positions keep their types: an `OriginalOffset` is a place in an original.
 #![tactic(auto)]
 
-ghost use Rattle.std.specs.Prelude.{◌≡◌};
+ghost use Rattle.std.specs.Prelude.{◌≡◌, Ok};
 ghost use Rattle.list_options.specs.Listing.{listed_answer};
 ghost use Rattle.list_writer.specs.Answer.{written_answer};
 ghost use Rattle.client_reassembly.specs.Answer.{figures_of, reply_of};
@@ -113,10 +113,7 @@ impl From<Result<usize, list_writer::Refusal>> for Written {
 
     fn from(written: Result<usize, list_writer::Refusal>) -> Written {
         match written {
-            Ok(size) => Written {
-                refusal: 0,
-                size,
-            },
+            Ok(size) => Written { refusal: 0, size },
             Err(list_writer::Refusal::Unreadable) => Written {
                 refusal: 7,
                 size: 0,
@@ -202,22 +199,32 @@ fn accounted(figures: client_reassembly::Figures) -> Answer
     }
 }
 
+impl From<client_reassembly::Answer> for Answer {
+    ghost from_gives = { λ answer value. value ≡ host_answer (reply_of (Ok answer)) };
+
+    fn from(answer: client_reassembly::Answer) -> Answer {
+        match answer {
+            client_reassembly::Answer::Reset => plain(0, 1),
+            client_reassembly::Answer::Stored => plain(0, 2),
+            client_reassembly::Answer::Repeated => plain(0, 3),
+            client_reassembly::Answer::Conflict => plain(0, 4),
+            client_reassembly::Answer::Delivered {
+                length,
+                option_start,
+            } => handed_out(length, option_start),
+            client_reassembly::Answer::Advanced => plain(0, 6),
+            client_reassembly::Answer::Account(figures) => accounted(figures),
+        }
+    }
+}
+
 impl From<Result<client_reassembly::Answer, client_reassembly::Refusal>> for Answer {
     ghost from_gives = { λ answer value. value ≡ host_answer (reply_of answer) };
 
     fn from(answer: Result<client_reassembly::Answer, client_reassembly::Refusal>) -> Answer {
         match answer {
+            Ok(answer) => Answer::from(answer),
             Err(refusal) => plain(u32::from(refusal), 0),
-            Ok(client_reassembly::Answer::Reset) => plain(0, 1),
-            Ok(client_reassembly::Answer::Stored) => plain(0, 2),
-            Ok(client_reassembly::Answer::Repeated) => plain(0, 3),
-            Ok(client_reassembly::Answer::Conflict) => plain(0, 4),
-            Ok(client_reassembly::Answer::Delivered {
-                length,
-                option_start,
-            }) => handed_out(length, option_start),
-            Ok(client_reassembly::Answer::Advanced) => plain(0, 6),
-            Ok(client_reassembly::Answer::Account(figures)) => accounted(figures),
         }
     }
 }
@@ -264,10 +271,15 @@ fn offered_alone(answer: Answer) -> Received
 impl From<Result<table_receiver::Received, wire_datagram::reading::Refusal>> for Received {
     ghost from_gives = { λ received value. value ≡ host_fate (fate_in received) };
 
-    fn from(received: Result<table_receiver::Received, wire_datagram::reading::Refusal>) -> Received {
+    fn from(
+        received: Result<table_receiver::Received, wire_datagram::reading::Refusal>,
+    ) -> Received {
         match received {
             Err(refusal) => read_alone(0, host_readings::unread(u32::from(refusal))),
-            Ok(table_receiver::Received::Datagram(reading)) => read_alone(1, Reading::from(reading)),
+            Ok(table_receiver::Received::Datagram(reading)) => read_alone(
+                1,
+                Reading::from(reading),
+            ),
             Ok(table_receiver::Received::Fragment(answer)) => offered_alone(Answer::from(answer)),
         }
     }
