@@ -110,7 +110,10 @@ fn put_entry(list: &[u8], from: usize, crc: u32, buffer: &mut [u8], at: usize) -
             end: wire::put_fields(kind, first, second, crc, buffer, at),
         },
         Entry::Body {
-            kind, start, next, ..
+            kind,
+            start,
+            next,
+            ..
         } => Passed {
             next,
             end: wire::put_option(kind, &list[start..next], buffer, at),

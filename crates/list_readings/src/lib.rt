@@ -11,11 +11,7 @@ use wire_original::{OriginalExtent, Rereading};
 use wire_reading::{Extent, Reading, Verdict};
 
 // Lists the options of `payload` that its reading reports, or none where there are none to be listed.
-pub fn list_reading(
-    payload: &[u8],
-    reading: Reading,
-    buffer: &mut [u8],
-) -> Result<Listing, Full>
+pub fn list_reading(payload: &[u8], reading: Reading, buffer: &mut [u8]) -> Result<Listing, Full>
     ensures { ListedInto
         (walk_of_value payload.now reading.verdict reading.options.from.0 reading.options.to.0)
         buffer.old result buffer.new }

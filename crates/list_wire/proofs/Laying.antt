@@ -9,7 +9,7 @@ use native.Mathlib.Nat.{add-zero, mod-mod}
 use native.Mathlib.Omega.{arith}
 use borrow.Author.Tests.{le-leb, lt-leb}
 use lib.Dec.{leb}
-use lib.ListN.{length, take, drop, set, replicate, length-append, length-replicate, replicate-append-replicate, take-append-drop}
+use lib.ListN.{length, take, drop, set, length-append, take-append-drop}
 use lib.Seq.{length-take-le, drop-drop, drop_at}
 use Rattle.number_octets.specs.Octets.{octets, overlay}
 use Rattle.number_octets.proofs.Laws.{length-octets, length-overlay, take-overlay, overlay-append, overlay-sets, octets-mod}

@@ -1,8 +1,7 @@
 -- `list_area::put_blank` meets its contract: zeros, options and fill are laid one behind the other.
 use mathlib.Core.List.{List, ◌++◌}
-use Prim.Native.Nat.{ℕ, ◌+◌, ◌%◌}
-use native.Mathlib.Omega.{arith}
-use lib.ListN.{replicate, length-append, length-replicate}
+use Prim.Native.Nat.{ℕ}
+use lib.ListN.{replicate}
 use Rattle.list_wire.specs.Parts.{wires_listed}
 use Rattle.list_wire.proofs.Laying.{laid-append, behind-room}
 use Rattle.list_area.proofs.put_blank.Goals as goal

@@ -1,12 +1,12 @@
 -- `list_area::put_options` meets its contract. The loop's invariant: what was laid, with the options still to come, is the whole.
-use mathlib.Core.Path.{◌≡◌, refl, sym, ap, ◌∙◌}
-use mathlib.Core.List.{List, [], ◌++◌, append-nil}
+use mathlib.Core.Path.{◌≡◌, sym, ap, ◌∙◌}
+use mathlib.Core.List.{List, ◌++◌, append-nil}
 use Prim.Native.Nat.{ℕ, ◌+◌, ◌-◌}
 use native.Mathlib.Omega.{arith}
-use lib.ListN.{length, drop, length-append}
+use lib.ListN.{drop}
 use Rattle.list_entry.specs.Option.{read_option}
 use Rattle.list_wire.specs.Parts.{wire_read, wires_read}
-use Rattle.list_wire.proofs.Laying.{laid_as, laid_none, laid-length}
+use Rattle.list_wire.proofs.Laying.{laid_as}
 use Rattle.list_wire.proofs.Listed.{turn-room, turn-laid, turn-rest, turn-none}
 use Rattle.list_area.proofs.put_options.Goals as goal
 

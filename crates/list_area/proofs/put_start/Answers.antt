@@ -1,7 +1,5 @@
 -- `list_area::put_start` meets its contract: the zeros are stored one by one.
 use native.Mathlib.Omega.{arith}
-use lib.ListN.{length-set, length-replicate}
-use Rattle.list_wire.proofs.Laying.{laid-length}
 use Rattle.list_area.proofs.Blanks.{start-even, start-odd}
 use Rattle.list_area.proofs.put_start.Goals as goal
 

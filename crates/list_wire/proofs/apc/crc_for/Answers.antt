@@ -1,10 +1,9 @@
 -- `list_wire::apc::crc_for` meets its contract: where no option is an APC, any CRC gives the same wires.
-use mathlib.Core.Path.{sym, ap, ◌∙◌}
+use mathlib.Core.Path.{sym, ◌∙◌}
 use Prim.Native.Nat.{ℕ}
 use lib.ListN.{drop}
 use Rattle.number_crc32c.specs.Crc.{crc_of}
 use Rattle.list_entry.proofs.Places.{ValueAt, value_there, none-there}
-use Rattle.list_wire.specs.Parts.{wires_listed}
 use Rattle.list_wire.proofs.Listed.{no-apc, listed-counted, listed-uncounted}
 use Rattle.list_wire.proofs.apc.crc_for.Goals as goal
 use Rattle.list_wire.proofs.apc.crc_for.Goals.{Else-has_apc}

@@ -1,11 +1,10 @@
 -- `list_wire::wire::put_head` meets its contract: each form is stored byte by byte, and the test tells which.
 use mathlib.Core.Path.{sym}
-use Prim.Native.Nat.{◌+◌, ◌≤◌}
+use Prim.Native.Nat.{◌+◌}
 use native.Mathlib.Omega.{arith}
-use lib.ListN.{length, length-set}
-use Rattle.list_encoding.specs.Wire.{whole_length}
+use lib.ListN.{length-set}
 use Rattle.list_encoding.proofs.Checks.{length-short, length-extended}
-use Rattle.list_wire.proofs.Laying.{laid_as, laid-two, laid-long, laid-length, head-short, head-length}
+use Rattle.list_wire.proofs.Laying.{laid_as, laid-two, laid-long, head-short}
 use Rattle.list_wire.proofs.wire.put_head.Goals as goal
 
 pub bounds-buffer-at : goal.bounds-buffer-at

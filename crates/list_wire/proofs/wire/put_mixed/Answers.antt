@@ -3,11 +3,10 @@ use mathlib.Core.Path.{refl, ap, ◌∙◌}
 use mathlib.Core.List.{[], ◌∷◌}
 use Prim.Native.Nat.{ℕ, ◌+◌}
 use native.Mathlib.Omega.{arith}
-use lib.ListN.{length-set, length-append}
+use lib.ListN.{length-append}
 use Rattle.number_octets.specs.Octets.{octets}
 use Rattle.number_octets.proofs.Laws.{length-octets, overlay-sets}
-use Rattle.list_wire.proofs.Laying.{laid-option, laid_both, body-room, body-ends}
-use borrow.Author.Rules.{rules}
+use Rattle.list_wire.proofs.Laying.{laid-option, laid_both, body-room}
 use Rattle.list_wire.proofs.wire.put_mixed.Goals as goal
 
 pub put_u16-requires : goal.put_u16-requires

@@ -1,7 +1,6 @@
 -- `list_wire::wire::put_narrow` meets its contract: a head, and the field behind it.
-use native.Mathlib.Omega.{arith}
 use Rattle.number_octets.proofs.Laws.{length-octets}
-use Rattle.list_wire.proofs.Laying.{laid-option, laid_by, body-room, body-ends}
+use Rattle.list_wire.proofs.Laying.{laid-option, laid_by, body-room}
 use Rattle.list_wire.proofs.wire.put_narrow.Goals as goal
 
 pub put_u16-requires : goal.put_u16-requires

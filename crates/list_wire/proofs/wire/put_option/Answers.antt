@@ -1,9 +1,8 @@
 -- `list_wire::wire::put_option` meets its contract: a head, and the body behind it.
 use mathlib.Core.Path.{refl}
 use Prim.Native.Nat.{ℕ}
-use native.Mathlib.Omega.{arith}
 use lib.ListN.{length}
-use Rattle.list_wire.proofs.Laying.{laid-option, laid_by, body-room, body-ends}
+use Rattle.list_wire.proofs.Laying.{laid-option, laid_by, body-room}
 use Rattle.list_wire.proofs.wire.put_option.Goals as goal
 
 pub copy-requires : goal.copy-requires

@@ -5,7 +5,7 @@ use native.Mathlib.Omega.{arith}
 use lib.ListN.{length-append}
 use Rattle.number_octets.specs.Octets.{octets}
 use Rattle.number_octets.proofs.Laws.{length-octets}
-use Rattle.list_wire.proofs.Laying.{laid-option, laid_both, body-room, body-ends}
+use Rattle.list_wire.proofs.Laying.{laid-option, laid_both, body-room}
 use Rattle.list_wire.proofs.wire.put_pair.Goals as goal
 
 pub put_u32-requires : goal.put_u32-requires
