@@ -1,13 +1,13 @@
 -- Laws that the proofs of this crate share: a comparison of times, and a list whose elements are replaced from the front.
 -- Assumes nothing.
-use mathlib.Core.Path.{◌≡◌, refl, sym, ap, ◌∙◌}
+use mathlib.Core.Path.{◌≡◌, refl, sym, ◌∙◌}
 use mathlib.Core.Bool.{Bool, true, false}
 use mathlib.Core.List.{List, [], ◌∷◌, ◌++◌, map}
 use Prim.Native.Nat.{ℕ, zero, suc, ◌+◌, ◌-◌, ◌<◌, ◌≤◌}
-use native.Mathlib.Nat.{not-suc-le-zero, le_of_suc-le-suc}
 use native.Mathlib.Omega.{arith}
 use lib.Dec.{leb}
 use lib.ListN.{length, take, drop, get_or, set}
+use Rattle.std.proofs.lemmas.List.{get_or_default}
 use Rattle.std.proofs.lemmas.List.Edits.{map_over_more}
 use borrow.Author.Tests.{leb-true, leb-false, le-leb, lt-leb}
 
@@ -20,10 +20,8 @@ behind o t k h = go (leb k (t - o)) refl
     go false e = let p : t - o < k = leb-false k (t - o) e in e ∙ sym (lt-leb (o + k) t (omega arith))
 
 -- within a list the default does not matter
-pub get_d_any {ℓ} : {A : Type ℓ} (l : List A) (i : ℕ) (d e : A) → i < length l → get_or l i d ≡ get_or l i e
-get_d_any [] i d e h = absurd (not-suc-le-zero h)
-get_d_any (x ∷ l) zero d e h = refl
-get_d_any (x ∷ l) (suc i) d e h = get_d_any l i d e (le_of_suc-le-suc h)
+pub get_d_any : {A : Type 0} (l : List A) (i : ℕ) (d e : A) → i < length l → get_or l i d ≡ get_or l i e
+get_d_any = get_or_default
 
 -- what is read is read again where it stands past the end too
 read-again : {A : Type 0} (ys : List A) (i : ℕ) (d : A) → get_or ys i d ≡ get_or ys i (get_or ys i d)

@@ -1,8 +1,6 @@
 -- `client_reassembly::expire_all` meets its contract: each assembly is replaced in its place (`mapped_next`), and one that is not old is as it was.
-use Prim.Native.Nat.{ℕ}
-use mathlib.Core.List.{List}
-use mathlib.Core.Path.{◌≡◌, sym, ap, ◌∙◌}
-use lib.ListN.{get_or, set}
+use mathlib.Core.Path.{sym, ap, ◌∙◌}
+use lib.ListN.{set}
 use lib.Seq.{set-get_or}
 use Rattle.number_tests.proofs.Tests.{cond_yes, cond_no}
 use native.Mathlib.Omega.{arith}
@@ -23,12 +21,12 @@ loop-i-preserved c =
     let ys = c.loop-i.kept in
     let more = mapped_next (expire t) c.args.c.assemblies ys i _ (omega (arith, long, c.loop-i-test.true)) c.loop-i.invariant in
     elim c.if-old.branch [
-      then-old w ↦
-        w.kept-is
-        ∙ ap (set ys i) (w.fresh_assembly.ensures ∙ sym (cond_yes (old t _) fresh_assembly _ (sym c.old.ensures ∙ w.if-old.true)))
-        ∙ more
-    | else-old w ↦
-        w.kept-is
-        ∙ sym (ap (set ys i) (cond_no (old t _) fresh_assembly _ (sym c.old.ensures ∙ w.if-old.false)) ∙ set-get_or ys i _)
-        ∙ more
+      | then-old w ↦
+          w.kept-is
+          ∙ ap (set ys i) (w.fresh_assembly.ensures ∙ sym (cond_yes (old t _) fresh_assembly _ (sym c.old.ensures ∙ w.if-old.true)))
+          ∙ more
+      | else-old w ↦
+          w.kept-is
+          ∙ sym (ap (set ys i) (cond_no (old t _) fresh_assembly _ (sym c.old.ensures ∙ w.if-old.false)) ∙ set-get_or ys i _)
+          ∙ more
     ]

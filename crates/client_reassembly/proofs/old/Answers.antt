@@ -1,11 +1,10 @@
 -- `client_reassembly::old` meets its contract: the subtraction that stops at 0 compares as the definition does (`behind`).
 use Prim.Native.Nat.{◌+◌}
 use mathlib.Core.Bool.{Bool, ◌&&◌}
-use mathlib.Core.Path.{sym, ap, ap₂, ◌∙◌}
+use mathlib.Core.Path.{sym, ap, ◌∙◌}
 use native.Mathlib.Omega.{arith}
 use lib.Dec.{leb}
 use Rattle.client_record.specs.Limits.{lifetime}
-use Rattle.client_record.specs.Record.{live}
 use Rattle.client_reassembly.proofs.Laws.{behind}
 use Rattle.client_reassembly.specs.Advance.{old}
 use Rattle.client_reassembly.proofs.old.Goals as goal

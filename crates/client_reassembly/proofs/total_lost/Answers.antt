@@ -17,7 +17,7 @@ loop-a-init c = (refl, search rules)
 pub loop-a-preserved : goal.loop-a-preserved
 unfolding assembly_limit
 loop-a-preserved c = let long = places c.args.c _ c.well_formed.0 in (
-      ap₂ ◌+◌ c.loop-a.invariant.0 (c.from-total.ensures ∙ c.bytes_lost.ensures)
+  ap₂ ◌+◌ c.loop-a.invariant.0 (c.from-total.ensures ∙ c.bytes_lost.ensures)
       ∙ sym (sum-next c.args.c.assemblies c.loop-a.a-index _ (omega (arith, long, c.loop-a-test.true)) (lost c.args.time)),
-      omega arith,
-    )
+  omega arith,
+)
