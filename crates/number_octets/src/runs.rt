@@ -19,7 +19,7 @@ pub fn run_end<const BYTE: u8>(bytes: &[u8], from: usize) -> usize
     bytes.len()
 }
 
-// So far at least, in whole fours.
+// So far at least, in whole fours. Kept as a count: a step is four bytes, and the first other word ends it.
 fn whole_fours<const BYTE: u8>(bytes: &[u8], from: usize) -> usize
     requires { from ≤ length bytes.now }
     ensures within { result ≤ length bytes.now }

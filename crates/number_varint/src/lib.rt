@@ -80,7 +80,7 @@ pub fn encoded_length(value: u64) -> usize
     count
 }
 
-// Writes the encoding of `value` from `at`, if it fits, and gives where it ends.
+// Writes the encoding of `value` from `at`, if it fits, and gives where it ends. Kept as a count: the turns are known by dividing alone.
 pub fn encode(value: u64, buffer: &mut [u8], at: usize) -> Result<usize, Full>
     ensures { EncodedAt value buffer.old at result buffer.new }
 {

@@ -55,7 +55,8 @@ pub fn leading_nops(list: &[u8]) -> usize
     run_end::<NOP>(list, whole_blocks(list))
 }
 
-// So many NOPs at least, in whole blocks. A short row costs no more than a look at the last byte of the first block.
+// So many NOPs at least, in whole blocks. A short row costs no more than a look at the last byte of the first block. Kept as a count: a step is a
+// block, and the first other one ends it.
 fn whole_blocks(list: &[u8]) -> usize
     ensures { (result ≤ length list.now) × (nops_of list.now ≡ result + nops_of (drop result list.now)) }
 {
