@@ -4,4 +4,4 @@ use Rattle.host_wire.proofs.relist.Goals as goal
 
 pub returns : goal.returns
 returns c = let a = c.args in
-    relists a.original.now a.verdict a.options c.rereading_for-rereading.ensures c.list_rereading.ensures c.from.ensures
+    relists a.original.now a.verdict a.options c.rereading_for-rereading.ensures c.list_reading.ensures c.from.ensures
