@@ -143,7 +143,7 @@ impl From<Verdict> for u32 {
     }
 }
 
-// Its extents are of a packet or of an original.
+// A reading of a packet or of an original: an `E` is bytes of the one or the other.
 #[derive(Clone, Copy)]
 pub struct Reading<E> {
     // The user data. It is to be delivered with every verdict but `Piece`.
