@@ -25,6 +25,7 @@ pub struct OriginalExtent {
 
 impl Span for OriginalExtent {
     ghost from = { λ extent. extent.from.0 };
+
     ghost to = { λ extent. extent.to.0 };
 
     fn start(self) -> usize {

@@ -27,6 +27,7 @@ pub struct Extent {
 // Bytes between two positions of one kind.
 pub trait Span: Copy {
     ghost from: { Self → ℕ };
+
     ghost to: { Self → ℕ };
 
     fn start(self) -> usize
@@ -38,6 +39,7 @@ pub trait Span: Copy {
 
 impl Span for Extent {
     ghost from = { λ extent. extent.from.0 };
+
     ghost to = { λ extent. extent.to.0 };
 
     fn start(self) -> usize {
@@ -171,7 +173,12 @@ pub fn accept(payload: &[u8], size: usize, unused: bool, strictness: Strictness)
 }
 
 // The reading whose option list starts at `from`.
-fn listed(payload: &[u8], size: usize, from: PacketOffset, strictness: Strictness) -> Reading<Extent>
+fn listed(
+    payload: &[u8],
+    size: usize,
+    from: PacketOffset,
+    strictness: Strictness,
+) -> Reading<Extent>
     requires { (udp_header ≤ size) × (size ≤ from.0) × (from.0 ≤ length payload.now) }
     ensures { result ≡ walked payload.now size from.0 (area_of strictness (no_data size) from.0 (drop from.0 payload.now)) }
 {
