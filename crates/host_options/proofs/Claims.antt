@@ -24,7 +24,7 @@ use Rattle.wire_offsets.proofs.Turns.{options-by-turns}
 use Rattle.wire_reading.specs.Reading.{extent, is_read}
 use Rattle.wire_reading.specs.Verdict.{verdict_says}
 use Rattle.wire_reading.specs.declared.Extent.{Extent}
-use Rattle.wire_reading.specs.declared.Reading.{Reading}
+use Rattle.wire_reading.specs.Packet.{PacketReading as Reading}
 use Rattle.wire_reading.specs.declared.Verdict.{Verdict}
 use Rattle.wire_reading.specs.declared.Verdict.TheVariants.{Bare, Short, Pad, Unsummed, BadSum, Malformed, Unsafe, FragData, Crowded, Tail, Padded, Read, Piece}
 use Rattle.wire_reading.proofs.Lists.{Lists, ListsIn}
@@ -32,7 +32,7 @@ use Rattle.wire_datagram.specs.Reading.{reads, reading}
 use Rattle.wire_datagram.proofs.Offsets.{option-offsets}
 use Rattle.wire_original.specs.Rereading.{places, rereads, rereading}
 use Rattle.wire_original.specs.declared.OriginalExtent.{OriginalExtent}
-use Rattle.wire_original.specs.declared.Rereading.{Rereading}
+use Rattle.wire_original.specs.Original.{OriginalReading as Rereading}
 use Rattle.wire_original.proofs.Lists.{RelistsIn}
 use Rattle.wire_original.proofs.Offsets.{reread-option-offsets}
 use Rattle.list_readings.specs.Catalogue.{is_listed}

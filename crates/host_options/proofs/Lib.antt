@@ -1,3 +1,4 @@
 pub mod Claims
 pub mod Examples
 pub mod Fits
+pub mod Tested

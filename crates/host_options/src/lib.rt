@@ -45,7 +45,7 @@ pub fn next(payload: &[u8], verdict: u32, rest: Extent) -> PacketOption
 pub fn renext(original: &[u8], verdict: u32, rest: OriginalExtent) -> OriginalOption
     ensures { result ≡ renext_in original.now (verdict_for verdict) rest }
 {
-    if list_readings::is_relisted(host_readings::verdict_for(verdict), rest, original.len()) {
+    if list_readings::is_listed(host_readings::verdict_for(verdict), rest, original.len()) {
         let from = rest.from.0;
         return original_option(from, wire_offsets::next_option(&original[from..rest.to.0]));
     }

@@ -29,7 +29,7 @@ use Rattle.wire_reading.specs.declared.Verdict.TheVariants.{
   Piece,
 }
 use Rattle.wire_datagram.specs.declared.reading.Refusal.TheVariants.{PayloadTooShort, PayloadTooLong, LengthOutOfRange, ChecksumWrong}
-use Rattle.wire_reading.specs.declared.Reading.{Reading as Whole}
+use Rattle.wire_reading.specs.Packet.{PacketReading as Whole}
 use Rattle.wire_datagram.specs.declared.reading.Refusal.{Refusal}
 use Rattle.host_readings.specs.declared.Reading.{Reading}
 use Rattle.host_readings.specs.Reading.{flag_of, offset_or, fragment_in, host_reading}

@@ -6,7 +6,7 @@ use Rattle.wire_reading.specs.declared.Apc.TheVariants.{Absent}
 use Rattle.wire_reading.specs.declared.Verdict.{Verdict}
 use Rattle.wire_reading.specs.declared.Verdict.TheVariants.{Bare, Read}
 use Rattle.wire_reading.specs.declared.Extent.{Extent}
-use Rattle.wire_reading.specs.declared.Reading.{Reading}
+use Rattle.wire_reading.specs.Packet.{PacketReading as Reading}
 
 -- the number of "read" is a verdict with options, any other one without
 abbrev pub verdict_for : ℕ → Verdict

@@ -6,7 +6,7 @@ use Rattle.wire_reading.specs.Verdict.{verdict_says, fault_at, apc_says}
 use Rattle.wire_datagram.specs.Reading as Read
 use Rattle.wire_reading.specs.Reading.{extent}
 use Rattle.wire_reading.specs.declared.Verdict.{Verdict}
-use Rattle.wire_reading.specs.declared.Reading.{Reading as Accepted}
+use Rattle.wire_reading.specs.Packet.{PacketReading as Accepted}
 use Rattle.host_readings.specs.declared.Reading.{Reading}
 
 abbrev pub flag_of : Bool → ℕ

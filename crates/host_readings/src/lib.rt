@@ -110,10 +110,10 @@ pub fn unread(refusal: u32) -> Reading
     }
 }
 
-impl From<wire_reading::Reading> for Reading {
+impl From<wire_reading::Reading<Extent>> for Reading {
     ghost from_gives = { λ reading value. value ≡ reading_from reading };
 
-    fn from(reading: wire_reading::Reading) -> Reading {
+    fn from(reading: wire_reading::Reading<Extent>) -> Reading {
         let verdict = reading.verdict;
         let fragment = fragment_in(verdict);
         Reading {
@@ -137,10 +137,10 @@ impl From<wire_reading::Reading> for Reading {
     }
 }
 
-impl From<Result<wire_reading::Reading, Refusal>> for Reading {
+impl From<Result<wire_reading::Reading<Extent>, Refusal>> for Reading {
     ghost from_gives = { λ outcome value. value ≡ host_reading (answer_of outcome) };
 
-    fn from(outcome: Result<wire_reading::Reading, Refusal>) -> Reading {
+    fn from(outcome: Result<wire_reading::Reading<Extent>, Refusal>) -> Reading {
         match outcome {
             Ok(reading) => Reading::from(reading),
             Err(refusal) => unread(u32::from(refusal)),
@@ -160,7 +160,7 @@ pub fn verdict_for(number: u32) -> Verdict
 }
 
 // As much of a reading as its listing looks at: the verdict's number and the option list.
-pub fn reading_for(number: u32, options: Extent) -> wire_reading::Reading
+pub fn reading_for(number: u32, options: Extent) -> wire_reading::Reading<Extent>
     ensures { result ≡ reading_for number options }
 {
     wire_reading::Reading {

@@ -3,7 +3,7 @@ use Rattle.std.specs.Prelude.{ℕ}
 use Rattle.wire_original.specs.Rereading.{places}
 use Rattle.wire_reading.specs.declared.Apc.TheVariants.{Absent}
 use Rattle.wire_original.specs.declared.OriginalExtent.{OriginalExtent}
-use Rattle.wire_original.specs.declared.Rereading.{Rereading}
+use Rattle.wire_original.specs.Original.{OriginalReading as Rereading}
 use Rattle.host_readings.specs.Listable.{verdict_for}
 
 abbrev pub rereading_for : ℕ → OriginalExtent → Rereading

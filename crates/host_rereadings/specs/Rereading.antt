@@ -3,7 +3,7 @@ use Rattle.std.specs.Prelude.{ℕ}
 use Rattle.wire_reading.specs.Verdict.{verdict_says, fault_at, apc_says}
 use Rattle.wire_original.specs.Rereading as Reread
 use Rattle.wire_original.specs.Rereading.{places}
-use Rattle.wire_original.specs.declared.Rereading.{Rereading as Reaccepted}
+use Rattle.wire_original.specs.Original.{OriginalReading as Reaccepted}
 use Rattle.host_readings.specs.Reading.{offset_or}
 use Rattle.host_rereadings.specs.declared.Rereading.{Rereading}
 

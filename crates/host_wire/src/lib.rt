@@ -59,7 +59,7 @@ pub fn relist(original: &[u8], verdict: u32, options: OriginalExtent, buffer: &m
     ensures { Lists (walk_of_value original.now (verdict_for verdict) options.from.0 options.to.0) buffer.old result buffer.new }
 {
     let rereading = host_rereadings::rereading_for(verdict, options);
-    Listing::from(list_readings::list_rereading(original, rereading, buffer))
+    Listing::from(list_readings::list_reading(original, rereading, buffer))
 }
 
 // Writes a whole payload.

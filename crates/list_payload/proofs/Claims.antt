@@ -24,7 +24,7 @@ use Rattle.wire_datagram.specs.Reading.{reads, reading}
 use Rattle.wire_reading.specs.Reading.{payload_limit, extent, apc_values, all_are, apc_of}
 use Rattle.wire_reading.specs.declared.Apc.TheVariants.{Absent, Right, Wrong}
 use Rattle.wire_reading.specs.declared.Verdict.TheVariants.{Read}
-use Rattle.wire_reading.specs.declared.Reading.{Reading}
+use Rattle.wire_reading.specs.Packet.{PacketReading as Reading}
 use Rattle.list_entry.specs.Shape.{fields, raw, barred, shape_of}
 use Rattle.list_entry.specs.Option.{longest_body, Shaped, ValidOption, total}
 use Rattle.list_encoding.specs.Encoding.{given, decoded_list, encoded_list, Each as EachValid, Valid}

@@ -15,7 +15,7 @@ use Rattle.wire_options.specs.Walk.{Item}
 use Rattle.wire_datagram.specs.Reading.{reads, reading}
 use Rattle.wire_reading.specs.Reading.{is_odd}
 use Rattle.wire_reading.specs.declared.Verdict.TheVariants.{Read}
-use Rattle.wire_reading.specs.declared.Reading.{Reading}
+use Rattle.wire_reading.specs.Packet.{PacketReading as Reading}
 use Rattle.wire_datagram.proofs.Lists.{reading-fill}
 use Rattle.list_payload.specs.Payload.{wires, worked_all, list_of, padding, area_with, area_of, Datagram, size_of, datagram_with, udp_checksum_of, payload_of}
 

@@ -23,7 +23,7 @@ use Rattle.wire_area.specs.Area.{plain, area_of as area_walk}
 use Rattle.wire_surplus.specs.Surplus.{pad_of, start_of}
 use Rattle.wire_datagram.specs.Reading.{udp_length, udp_checksum, pseudo_header, accepted, reads, reading}
 use Rattle.wire_reading.specs.Reading.{payload_limit, is_odd, walked, started}
-use Rattle.wire_reading.specs.declared.Reading.{Reading}
+use Rattle.wire_reading.specs.Packet.{PacketReading as Reading}
 use Rattle.wire_datagram.proofs.Refusals.{Sized, sum_of, reading-accepted}
 use Rattle.list_payload.specs.Payload.{worked_all, standing, list_of, area_of, Datagram, size_of, front_of, datagram_with, udp_checksum_of, payload_of}
 use Rattle.list_payload.proofs.Wires.{Each, walk-wires}

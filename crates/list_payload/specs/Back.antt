@@ -8,7 +8,7 @@ use Rattle.wire_datagram.specs.Reading.{reads, reading}
 use Rattle.wire_reading.specs.declared.Apc.{Apc}
 use Rattle.wire_reading.specs.declared.Apc.TheVariants.{Absent, Right}
 use Rattle.wire_reading.specs.declared.Verdict.TheVariants.{Read}
-use Rattle.wire_reading.specs.declared.Reading.{Reading}
+use Rattle.wire_reading.specs.Packet.{PacketReading as Reading}
 use Rattle.list_encoding.specs.Encoding.{given, decoded_list}
 use Rattle.list_options.specs.Listing.{listing}
 use Rattle.list_payload.specs.Payload.{standing, worked_all}

@@ -11,7 +11,7 @@ use Rattle.std.proofs.Common.{Result, Ok, Err}
 use Rattle.number_octets.specs.Octets.{Octets}
 use Rattle.wire_nops.specs.declared.Strictness.{Strictness}
 use Rattle.wire_datagram.specs.Reading.{reads, reading, answer_of}
-use Rattle.wire_reading.specs.declared.Reading.{Reading}
+use Rattle.wire_reading.specs.Packet.{PacketReading as Reading}
 use Rattle.wire_datagram.specs.declared.reading.Refusal.{Refusal}
 use Rattle.list_options.specs.Listing.{ListedInto}
 use Rattle.list_writer.specs.Answer.{written, datagram_for, Wrote}

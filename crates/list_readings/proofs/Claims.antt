@@ -19,8 +19,8 @@ use Rattle.wire_reading.specs.Reading.{is_read}
 use Rattle.wire_original.specs.Rereading.{rereads, rereading}
 use Rattle.wire_reading.specs.declared.Verdict.{Verdict}
 use Rattle.wire_reading.specs.declared.Verdict.TheVariants.{Read}
-use Rattle.wire_reading.specs.declared.Reading.{Reading}
-use Rattle.wire_original.specs.declared.Rereading.{Rereading}
+use Rattle.wire_reading.specs.Packet.{PacketReading as Reading}
+use Rattle.wire_original.specs.Original.{OriginalReading as Rereading}
 use Rattle.wire_datagram.proofs.Lists.{reading-lists}
 use Rattle.wire_reading.proofs.Lists.{Lists, lists-part, read-verdict}
 use Rattle.wire_original.proofs.Lists.{rereading-lists}

@@ -1,7 +1,7 @@
 -- Demand 2's listing back: what `read` answers of what was written, and what `list_reading` answers and leaves of that.
 use Rattle.std.specs.Prelude.{◌≡◌, Result, Ok, List, ◌++◌, ℕ, ◌≤◌, length, drop}
 use Rattle.wire_options.specs.Walk.{Walked}
-use Rattle.wire_reading.specs.declared.Reading.{Reading}
+use Rattle.wire_reading.specs.Packet.{PacketReading as Reading}
 use Rattle.wire_datagram.specs.declared.reading.Refusal.{Refusal}
 use Rattle.list_encoding.specs.Encoding.{given}
 use Rattle.list_options.specs.Listing.{listed_answer, ListedInto}

@@ -11,7 +11,7 @@ use Rattle.number_octets.specs.Octets.{Octets}
 use Rattle.wire_nops.specs.declared.Strictness.TheVariants.{Plain}
 use Rattle.wire_options.specs.Walk.{walk_from, option_limit}
 use Rattle.wire_reading.specs.Extents.{bytes_in}
-use Rattle.wire_reading.specs.declared.Reading.{Reading}
+use Rattle.wire_reading.specs.Packet.{PacketReading as Reading}
 use Rattle.wire_datagram.proofs.Lists.{reading-lists}
 use Rattle.wire_reading.proofs.Lists.{lists-part}
 use Rattle.list_encoding.specs.Encoding.{given, decoded_list}

@@ -22,7 +22,7 @@ use Rattle.wire_datagram.specs.Reading.{Answer, refused, reads, reading}
 use Rattle.wire_reading.specs.Reading.{payload_limit, is_read}
 use Rattle.wire_reading.specs.Verdict.{fault_at}
 use Rattle.wire_reading.specs.declared.Extent.{Extent}
-use Rattle.wire_reading.specs.declared.Reading.{Reading}
+use Rattle.wire_reading.specs.Packet.{PacketReading as Reading}
 use Rattle.wire_reading.specs.declared.Verdict.{Verdict}
 use Rattle.wire_reading.specs.declared.Verdict.TheVariants.{Bare, Short, Pad, Unsummed, BadSum, Malformed, Unsafe, FragData, Crowded, Tail, Padded, Read, Piece}
 use Rattle.wire_datagram.proofs.Claims.{met-none}

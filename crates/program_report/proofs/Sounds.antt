@@ -12,7 +12,7 @@ use Rattle.wire_reading.specs.Extents.{size_of}
 use Rattle.wire_datagram.specs.Reading.{reads, reading}
 use Rattle.wire_reading.specs.Reading.{is_read}
 use Rattle.wire_reading.specs.declared.Extent.{Extent}
-use Rattle.wire_reading.specs.declared.Reading.{Reading}
+use Rattle.wire_reading.specs.Packet.{PacketReading as Reading}
 use Rattle.wire_datagram.proofs.Claims.{met-none, in-range, user-extent}
 use Rattle.wire_datagram.proofs.Lists.{reading-lists}
 use Rattle.wire_reading.proofs.Lists.{ListsIn, lists-part, read-verdict}

@@ -6,7 +6,7 @@ use Rattle.wire_reading.specs.Extents.{size_of, bytes_in}
 use Rattle.wire_datagram.specs.Reading.{Answer, refused, reads, reading}
 use Rattle.wire_reading.specs.Reading.{is_read}
 use Rattle.wire_reading.specs.declared.Extent.{Extent}
-use Rattle.wire_reading.specs.declared.Reading.{Reading}
+use Rattle.wire_reading.specs.Packet.{PacketReading as Reading}
 use Rattle.program_text.specs.Digits.{decimal_of}
 use Rattle.program_text.specs.Characters.{blank, newline}
 use Rattle.program_lines.specs.Lines.{option_lines}

@@ -4,7 +4,7 @@ use Rattle.wire_options.specs.Walk.{walk_from, option_limit}
 use Rattle.wire_reading.specs.Extents.{bytes_in}
 use Rattle.wire_reading.specs.Reading.{is_read}
 use Rattle.wire_reading.specs.declared.Extent.{Extent}
-use Rattle.wire_reading.specs.declared.Reading.{Reading}
+use Rattle.wire_reading.specs.Packet.{PacketReading as Reading}
 use Rattle.program_lines.specs.Lines.{is_listed}
 
 -- an extent of a payload whose bytes are a list of options without fault

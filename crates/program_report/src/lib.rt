@@ -21,7 +21,7 @@ pub fn report(payload: &[u8], source: [u8; 4], destination: [u8; 4], text: &mut 
 }
 
 // The options follow only where the verdict is "read".
-fn put_reading(payload: &[u8], reading: Reading, text: &mut [u8]) -> usize
+fn put_reading(payload: &[u8], reading: Reading<Extent>, text: &mut [u8]) -> usize
     requires { Sound payload.now reading }
     ensures { Put text.old 0 (reading_text payload.now reading) result text.new }
 {

@@ -6,7 +6,7 @@ use list_writer::Refusal;
 use std::io;
 use wire_datagram::reading;
 use wire_nops::Strictness;
-use wire_reading::Reading;
+use wire_reading::{Extent, Reading};
 
 const ROOM: usize = 128;
 
@@ -55,7 +55,7 @@ fn list(rt: &impl Print, payload: &[u8], source: [u8; 4], destination: [u8; 4]) 
 }
 
 // The reading as an encoded option list.
-fn list_back(rt: &impl Print, payload: &[u8], reading: Reading) -> io::Result<()> {
+fn list_back(rt: &impl Print, payload: &[u8], reading: Reading<Extent>) -> io::Result<()> {
     let mut buffer = [0u8; ROOM];
     match list_readings::list_reading(payload, reading, &mut buffer) {
         Ok(Listing { size, fill }) => show_list(rt, &buffer, size, fill),

@@ -7,7 +7,7 @@ use Rattle.wire_reading.specs.Verdict.{verdict_says}
 use Rattle.wire_datagram.specs.Reading as Reading
 use Rattle.wire_datagram.specs.Reading.{Answer, reading, refusal_number}
 use Rattle.wire_reading.specs.declared.Verdict.{Verdict}
-use Rattle.wire_reading.specs.declared.Reading.{Reading}
+use Rattle.wire_reading.specs.Packet.{PacketReading as Reading}
 use Rattle.wire_datagram.specs.declared.reading.Refusal.{Refusal}
 use Rattle.client_record.specs.declared.Client.{Client}
 use Rattle.client_reassembly.specs.declared.Arrival.{Arrival}

@@ -10,13 +10,13 @@ use client_record::{Client, Flow};
 use wire_datagram::reading;
 use wire_datagram::reading::Refusal;
 use wire_nops::Strictness;
-use wire_reading::{Reading, Verdict};
+use wire_reading::{Extent, Reading, Verdict};
 
 // What became of a datagram that the reader takes.
 #[derive(Clone, Copy)]
 pub enum Received {
     // A datagram of its own. Its user data is in the payload, where the reading says.
-    Datagram(Reading),
+    Datagram(Reading<Extent>),
     // A fragment, with what the table answered.
     Fragment(Result<Answer, client_reassembly::Refusal>),
 }

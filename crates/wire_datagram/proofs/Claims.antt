@@ -25,7 +25,7 @@ use Rattle.wire_reading.specs.Reading.{no_data, extent, optionless, walked, is_o
 use Rattle.wire_reading.specs.declared.Apc.TheVariants.{Absent}
 use Rattle.wire_reading.specs.declared.Verdict.{Verdict}
 use Rattle.wire_reading.specs.declared.Verdict.TheVariants.{Read, Piece}
-use Rattle.wire_reading.specs.declared.Reading.{Reading}
+use Rattle.wire_reading.specs.Packet.{PacketReading as Reading}
 use Rattle.wire_reading.proofs.Cases.{Other, started-by}
 use Rattle.wire_reading.proofs.Claims.{started-user}
 use Rattle.wire_datagram.specs.Reading.{udp_length, udp_checksum, refusal_tests, accepted, reads, answered, reading}

@@ -12,7 +12,7 @@ use Rattle.wire_area.specs.Area.{fault, area_of}
 use Rattle.wire_surplus.specs.Surplus.{start_of}
 use Rattle.std.specs.Prelude.{Ok}
 use Rattle.wire_reading.specs.Reading.{no_data, verdict_of, is_odd}
-use Rattle.wire_reading.specs.declared.Reading.{Reading}
+use Rattle.wire_reading.specs.Packet.{PacketReading as Reading}
 use Rattle.wire_reading.proofs.Faults.{fault_in, fault-named, started-fault}
 use Rattle.wire_datagram.specs.Reading.{udp_length, udp_checksum, accepted, reads, reading}
 use Rattle.wire_datagram.proofs.Claims.{met-none}

@@ -7,7 +7,7 @@ use Prim.Native.Nat.{ℕ}
 use Rattle.wire_nops.specs.declared.Strictness.{Strictness}
 use Rattle.wire_options.proofs.Rests.{Fills}
 use Rattle.wire_reading.specs.declared.Verdict.TheVariants.{Read, Piece}
-use Rattle.wire_reading.specs.declared.Reading.{Reading}
+use Rattle.wire_reading.specs.Packet.{PacketReading as Reading}
 use Rattle.wire_reading.proofs.Cases.{Other}
 use Rattle.wire_reading.proofs.Lists.{ListsIn, lists-fill, not-read}
 use Rattle.wire_datagram.specs.Reading.{reads, reading}

@@ -29,7 +29,7 @@ use Rattle.wire_area.proofs.Areas.{fragment-within, Leads}
 use Rattle.wire_area.proofs.Faults.{WalkFault, PieceFault, FragFault, AreaFault, area-cause}
 use Rattle.wire_reading.specs.Reading.{no_data, verdict_of}
 use Rattle.wire_reading.specs.Verdict.{fault_at}
-use Rattle.wire_reading.specs.declared.Reading.{Reading}
+use Rattle.wire_reading.specs.Packet.{PacketReading as Reading}
 use Rattle.wire_reading.specs.declared.Verdict.{Verdict}
 use Rattle.wire_reading.specs.declared.Verdict.TheVariants.{Bare, Short, Pad, Unsummed, BadSum, Malformed, Unsafe, FragData, Crowded, Tail, Padded, Read, Piece}
 use Rattle.wire_reading.proofs.Faults.{fault_in}

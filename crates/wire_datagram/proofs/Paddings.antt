@@ -15,7 +15,7 @@ use Rattle.wire_options.specs.declared.walk.Fault.TheVariants.{Padded as padded_
 use Rattle.wire_area.proofs.Paddings.{PaddingIn, PiecePadding, area-padded}
 use Rattle.wire_reading.specs.Reading.{no_data}
 use Rattle.wire_datagram.specs.Reading.{udp_length, reads, reading}
-use Rattle.wire_reading.specs.declared.Reading.{Reading}
+use Rattle.wire_reading.specs.Packet.{PacketReading as Reading}
 use Rattle.wire_reading.specs.declared.Verdict.TheVariants.{Padded}
 use Rattle.wire_datagram.proofs.Faults.{ListStarts, reading-fault}
 

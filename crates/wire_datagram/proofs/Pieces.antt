@@ -13,7 +13,7 @@ use Rattle.wire_area.proofs.Areas.{area-piece}
 use Rattle.wire_reading.specs.Reading.{no_data}
 use Rattle.wire_datagram.specs.Reading.{udp_length, reads, reading}
 use Rattle.wire_reading.specs.declared.Verdict.TheVariants.{Piece}
-use Rattle.wire_reading.specs.declared.Reading.{Reading}
+use Rattle.wire_reading.specs.Packet.{PacketReading as Reading}
 use Rattle.wire_reading.proofs.Cases.{Other}
 use Rattle.wire_datagram.proofs.Claims.{met-none, in-range, reading-by}
 

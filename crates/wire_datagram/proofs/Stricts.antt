@@ -13,7 +13,7 @@ use Rattle.wire_nops.specs.declared.Strictness.{Strictness}
 use Rattle.wire_nops.specs.declared.Strictness.TheVariants.{Plain}
 use Rattle.wire_surplus.specs.Surplus.{start_of}
 use Rattle.wire_reading.specs.Reading.{optionless, is_odd}
-use Rattle.wire_reading.specs.declared.Reading.{Reading}
+use Rattle.wire_reading.specs.Packet.{PacketReading as Reading}
 use Rattle.wire_reading.specs.declared.Verdict.TheVariants.{Padded}
 use Rattle.wire_reading.proofs.Stricts.{started-or-plain}
 use Rattle.wire_datagram.specs.Reading.{udp_length, udp_checksum, refusal_tests, accepted, answered, reads, reading}

@@ -13,7 +13,7 @@ use Rattle.wire_nops.specs.declared.Strictness.{Strictness}
 use Rattle.wire_area.specs.declared.Fragment.{Fragment}
 use Rattle.wire_reading.specs.Reading.{extent}
 use Rattle.wire_reading.specs.declared.Verdict.TheVariants.{Piece}
-use Rattle.wire_reading.specs.declared.Reading.{Reading}
+use Rattle.wire_reading.specs.Packet.{PacketReading as Reading}
 use Rattle.wire_reading.proofs.Cases.{Other}
 use Rattle.wire_reading.proofs.Pieces.{piece-empty}
 use Rattle.wire_datagram.specs.Reading.{udp_length, udp_checksum, accepted, reads, reading}

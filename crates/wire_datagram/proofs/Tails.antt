@@ -13,7 +13,7 @@ use Rattle.wire_options.specs.declared.walk.Fault.TheVariants.{Tail as tailed}
 use Rattle.wire_area.proofs.Tails.{TailIn, PieceTail, area-tail}
 use Rattle.wire_reading.specs.Reading.{no_data}
 use Rattle.wire_datagram.specs.Reading.{udp_length, reads, reading}
-use Rattle.wire_reading.specs.declared.Reading.{Reading}
+use Rattle.wire_reading.specs.Packet.{PacketReading as Reading}
 use Rattle.wire_reading.specs.declared.Verdict.TheVariants.{Tail}
 use Rattle.wire_datagram.proofs.Faults.{ListStarts, reading-fault}
 

@@ -2,7 +2,7 @@
 use Rattle.std.specs.Prelude.{Result, Ok, Err}
 use Rattle.wire_datagram.specs.declared.parts.Parts.{Parts}
 use Rattle.wire_datagram.specs.declared.reading.Refusal.{Refusal}
-use Rattle.wire_reading.specs.declared.Reading.{Reading}
+use Rattle.wire_reading.specs.Packet.{PacketReading as Reading}
 
 abbrev pub gathered : Parts → Reading
 gathered p = record {

@@ -8,7 +8,7 @@ use Rattle.number_checksum.specs.Checksum.{word_sum, folded, all_ones}
 use Rattle.wire_nops.specs.declared.Strictness.{Strictness}
 use Rattle.wire_surplus.specs.Surplus.{start_of}
 use Rattle.wire_reading.specs.Reading.{payload_limit, started, is_odd}
-use Rattle.wire_reading.specs.declared.Reading.{Reading}
+use Rattle.wire_reading.specs.Packet.{PacketReading as Reading}
 use Rattle.wire_datagram.specs.declared.reading.Refusal.{Refusal}
 use Rattle.wire_datagram.specs.declared.reading.Refusal.TheVariants.{PayloadTooShort, PayloadTooLong, LengthOutOfRange, ChecksumWrong}
 

@@ -19,10 +19,10 @@ pub struct Parts {
     pub verdict: Verdict,
 }
 
-impl From<Reading> for Parts {
+impl From<Reading<Extent>> for Parts {
     ghost from_gives = { λ reading parts. gathered parts ≡ reading };
 
-    fn from(reading: Reading) -> Parts {
+    fn from(reading: Reading<Extent>) -> Parts {
         Parts {
             user_from: reading.user.from,
             options_from: reading.options.from,
@@ -36,10 +36,10 @@ impl From<Reading> for Parts {
     }
 }
 
-impl From<Parts> for Reading {
+impl From<Parts> for Reading<Extent> {
     ghost from_gives = { λ parts reading. reading ≡ gathered parts };
 
-    fn from(parts: Parts) -> Reading {
+    fn from(parts: Parts) -> Reading<Extent> {
         Reading {
             user: Extent {
                 from: parts.user_from,
@@ -57,7 +57,7 @@ impl From<Parts> for Reading {
     }
 }
 
-pub fn outcome_of(examined: Result<Parts, Refusal>) -> Result<Reading, Refusal>
+pub fn outcome_of(examined: Result<Parts, Refusal>) -> Result<Reading<Extent>, Refusal>
     ensures { result ≡ outcome_of examined }
 {
     examined.map(Reading::from)

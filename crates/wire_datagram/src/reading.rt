@@ -8,7 +8,7 @@ use crate::parts;
 use crate::parts::Parts;
 use number_offsets::UDP_HEADER;
 use wire_nops::Strictness;
-use wire_reading::Reading;
+use wire_reading::{Extent, Reading};
 
 // An IPv4 packet of 65,535 bytes less its header.
 pub const PAYLOAD_LIMIT: usize = 65515;
@@ -44,7 +44,7 @@ pub fn read(
     source: [u8; 4],
     destination: [u8; 4],
     strictness: Strictness,
-) -> Result<Reading, Refusal>
+) -> Result<Reading<Extent>, Refusal>
     ensures { answer_of result ≡ reading strictness payload.now source destination }
 {
     parts::outcome_of(examine(payload, source, destination, strictness))

@@ -29,7 +29,7 @@ use Rattle.wire_reading.specs.Reading.{verdict_of}
 use Rattle.wire_reading.specs.declared.Verdict.TheVariants.{Tail, Padded}
 use Rattle.wire_reading.proofs.Faults.{fault_in, fault-named}
 use Rattle.wire_original.specs.Rereading.{original_limit, ReAnswer, refused, rereads, original_optionless, offset_for, rewalked, restarted, re_tests, re_answered, rereading}
-use Rattle.wire_original.specs.declared.Rereading.{Rereading}
+use Rattle.wire_original.specs.Original.{OriginalReading as Rereading}
 use Rattle.wire_original.proofs.Refusals.{re-accepted}
 
 -- an option list behind the option checksum at place `at` of the area, and what its walk comes to

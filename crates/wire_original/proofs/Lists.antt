@@ -24,7 +24,7 @@ use Rattle.wire_surplus.specs.declared.Unlisted.{Unlisted}
 use Rattle.wire_surplus.specs.declared.Unlisted.TheVariants.{Empty, Short as short_area, Pad as bad_pad, Unsummed as no_sum, BadSum as bad_sum}
 use Rattle.wire_reading.specs.declared.Verdict.{Verdict}
 use Rattle.wire_reading.specs.declared.Verdict.TheVariants.{Bare, Short, Pad, Unsummed, BadSum, Malformed, FragData, Crowded, Tail, Padded, Read}
-use Rattle.wire_original.specs.declared.Rereading.{Rereading}
+use Rattle.wire_original.specs.Original.{OriginalReading as Rereading}
 use Rattle.wire_surplus.proofs.Starts.{start-list}
 use Rattle.wire_options.proofs.Rests.{Fills}
 use Rattle.wire_reading.proofs.Lists.{Lists, lists-fill, not-read}

@@ -21,7 +21,7 @@ use Rattle.std.specs.Prelude.{Ok}
 use Rattle.wire_reading.specs.Reading.{is_odd, verdict_of}
 use Rattle.wire_reading.specs.declared.Verdict.TheVariants.{Read}
 use Rattle.wire_original.specs.Rereading.{rereads, rereading}
-use Rattle.wire_original.specs.declared.Rereading.{Rereading}
+use Rattle.wire_original.specs.Original.{OriginalReading as Rereading}
 use Rattle.wire_original.proofs.Causes.{rereading-fault}
 use Rattle.wire_original.proofs.Lists.{RelistsIn, rereading-lists}
 

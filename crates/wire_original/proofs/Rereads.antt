@@ -29,7 +29,7 @@ use Rattle.wire_surplus.specs.declared.Unlisted.{Unlisted}
 use Rattle.wire_reading.specs.declared.Apc.TheVariants.{Absent}
 use Rattle.wire_reading.specs.declared.Verdict.{Verdict}
 use Rattle.wire_reading.specs.declared.Verdict.TheVariants.{Malformed, FragData, Crowded, Tail, Padded, Read}
-use Rattle.wire_original.specs.declared.Rereading.{Rereading}
+use Rattle.wire_original.specs.Original.{OriginalReading as Rereading}
 
 -- nothing is reported of the area
 pub record Silent (x : Rereading) : Type 0 where

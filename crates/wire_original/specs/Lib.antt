@@ -1,2 +1,3 @@
+pub mod Original
 pub mod Rereading
 pub mod ByWalk

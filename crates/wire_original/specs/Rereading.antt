@@ -16,7 +16,7 @@ use Rattle.wire_reading.specs.declared.Apc.TheVariants.{Absent}
 use Rattle.wire_reading.specs.declared.Verdict.{Verdict}
 use Rattle.wire_reading.specs.declared.Verdict.TheVariants.{Malformed, FragData, Crowded, Tail, Padded, Read}
 use Rattle.wire_original.specs.declared.OriginalExtent.{OriginalExtent}
-use Rattle.wire_original.specs.declared.Rereading.{Rereading}
+use Rattle.wire_original.specs.Original.{OriginalReading as Rereading}
 use Rattle.wire_original.specs.declared.RereadRefusal.{RereadRefusal}
 use Rattle.wire_original.specs.declared.RereadRefusal.TheVariants.{OriginalTooLong, OptionStartPastEnd, UnsafeOption}
 

@@ -10,12 +10,12 @@ use number_offsets::OriginalOffset;
 use wire_nops::Strictness;
 use wire_options::walk;
 use wire_options::walk::{Fault, Met};
-use wire_reading::{Apc, Verdict};
+use wire_reading::{Apc, Reading, Span, Verdict};
 
 // The largest payload less a UDP header.
 pub const ORIGINAL_LIMIT: usize = 65507;
 
-// Bytes of an original, counted from its first user byte.
+// Bytes of an original, counted from its first user byte. A struct of its own, since calls that C can make take no generic struct.
 #[repr(C)]
 #[derive(Clone, Copy)]
 pub struct OriginalExtent {
@@ -23,16 +23,21 @@ pub struct OriginalExtent {
     pub to: OriginalOffset,
 }
 
-#[derive(Clone, Copy)]
-pub struct Rereading {
-    pub user: OriginalExtent,
-    pub verdict: Verdict,
-    // The option list with its fill. Empty, with no option, no fill and no APC, unless the verdict is `Read`.
-    pub options: OriginalExtent,
-    pub count: usize,
-    pub fill: usize,
-    pub apc: Apc,
+impl Span for OriginalExtent {
+    ghost from = { λ extent. extent.from.0 };
+
+    ghost to = { λ extent. extent.to.0 };
+
+    fn start(self) -> usize {
+        self.from.0
+    }
+
+    fn end(self) -> usize {
+        self.to.0
+    }
 }
+
+pub type Rereading = Reading<OriginalExtent>;
 
 #[derive(Clone, Copy)]
 pub enum RereadRefusal {

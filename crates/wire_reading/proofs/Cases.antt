@@ -18,7 +18,7 @@ use Rattle.wire_surplus.specs.declared.Unlisted.{Unlisted}
 use Rattle.wire_surplus.specs.declared.Unlisted.TheVariants.{Empty, Short as short_area, Pad as bad_pad, Unsummed as no_sum, BadSum as bad_sum}
 use Rattle.wire_surplus.proofs.Starts.{start-list}
 use Rattle.wire_reading.specs.Reading.{no_data, optionless, walked, started}
-use Rattle.wire_reading.specs.declared.Reading.{Reading}
+use Rattle.wire_reading.specs.Packet.{PacketReading as Reading}
 use Rattle.wire_reading.specs.declared.Verdict.{Verdict}
 use Rattle.wire_reading.specs.declared.Verdict.TheVariants.{Bare, Short, Pad, Unsummed, BadSum, Malformed, Unsafe, FragData, Crowded, Tail, Padded, Read, Piece}
 

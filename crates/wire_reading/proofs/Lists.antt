@@ -16,7 +16,7 @@ use Rattle.wire_options.proofs.Fills.{walk-fills}
 use Rattle.wire_reading.specs.Reading.{is_read}
 use Rattle.wire_reading.specs.declared.Verdict.{Verdict}
 use Rattle.wire_reading.specs.declared.Verdict.TheVariants.{Bare, Short, Pad, Unsummed, BadSum, Malformed, Unsafe, FragData, Crowded, Tail, Padded, Read, Piece}
-use Rattle.wire_reading.specs.declared.Reading.{Reading}
+use Rattle.wire_reading.specs.Packet.{PacketReading as Reading}
 
 -- what the bytes from `from` to `to` list
 pub record Lists (bytes : List ℕ) (from to count fill : ℕ) : Type 0 where

@@ -12,7 +12,7 @@ use Rattle.wire_reading.specs.Reading.{extent, optionless, verdict_of}
 use Rattle.wire_reading.specs.declared.Apc.{Apc}
 use Rattle.wire_reading.specs.declared.Apc.TheVariants.{Absent, Right, Wrong}
 use Rattle.wire_reading.specs.declared.Verdict.TheVariants.{Read, Piece}
-use Rattle.wire_reading.specs.declared.Reading.{Reading}
+use Rattle.wire_reading.specs.Packet.{PacketReading as Reading}
 
 -- APCs that differ from each other are not all right
 abbrev pub apc_by : List ℕ → Apcs → Apc

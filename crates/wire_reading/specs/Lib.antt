@@ -1,4 +1,5 @@
 pub mod Verdict
 pub mod Extents
+pub mod Packet
 pub mod Reading
 pub mod ByWalk

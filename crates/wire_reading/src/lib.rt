@@ -1,7 +1,7 @@
 // What a reading says: the user data's extent, the verdict on the surplus area, the options and what the APCs say.
 #![tactic(auto)]
 
-ghost use Rattle.std.specs.Prelude.{◌≡◌, ◌-◌, ◌≤◌, length, drop};
+ghost use Rattle.std.specs.Prelude.{◌≡◌, ℕ, ◌-◌, ◌≤◌, length, drop};
 ghost use Rattle.number_octets.specs.Octets.{part};
 ghost use Rattle.number_offsets.specs.Offsets.{udp_header};
 ghost use Rattle.wire_area.specs.Area.{area_of};
@@ -22,6 +22,33 @@ use wire_surplus::Unlisted;
 pub struct Extent {
     pub from: PacketOffset,
     pub to: PacketOffset,
+}
+
+// Bytes between two positions of one kind.
+pub trait Span: Copy {
+    ghost from: { Self → ℕ };
+
+    ghost to: { Self → ℕ };
+
+    fn start(self) -> usize
+        ensures { result ≡ from self };
+
+    fn end(self) -> usize
+        ensures { result ≡ to self };
+}
+
+impl Span for Extent {
+    ghost from = { λ extent. extent.from.0 };
+
+    ghost to = { λ extent. extent.to.0 };
+
+    fn start(self) -> usize {
+        self.from.0
+    }
+
+    fn end(self) -> usize {
+        self.to.0
+    }
 }
 
 // What the APC options say of the user data: none there, all right, or one that differs.
@@ -118,20 +145,21 @@ impl From<Verdict> for u32 {
     }
 }
 
+// A reading of a packet or of an original: an `E` is bytes of the one or the other.
 #[derive(Clone, Copy)]
-pub struct Reading {
+pub struct Reading<E> {
     // The user data. It is to be delivered with every verdict but `Piece`.
-    pub user: Extent,
+    pub user: E,
     pub verdict: Verdict,
     // The option list with its fill. Empty, with no option, no fill and no APC, unless the verdict is `Read`.
-    pub options: Extent,
+    pub options: E,
     pub count: usize,
     pub fill: usize,
     pub apc: Apc,
 }
 
 // The reading of a payload that no refusal meets. `unused`: the UDP checksum is zero. Most payloads have no surplus area, and none is started.
-pub fn accept(payload: &[u8], size: usize, unused: bool, strictness: Strictness) -> Reading
+pub fn accept(payload: &[u8], size: usize, unused: bool, strictness: Strictness) -> Reading<Extent>
     requires { (udp_header ≤ size) × (size ≤ length payload.now) × (length payload.now ≤ payload_limit) }
     ensures { result ≡ started strictness payload.now size (start_of (is_odd size) unused (drop size payload.now)) }
 {
@@ -145,7 +173,12 @@ pub fn accept(payload: &[u8], size: usize, unused: bool, strictness: Strictness)
 }
 
 // The reading whose option list starts at `from`.
-fn listed(payload: &[u8], size: usize, from: PacketOffset, strictness: Strictness) -> Reading
+fn listed(
+    payload: &[u8],
+    size: usize,
+    from: PacketOffset,
+    strictness: Strictness,
+) -> Reading<Extent>
     requires { (udp_header ≤ size) × (size ≤ from.0) × (from.0 ≤ length payload.now) }
     ensures { result ≡ walked payload.now size from.0 (area_of strictness (no_data size) from.0 (drop from.0 payload.now)) }
 {
@@ -196,7 +229,7 @@ pub fn is_read(verdict: Verdict) -> bool
 }
 
 // A reading that reports no option.
-fn optionless(size: usize, verdict: Verdict) -> Reading
+fn optionless(size: usize, verdict: Verdict) -> Reading<Extent>
     ensures { result ≡ optionless size verdict }
 {
     Reading {

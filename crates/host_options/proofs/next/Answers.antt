@@ -1,22 +1,12 @@
 -- `host_options::next` meets its contract: the code tests what the definition does, and what is found ends within the payload.
-use mathlib.Core.Path.{◌≡◌, sym, ap, ◌∙◌}
-use mathlib.Core.Bool.{Bool}
-use mathlib.Core.List.{List}
-use Prim.Native.Nat.{ℕ}
+use mathlib.Core.Path.{sym, ap, ◌∙◌}
 use native.Mathlib.Omega.{arith}
 use lib.ListN.{length}
-use Rattle.wire_reading.specs.declared.Verdict.{Verdict}
-use Rattle.list_readings.specs.Catalogue.{is_listed}
 use Rattle.list_readings.proofs.Values.{extent-inside}
-use Rattle.host_readings.specs.Listable.{verdict_for}
 use Rattle.host_options.specs.Options.{packet_option, next_in}
 use Rattle.host_options.proofs.Fits.{part-fits}
+use Rattle.host_options.proofs.Tested.{tested}
 use Rattle.host_options.proofs.next.Goals as goal
-
--- the test is the definition's
-tested : (bytes : List ℕ) (number from to : ℕ) {verdict : Verdict} {test answer : Bool} → verdict ≡ verdict_for number
-    → test ≡ is_listed verdict from to (length bytes) → test ≡ answer → is_listed (verdict_for number) from to (length bytes) ≡ answer
-tested bytes number from to of says is = ap (λ (v : Verdict). is_listed v from to (length bytes)) (sym of) ∙ sym says ∙ is
 
 pub slice_bounds-next_option-count : goal.slice_bounds-next_option-count
 slice_bounds-next_option-count c = let a = c.args in

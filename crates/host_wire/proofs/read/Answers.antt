@@ -4,7 +4,7 @@ use Rattle.std.proofs.Common.{Result}
 use Rattle.wire_nops.specs.declared.Strictness.{Strictness}
 use Rattle.wire_datagram.specs.Reading.{reading, answer_of}
 use Rattle.wire_datagram.specs.declared.reading.Refusal.{Refusal}
-use Rattle.wire_reading.specs.declared.Reading.{Reading}
+use Rattle.wire_reading.specs.Packet.{PacketReading as Reading}
 use Rattle.host_readings.specs.Reading.{host_reading}
 use Rattle.host_wire.proofs.read.Goals as goal
 
