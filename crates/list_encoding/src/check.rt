@@ -78,7 +78,7 @@ fn whole(body: usize, next: usize) -> Measured
 }
 
 // The bytes that the fields of a kind take on the wire.
-fn fields_length(kind: u8) -> usize
+pub fn fields_length(kind: u8) -> usize
     ensures { result ≡ fields_on_wire kind }
 {
     match kind {

@@ -11,11 +11,15 @@ use Rattle.std.specs.Result.{result_ok}
 use Rattle.number_varint.specs.Answer.{found, decoding_of, decoded_at}
 use Rattle.number_varint.specs.declared.Decoded.{Decoded}
 use Rattle.number_varint.specs.declared.Undecoded.{Undecoded}
-use Rattle.list_entry.specs.Option.{refused, failed, unreadable, read_number}
-use Rattle.list_entry.specs.Answer.{field_answer, number_at}
+use Rattle.list_entry.specs.Option.{Answer, refused, failed, unreadable, read_number}
+use Rattle.list_entry.specs.Answer.{Spelled, field_answer, refusal_number, number_at}
 use Rattle.list_entry.specs.declared.Refusal.{Refusal}
 use Rattle.list_entry.specs.declared.Refusal.TheVariants.{Unreadable}
 use Rattle.list_entry.proofs.Places.{ValueAt, value_there, none-there, decoded-none}
+
+-- what the entry's answer is for a refusal
+abbrev pub refusal_told : Refusal → Answer Spelled
+refusal_told refusal = refused (refusal_number refusal)
 
 -- no number, and so the list is refused as unreadable
 pub record NoneAt (limit : ℕ) (s : List ℕ) (at : ℕ) (refusal : Refusal) : Type 0 where

@@ -72,6 +72,24 @@ none-there limit s at e = go (read_number limit (drop at s)) refl e
     go (failed n) p q = p ∙ ap failed (failed-seven limit (drop at s) n p)
     go (got v rest) p q = absurd (let z : ◌≡◌ {A = ℕ} 0 1 = cc in omega arith)
 
+pub refused-there : (limit : ℕ) (s : List ℕ) (at n : ℕ) → number_at limit s at ≡ refused n → read_number limit (drop at s) ≡ failed n
+unfolding number_at
+refused-there limit s at n e = go (read_number limit (drop at s)) refl e
+  where
+    go : (t : Read ℕ) → read_number limit (drop at s) ≡ t → field_before (length s) t ≡ refused n → read_number limit (drop at s) ≡ failed n
+    go (failed m) p q = let same : m ≡ n = cc in p ∙ ap failed same
+    go (got v rest) p q = absurd (let z : ◌≡◌ {A = ℕ} 0 1 = cc in omega arith)
+
+-- and the other way
+pub value-here : {limit : ℕ} {s : List ℕ} {at value next : ℕ} → ValueAt limit s at value next → number_at limit s at ≡ given (located value next)
+unfolding number_at
+value-here {limit} {s} {at} {value} {next} v =
+    ap (field_before (length s)) v.reads ∙ ap (λ (n : ℕ). given (located value n)) (place_of s next v.within)
+
+pub none-here : (limit : ℕ) (s : List ℕ) (at : ℕ) → read_number limit (drop at s) ≡ failed unreadable → number_at limit s at ≡ refused unreadable
+unfolding number_at
+none-here limit s at e = ap (field_before (length s)) e
+
 -- ---- what `number_varint::decode` answers
 
 module _ (limit : ℕ) (s : List ℕ) (at : ℕ) where

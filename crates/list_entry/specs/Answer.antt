@@ -7,6 +7,7 @@ use Rattle.list_entry.specs.Shape.{Shape, fields, raw, barred, shape_of}
 use Rattle.list_entry.specs.Option.{Answer, given, refused, unreadable, forbidden, Read, got, failed, and_then, read_as, read_number, read_option}
 use Rattle.list_entry.specs.declared.Entry.{Entry}
 use Rattle.list_entry.specs.declared.Entry.TheVariants.{Fields, Body}
+use Rattle.list_entry.specs.declared.Field.{Field}
 use Rattle.list_entry.specs.declared.Refusal.{Refusal}
 use Rattle.list_entry.specs.declared.Refusal.TheVariants.{Unreadable, Forbidden}
 
@@ -73,6 +74,11 @@ pub data Located : Type 0 where
 abbrev pub field_answer : Option Decoded → Answer Located
 field_answer (Some number) = given (located number.value number.next)
 field_answer None = refused unreadable
+
+-- The numbers of document 01 for what `field_at` answers.
+abbrev pub value_answer : Result Field Refusal → Answer Located
+value_answer (Ok field) = given (located field.value field.next)
+value_answer (Err refusal) = refused (refusal_number refusal)
 
 -- The number below a limit that stands at a position.
 abbrev pub field_before : ℕ → Read ℕ → Answer Located

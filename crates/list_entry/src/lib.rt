@@ -1,10 +1,10 @@
 // One option of an encoded option list.
 #![tactic(auto)]
 
-ghost use Rattle.std.specs.Prelude.{◌≡◌, ◌≤◌, length, drop};
+ghost use Rattle.std.specs.Prelude.{◌≡◌, ◌+◌, ◌≤◌, length, drop};
 ghost use Rattle.list_entry.specs.Shape.{raw, shape_of};
 ghost use Rattle.list_entry.specs.Option.{read_kind};
-ghost use Rattle.list_entry.specs.Answer.{entry_answer, entry_at, field_answer, number_at, spelled_before, fields_before, read_one, read_behind, read_two};
+ghost use Rattle.list_entry.specs.Answer.{entry_answer, entry_at, field_answer, value_answer, number_at, spelled_before, fields_before, read_one, read_two};
 
 use number_varint::Decoded;
 
@@ -33,16 +33,24 @@ pub enum Refusal {
     Forbidden,
 }
 
+// A field of an option, and where what follows it stands.
+#[derive(Clone, Copy)]
+struct Field {
+    value: u32,
+    next: usize,
+}
+
 // Numbers that stand for something stay below these.
 const KINDS: u64 = 256;
 
-const BITS_8: u64 = 0x100;
-
-const BITS_16: u64 = 0x1_0000;
-
-const BITS_32: u64 = 0x1_0000_0000;
-
 const BODIES: u64 = 65_532;
+
+// The largest numbers that fields of so many bits hold.
+const BITS_8: u32 = 0xFF;
+
+const BITS_16: u32 = 0xFFFF;
+
+const BITS_32: u32 = 0xFFFF_FFFF;
 
 // The option that stands at `at`.
 pub fn entry_at(list: &[u8], at: usize) -> Result<Entry, Refusal>
@@ -85,41 +93,43 @@ fn kind_at(list: &[u8], at: usize, kind: u8) -> Result<Entry, Refusal>
     }
 }
 
-// An option of one field.
-fn one_field(list: &[u8], at: usize, kind: u8, limit: u64) -> Result<Entry, Refusal>
-    requires { limit ≤ 4294967296 }
-    ensures { entry_answer result ≡ fields_before (length list.now) kind (read_one limit (drop at list.now)) }
+// The field of at most `largest` that stands at `at`.
+fn field_at(list: &[u8], at: usize, largest: u32) -> Result<Field, Refusal>
+    ensures { value_answer result ≡ number_at (largest + 1) list.now at }
 {
-    let number = number_at(list, at, limit).ok_or(Refusal::Unreadable)?;
-    Ok(Entry::Fields {
-        kind,
-        first: number.value as u32,
-        second: 0,
+    let number = number_at(list, at, u64::from(largest) + 1).ok_or(Refusal::Unreadable)?;
+    Ok(Field {
+        value: number.value as u32,
         next: number.next,
     })
 }
 
-// An option of two fields.
-fn two_fields(list: &[u8], at: usize, kind: u8, limit: u64, second: u64) -> Result<Entry, Refusal>
-    requires { (limit ≤ 4294967296) × (second ≤ 4294967296) }
+// An option of one field.
+fn one_field(list: &[u8], at: usize, kind: u8, largest: u32) -> Result<Entry, Refusal>
     ensures { entry_answer result
-        ≡ fields_before (length list.now) kind (read_two limit second (drop at list.now)) }
+        ≡ fields_before (length list.now) kind (read_one (largest + 1) (drop at list.now)) }
 {
-    let number = number_at(list, at, limit).ok_or(Refusal::Unreadable)?;
-    second_field(list, number.next, kind, number.value as u32, second)
-}
-
-// The second field, behind one of value `first`.
-fn second_field(list: &[u8], at: usize, kind: u8, first: u32, limit: u64) -> Result<Entry, Refusal>
-    requires { limit ≤ 4294967296 }
-    ensures { entry_answer result ≡ fields_before (length list.now) kind (read_behind first limit (drop at list.now)) }
-{
-    let number = number_at(list, at, limit).ok_or(Refusal::Unreadable)?;
+    let field = field_at(list, at, largest)?;
     Ok(Entry::Fields {
         kind,
-        first,
-        second: number.value as u32,
-        next: number.next,
+        first: field.value,
+        second: 0,
+        next: field.next,
+    })
+}
+
+// An option of two fields, the first of at most `largest`, and the second of at most `other`.
+fn two_fields(list: &[u8], at: usize, kind: u8, largest: u32, other: u32) -> Result<Entry, Refusal>
+    ensures { entry_answer result
+        ≡ fields_before (length list.now) kind (read_two (largest + 1) (other + 1) (drop at list.now)) }
+{
+    let first = field_at(list, at, largest)?;
+    let second = field_at(list, first.next, other)?;
+    Ok(Entry::Fields {
+        kind,
+        first: first.value,
+        second: second.value,
+        next: second.next,
     })
 }
 

@@ -2,11 +2,12 @@
 #![tactic(auto)]
 
 ghost use Rattle.std.specs.Prelude.{◌≡◌, ◌+◌, ◌≤◌, length, drop};
-ghost use Rattle.number_octets.specs.Octets.{overlay};
+ghost use Rattle.number_octets.specs.Octets.{Octets, overlay};
 ghost use Rattle.number_varint.specs.SevenBit.{encoded};
 ghost use Rattle.wire_nops.specs.Nops.{nops_of};
 ghost use Rattle.wire_step.specs.Kinds.{frag};
 ghost use Rattle.wire_step.specs.Step.{step_of};
+ghost use Rattle.wire_step.specs.declared.Step.TheVariants.{Found};
 ghost use Rattle.wire_options.specs.Walk.{item_of, walk_from, option_limit, items_of};
 ghost use Rattle.list_entry.specs.Option.{encoded_option};
 ghost use Rattle.list_encoding.specs.Encoding.{encoded_options};
@@ -32,6 +33,18 @@ enum Content {
     One(u64),
     Two(u64, u64),
     Raw { start: usize, size: usize },
+}
+
+// An option that was met: the bytes that start with it on the wire, and what its header says. It is no FRAG, since lists have none.
+#[derive(Clone, Copy)]
+struct Met<'a> {
+    rest: &'a [u8],
+    kind: u8,
+    header: usize,
+    size: usize,
+    ghost stands: { step_of rest.now ≡ Found kind header size },
+    ghost listed: { kind ≡ frag → ⊥ },
+    ghost bytes: { Octets rest.now },
 }
 
 // Lists the options that stand in `options` as on the wire; none where they are faulty.
@@ -77,7 +90,13 @@ fn options_size(options: &[u8]) -> usize
         match met {
             Step::Nop => at = behind_nops(options, at),
             Step::Found { kind, header, size } => {
-                total += option_size(&options[at..], kind, header, size);
+                let option = Met {
+                    rest: &options[at..],
+                    kind,
+                    header,
+                    size,
+                };
+                total += option.encoded_size();
                 at += size;
             }
             _ => return total,
@@ -100,7 +119,13 @@ fn put_options(options: &[u8], buffer: &mut [u8], start: usize)
         match met {
             Step::Nop => at = behind_nops(options, at),
             Step::Found { kind, header, size } => {
-                out = put_option(&options[at..], kind, header, size, buffer, out);
+                let option = Met {
+                    rest: &options[at..],
+                    kind,
+                    header,
+                    size,
+                };
+                out = option.put(buffer, out);
                 at += size;
             }
             _ => return,
@@ -116,55 +141,46 @@ fn behind_nops(options: &[u8], at: usize) -> usize
     at + wire_nops::leading_nops(&options[at..])
 }
 
-// How many bytes one option is when encoded.
-fn option_size(rest: &[u8], kind: u8, header: usize, size: usize) -> usize
-    requires { (step_of rest.now ≡ Step.Found kind header size) × (kind ≡ frag → ⊥) }
-    ensures { result ≡ length (encoded_option (unworked (item_of kind header size rest.now))) }
-{
-    number_varint::encoded_length(kind as u64)
-        + content_size(rest, content_of(rest, kind, header, size))
-}
+impl Met<'_> {
+    // How many bytes the option is when encoded.
+    fn encoded_size(&self) -> usize
+        ensures { result ≡ length (encoded_option (unworked (item_of self.now.kind self.now.header self.now.size self.now.rest.now))) }
+    {
+        number_varint::encoded_length(self.kind as u64) + content_size(self.rest, self.content())
+    }
 
-// Writes one option, encoded, from `at`.
-fn put_option(
-    rest: &[u8],
-    kind: u8,
-    header: usize,
-    size: usize,
-    buffer: &mut [u8],
-    at: usize,
-) -> usize
-    requires { (step_of rest.now ≡ Step.Found kind header size) × (kind ≡ frag → ⊥)
-        × (at + length (encoded_option (unworked (item_of kind header size rest.now))) ≤ length buffer.old) }
-    ensures { WrittenAt (encoded_option (unworked (item_of kind header size rest.now))) buffer.old at result
-        buffer.new }
-{
-    let content = content_of(rest, kind, header, size);
-    let next = put(kind as u64, buffer, at);
-    put_content(rest, content, buffer, next)
-}
+    // Writes the option, encoded, from `at`.
+    fn put(&self, buffer: &mut [u8], at: usize) -> usize
+        requires { at + length (encoded_option (unworked (item_of self.now.kind self.now.header self.now.size self.now.rest.now))) ≤ length buffer.old }
+        ensures { WrittenAt (encoded_option (unworked (item_of self.now.kind self.now.header self.now.size self.now.rest.now))) buffer.old at
+            result buffer.new }
+    {
+        let content = self.content();
+        let next = put(self.kind as u64, buffer, at);
+        put_content(self.rest, content, buffer, next)
+    }
 
-// What an option has behind its kind, from the bytes that start with it on the wire.
-fn content_of(rest: &[u8], kind: u8, header: usize, size: usize) -> Content
-    requires { (step_of rest.now ≡ Step.Found kind header size) × (kind ≡ frag → ⊥) }
-    ensures { ContentOf rest.now (item_of kind header size rest.now) result }
-{
-    match kind {
-        2 => Content::Bare,
-        4 => Content::One(number_octets::get_u16(rest, header) as u64),
-        5 => Content::Two(
-            number_octets::get_u16(rest, header) as u64,
-            rest[header + 2] as u64,
-        ),
-        6 | 7 => Content::One(number_octets::get_u32(rest, header) as u64),
-        8 => Content::Two(
-            number_octets::get_u32(rest, header) as u64,
-            number_octets::get_u32(rest, header + 4) as u64,
-        ),
-        _ => Content::Raw {
-            start: header,
-            size: size - header,
-        },
+    // What the option has behind its kind.
+    fn content(&self) -> Content
+        ensures { ContentOf self.now.rest.now (item_of self.now.kind self.now.header self.now.size self.now.rest.now) result }
+    {
+        match self.kind {
+            2 => Content::Bare,
+            4 => Content::One(number_octets::get_u16(self.rest, self.header) as u64),
+            5 => Content::Two(
+                number_octets::get_u16(self.rest, self.header) as u64,
+                self.rest[self.header + 2] as u64,
+            ),
+            6 | 7 => Content::One(number_octets::get_u32(self.rest, self.header) as u64),
+            8 => Content::Two(
+                number_octets::get_u32(self.rest, self.header) as u64,
+                number_octets::get_u32(self.rest, self.header + 4) as u64,
+            ),
+            _ => Content::Raw {
+                start: self.header,
+                size: self.size - self.header,
+            },
+        }
     }
 }
 

@@ -1,2 +1,3 @@
 -- `Answer` says what the writer answers and leaves.
 pub mod Answer
+pub mod Plain

@@ -4,13 +4,16 @@
 ghost use Rattle.std.specs.Prelude.{◌≡◌, ◌++◌, ◌+◌, ◌%◌, ◌≤◌, length};
 ghost use Rattle.list_entry.specs.Answer.{refusal_number as list_refusal_number};
 ghost use Rattle.list_writer.specs.Answer.{Wrote, fits, written, datagram_for, refusal_number};
-ghost use Rattle.list_wire.specs.Parts.{Laid, plainly, payload_from};
+ghost use Rattle.list_wire.specs.Parts.{Laid, payload_from};
+ghost use Rattle.list_writer.specs.Plain.{plain};
 
 use list_encoding::check;
 use number_offsets::UDP_HEADER;
 use wire_datagram::reading::PAYLOAD_LIMIT;
 
 mod header;
+
+use header::Datagram;
 
 // Why a payload can't be written: its list can't be taken, or it is too large.
 #[derive(Clone, Copy)]
@@ -50,16 +53,14 @@ pub fn write(
 {
     let options = check::check(list)?;
     if fits(data.len(), options.size, fill, buffer.len()) {
-        return Ok(put_payload(
+        let datagram = Datagram {
             source,
             destination,
             source_port,
             destination_port,
             data,
-            list,
-            fill,
-            buffer,
-        ));
+        };
+        return Ok(put_payload(&datagram, list, fill, buffer));
     }
     Err(Refusal::TooLarge)
 }
@@ -82,33 +83,15 @@ fn fits(data: usize, options: usize, fill: u8, room: usize) -> bool
 }
 
 // A payload that fits, with the options of a list that can be read. The answer is its length.
-fn put_payload(
-    source: [u8; 4],
-    destination: [u8; 4],
-    source_port: u16,
-    destination_port: u16,
-    data: &[u8],
-    list: &[u8],
-    fill: u8,
-    buffer: &mut [u8],
-) -> usize
-    requires { (length (payload_from (plainly source destination source_port destination_port «data».now) list.now fill) ≤ 65535)
-        × (length (payload_from (plainly source destination source_port destination_port «data».now) list.now fill) ≤ length buffer.old) }
-    ensures { Laid buffer.old 0
-        (payload_from (plainly source destination source_port destination_port «data».now) list.now fill)
-        buffer.new result }
+fn put_payload(datagram: &Datagram, list: &[u8], fill: u8, buffer: &mut [u8]) -> usize
+    requires { (length (payload_from (plain datagram.now) list.now fill) ≤ 65535)
+        × (length (payload_from (plain datagram.now) list.now fill) ≤ length buffer.old) }
+    ensures { Laid buffer.old 0 (payload_from (plain datagram.now) list.now fill) buffer.new result }
 {
-    let crc = list_wire::apc::crc_for(list, data);
-    let size = UDP_HEADER + data.len();
+    let crc = list_wire::apc::crc_for(list, datagram.data);
+    let size = UDP_HEADER + datagram.data.len();
     let end = list_area::put_blank(list, crc, fill, buffer, size);
-    header::put_datagram(
-        source,
-        destination,
-        source_port,
-        destination_port,
-        data,
-        buffer,
-    );
+    datagram.put(buffer);
     list_area::put_ocs(buffer, size, end);
     end
 }

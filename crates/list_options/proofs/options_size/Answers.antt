@@ -6,7 +6,7 @@ use Prim.Native.Nat.{ℕ, ◌+◌, ◌-◌}
 use native.Mathlib.Omega.{arith}
 use lib.ListN.{length, drop, length-append}
 use Rattle.number_octets.specs.Octets.{part}
-use Rattle.number_octets.proofs.Laws.{part-rest}
+use Rattle.number_octets.proofs.Laws.{part-rest, part_bytes}
 use Rattle.wire_step.specs.Step.{step_of}
 use Rattle.wire_options.specs.Walk.{Located, item_of, walk_from, option_limit, options_of}
 use Rattle.wire_options.proofs.Runs.{run-some}
@@ -48,15 +48,17 @@ loop-at-preserved-in-Nop c = let i = c.loop-at.invariant.1 in (
   record { options = i.options; rest = rw c.behind_nops-at.ensures.0 (rest-nops i.rest); sum = i.sum },
 )
 
-pub option_size-total-requires : goal.option_size-total-requires
-option_size-total-requires c =
-    let i = c.loop-at.invariant.1 in
-    (sym c.next-met.ensures ∙ c.in-Found.is, (taken i.rest c.loop-at-test.true c.next-met.ensures c.in-Found.is).other)
+pub invariant_of-option : goal.invariant_of-option
+invariant_of-option c = record {
+  stands = sym c.next-met.ensures ∙ c.in-Found.is;
+  listed = (taken c.loop-at.invariant.1.rest c.loop-at-test.true c.next-met.ensures c.in-Found.is).other;
+  bytes = part_bytes c.loop-at.at _ c.args.options.now (λ i. omega (arith, c.type_inv.options i));
+}
 
 pub overflow_add-total : goal.overflow_add-total
 overflow_add-total c =
     let t = taken c.loop-at.invariant.1.rest c.loop-at-test.true c.next-met.ensures c.in-Found.is in
-    omega (arith, counted c.loop-at.invariant.1 t c.option_size-total.ensures, walk-short c.args.options.now (λ i. omega (arith, c.type_inv.options i)))
+    omega (arith, counted c.loop-at.invariant.1 t c.encoded_size-total.ensures, walk-short c.args.options.now (λ i. omega (arith, c.type_inv.options i)))
 
 pub overflow_add-at : goal.overflow_add-at
 overflow_add-at c = let t = taken c.loop-at.invariant.1.rest c.loop-at-test.true c.next-met.ensures c.in-Found.is in omega (arith, t.some, t.fits)
@@ -67,7 +69,7 @@ loop-at-smaller c = let t = taken c.loop-at.invariant.1.rest c.loop-at-test.true
 pub loop-at-preserved : goal.loop-at-preserved
 loop-at-preserved c =
     let t = taken c.loop-at.invariant.1.rest c.loop-at-test.true c.next-met.ensures c.in-Found.is in
-    (t.fits, record { options = t.later; rest = t.rest; sum = counted c.loop-at.invariant.1 t c.option_size-total.ensures })
+    (t.fits, record { options = t.later; rest = t.rest; sum = counted c.loop-at.invariant.1 t c.encoded_size-total.ensures })
 
 pub returns-in_default : goal.returns-in_default
 returns-in_default c = let i = c.loop-at.invariant.1 in

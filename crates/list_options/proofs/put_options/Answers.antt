@@ -6,7 +6,7 @@ use Prim.Native.Nat.{ℕ, ◌+◌, ◌≤◌}
 use native.Mathlib.Omega.{arith}
 use lib.ListN.{length, drop, length-append}
 use Rattle.number_octets.specs.Octets.{overlay}
-use Rattle.number_octets.proofs.Laws.{part-rest}
+use Rattle.number_octets.proofs.Laws.{part-rest, part_bytes}
 use Rattle.wire_step.specs.Step.{step_of}
 use Rattle.wire_options.specs.Walk.{item_of, walk_from, option_limit, options_of}
 use Rattle.wire_options.proofs.Runs.{run-some}
@@ -85,14 +85,18 @@ loop-at-preserved-in-Nop c = let i = c.loop-at.invariant.1 in (
   },
 )
 
-pub put_option-out-requires : goal.put_option-out-requires
-put_option-out-requires c =
+pub invariant_of-option : goal.invariant_of-option
+invariant_of-option c = record {
+  stands = sym c.next-met.ensures ∙ c.in-Found.is;
+  listed = (taken c.loop-at.invariant.1.rest c.loop-at-test.true c.next-met.ensures c.in-Found.is).other;
+  bytes = part_bytes c.loop-at.at _ c.args.options.now (λ i. omega (arith, c.type_inv.options i));
+}
+
+pub put-out-requires : goal.put-out-requires
+put-out-requires c =
     let t = taken c.loop-at.invariant.1.rest c.loop-at-test.true c.next-met.ensures c.in-Found.is in
     rw (part-rest c.loop-at.at c.args.options.now) (
-      sym (c.next-met.ensures ∙ ap step_of (part-rest c.loop-at.at c.args.options.now)) ∙ c.in-Found.is,
-      t.other,
-      room c.args.options.now c.args.buffer.now c.args.start c.loop-at.at c.loop-at.out c.loop-at.buffer c.loop-at.invariant.1 c.requires.1 c.in-Found.kind c.in-Found.header c.in-Found.size t,
-    )
+    room c.args.options.now c.args.buffer.now c.args.start c.loop-at.at c.loop-at.out c.loop-at.buffer c.loop-at.invariant.1 c.requires.1 c.in-Found.kind c.in-Found.header c.in-Found.size t)
 
 pub overflow_add-at : goal.overflow_add-at
 overflow_add-at c = let t = taken c.loop-at.invariant.1.rest c.loop-at-test.true c.next-met.ensures c.in-Found.is in omega (arith, t.some, t.fits)
@@ -103,7 +107,7 @@ loop-at-smaller c = let t = taken c.loop-at.invariant.1.rest c.loop-at-test.true
 pub loop-at-preserved : goal.loop-at-preserved
 loop-at-preserved c =
     let t = taken c.loop-at.invariant.1.rest c.loop-at-test.true c.next-met.ensures c.in-Found.is in
-    let put = rw (part-rest c.loop-at.at c.args.options.now) at c.put_option-out.ensures in
+    let put = rw (part-rest c.loop-at.at c.args.options.now) at c.put-out.ensures in
     (t.fits, put-more c.args.options.now c.args.buffer.now c.args.start c.loop-at.at c.loop-at.out c.loop-at.buffer c.loop-at.invariant.1 c.requires.1 c.in-Found.kind c.in-Found.header c.in-Found.size t put)
 
 pub returns-in_default : goal.returns-in_default

@@ -11,7 +11,8 @@ use Rattle.number_offsets.specs.Offsets.{udp_header}
 use Rattle.number_crc32c.specs.Crc.{crc_of}
 use Rattle.wire_reading.specs.Reading.{is_odd}
 use Rattle.list_payload.specs.Payload.{Datagram, size_of, area_of, udp_checksum_of}
-use Rattle.list_wire.specs.Parts.{plainly, summed, wires_listed, listed_bytes, payload_from}
+use Rattle.list_writer.specs.Plain.{plain}
+use Rattle.list_wire.specs.Parts.{summed, wires_listed, listed_bytes, payload_from}
 use Rattle.list_wire.proofs.Laying.{laid_as, laid-length}
 use Rattle.list_area.proofs.Blanks.{area-size, blank-size, laid-under, payload-summed}
 use Rattle.list_writer.proofs.Datagrams.{datagram-size}
@@ -42,26 +43,26 @@ blank-room d list fill crc e =
     )
 
 pub put_blank-end-requires : goal.put_blank-end-requires
-put_blank-end-requires c = let d : Datagram = plainly c.args.source c.args.destination c.args.source_port c.args.destination_port c.args.«data».now in
+put_blank-end-requires c = let d : Datagram = plain c.args.datagram.now in
     let l = c.args.list.now in
     let b = blank-room d l c.args.fill c.crc_for-crc.result c.crc_for-crc.ensures in
     omega (arith, b, c.requires.1)
 
-pub put_datagram-requires : goal.put_datagram-requires
-put_datagram-requires c = let d : Datagram = plainly c.args.source c.args.destination c.args.source_port c.args.destination_port c.args.«data».now in
+pub put-requires : goal.put-requires
+put-requires c = let d : Datagram = plain c.args.datagram.now in
     let l = c.args.list.now in
     let p = c.put_blank-end.ensures in
     let room = blank-room d l c.args.fill c.crc_for-crc.result c.crc_for-crc.ensures in
     let long = laid-length p (omega (arith, room, c.requires.1)) in
-    (omega (arith, room, c.requires.0), omega (arith, room, long, c.requires.1))
+    omega (arith, room, long, c.requires.1)
 
 pub put_ocs-requires : goal.put_ocs-requires
-put_ocs-requires c = let d : Datagram = plainly c.args.source c.args.destination c.args.source_port c.args.destination_port c.args.«data».now in
+put_ocs-requires c = let d : Datagram = plain c.args.datagram.now in
     let l = c.args.list.now in
     let p = c.put_blank-end.ensures in
     let room = blank-room d l c.args.fill c.crc_for-crc.result c.crc_for-crc.ensures in
     let long = laid-length p (omega (arith, room, c.requires.1)) in
-    let q = c.put_datagram.ensures in
+    let q = c.put.ensures in
     let n = size_is d in
     let longer = laid-length q (omega (arith, room, long, n, c.requires.1)) in
     let blank = blank-size (8 + length d.user) (listed_bytes c.crc_for-crc.result l c.args.fill) in
@@ -72,12 +73,12 @@ put_ocs-requires c = let d : Datagram = plainly c.args.source c.args.destination
     )
 
 pub returns : goal.returns
-returns c = let d : Datagram = plainly c.args.source c.args.destination c.args.source_port c.args.destination_port c.args.«data».now in
+returns c = let d : Datagram = plain c.args.datagram.now in
     let l = c.args.list.now in
     let p = c.put_blank-end.ensures in
     let room = blank-room d l c.args.fill c.crc_for-crc.result c.crc_for-crc.ensures in
     let long = laid-length p (omega (arith, room, c.requires.1)) in
-    let q = c.put_datagram.ensures in
+    let q = c.put.ensures in
     let n = size_is d in
     let bytes : List ℕ = listed_bytes c.crc_for-crc.result l c.args.fill in
     let whole = laid-under (summed d) _ p q n (omega (arith, room, c.requires.1)) in
