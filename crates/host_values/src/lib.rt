@@ -114,16 +114,8 @@ impl From<Result<usize, list_writer::Refusal>> for Written {
     fn from(written: Result<usize, list_writer::Refusal>) -> Written {
         match written {
             Ok(size) => Written { refusal: 0, size },
-            Err(list_writer::Refusal::Unreadable) => Written {
-                refusal: 7,
-                size: 0,
-            },
-            Err(list_writer::Refusal::Forbidden) => Written {
-                refusal: 9,
-                size: 0,
-            },
-            Err(list_writer::Refusal::TooLarge) => Written {
-                refusal: 8,
+            Err(refusal) => Written {
+                refusal: u32::from(refusal),
                 size: 0,
             },
         }

@@ -35,6 +35,19 @@ impl From<list_entry::Refusal> for Refusal {
     }
 }
 
+// The papers' number.
+impl From<Refusal> for u32 {
+    ghost from_gives = { λ refusal number. number ≡ refusal_number refusal };
+
+    fn from(refusal: Refusal) -> u32 {
+        match refusal {
+            Refusal::Unreadable => 7,
+            Refusal::Forbidden => 9,
+            Refusal::TooLarge => 8,
+        }
+    }
+}
+
 // Writes a whole payload to the front of `buffer`: header, data, and an area with the options of the encoded list and `fill` zero bytes. The
 // answer is the payload's length.
 pub fn write(

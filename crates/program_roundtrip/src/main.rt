@@ -2,7 +2,6 @@
 #![tactic(auto)]
 
 use list_options::Listing;
-use list_writer::Refusal;
 use std::io;
 use wire_datagram::reading;
 use wire_nops::Strictness;
@@ -21,9 +20,10 @@ fn main(rt: HostRuntime) -> io::Result<()> {
     let mut buffer = [0u8; ROOM];
     match list_writer::write(source, destination, 4660, 53, user, &list, 1, &mut buffer) {
         Ok(length) => show(&rt, &buffer, length, source, destination),
-        Err(Refusal::Unreadable) => say(&rt, b"refused 7\n"),
-        Err(Refusal::Forbidden) => say(&rt, b"refused 9\n"),
-        Err(Refusal::TooLarge) => say(&rt, b"refused 8\n"),
+        Err(refusal) => {
+            let number = u32::from(refusal);
+            print!(rt; "refused {number}\n")
+        }
     }
 }
 
