@@ -21,6 +21,7 @@ pub struct PacketOption {
 }
 
 // What `wuraketozo_renext` answers: an option of an original. Its offset counts from the UDP header, its body's places from the first user byte.
+// A struct of its own, and functions of their own for it, since calls that C can make answer no generic struct.
 #[repr(C)]
 #[derive(Clone, Copy)]
 pub struct OriginalOption {

@@ -11,7 +11,7 @@ use number_offsets::{OriginalOffset, PacketOffset};
 use wire_original::{OriginalExtent, RereadRefusal};
 use wire_reading::Apc;
 
-// What `wuraketozo_reread` answers.
+// What `wuraketozo_reread` answers. A struct of its own beside `host_readings::Reading`, since calls that C can make answer no generic struct.
 #[repr(C)]
 #[derive(Clone, Copy)]
 pub struct Rereading {

@@ -19,7 +19,7 @@ pub fn put(bytes: &[u8], text: &mut [u8], at: usize) -> usize
     at + size
 }
 
-// The number in decimal: its digits from the last place of an array forward, and then put.
+// The number in decimal: its digits from the last place of an array forward, and then put. Kept as a count: the turns are known by dividing alone.
 pub fn put_decimal(n: usize, text: &mut [u8], at: usize) -> usize
     requires { at ≤ length text.old }
     ensures { Put text.old at (decimal_of n) result text.new }
