@@ -1,6 +1,7 @@
 #!/bin/sh
-# Holds the C header to the static library: its constants and limits, plans, NULL with length 0, and that a host does not link where the
-# layout's number is another one. The header has to be C99, and C++ where there is a compiler for it.
+# Holds the C header to the static library: its constants and limits, plans, NULL with length 0, that the library calls nothing but memcpy
+# and memset, and that a host does not link where the layout's number is another one. The header has to be C99, and C++ where there is a
+# compiler for it.
 set -eu
 cd "$(dirname "$0")/../.."
 library=target/staticlib/libhost_calls.a
@@ -14,6 +15,16 @@ echo 'int main(void) { return 0; }' >"$room/probe.c"
 gcc $sanitize "$room/probe.c" -o "$room/probe" 2>/dev/null && "$room/probe" || sanitize=
 gcc $flags $sanitize -Iinclude tools/surface/surface.c "$library" -o "$room/surface"
 "$room/surface"
+
+# The library calls nothing from outside but memcpy and memset.
+if command -v nm >/dev/null 2>&1; then
+    nm -u "$library" | sed -n 's/^ *U //p' >"$room/calls"
+    test -s "$room/calls"
+    if grep -vxE 'memcpy|memset' "$room/calls"; then
+        echo "the library calls more than memcpy and memset"
+        exit 1
+    fi
+fi
 
 # A host that only lists, one that only walks, and one that has a table: each links with the header's number and not with another one,
 # whatever the linker drops.

@@ -62,5 +62,7 @@ pub fn copy(source: &[u8], target: &mut [u8], at: usize)
     requires { at + length source.now ≤ length target.old }
     ensures { target.new ≡ overlay target.old at source.now }
 {
-    target[at..at + source.len()].copy_from_slice(source);
+    for i in 0..source.len() {
+        target[at + i] = source[i];
+    }
 }
