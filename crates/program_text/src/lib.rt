@@ -9,14 +9,19 @@ ghost use Rattle.program_text.specs.Offsets.{at_offset};
 
 use number_offsets::PacketOffset;
 
-// Puts what fits of `bytes` at `at`, and answers where it ends.
+// Puts what fits of `bytes` at `at`, and answers where it ends. A text that fits has an arm of its own: where the compiler knows its length, it is
+// copied without a loop.
 pub fn put(bytes: &[u8], text: &mut [u8], at: usize) -> usize
     requires { at ≤ length text.old }
     ensures { Put text.old at bytes.now result text.new }
 {
-    let size = bytes.len().min(text.len() - at);
-    number_octets::copy(&bytes[..size], text, at);
-    at + size
+    let room = text.len() - at;
+    let Some(cut) = bytes.get(..room) else {
+        number_octets::copy(bytes, text, at);
+        return at + bytes.len();
+    };
+    number_octets::copy(cut, text, at);
+    at + room
 }
 
 // The number in decimal: its digits from the last place of an array forward, and then put. Kept as a count: the turns are known by dividing alone.
