@@ -2,16 +2,17 @@
 -- Assumes nothing.
 use mathlib.Core.Path.{◌≡◌, refl, sym, ap, ap₂, ◌∙◌}
 use mathlib.Core.Bool.{Bool, true, false, not, ◌&&◌, ◌||◌, and-true, and_assoc, or-false, or_assoc}
-use mathlib.Core.List.{List, [], ◌∷◌, ◌++◌}
+use mathlib.Core.List.{List, [], ◌∷◌, ◌++◌, map}
 use Prim.Native.Nat.{ℕ, zero, suc, ◌+◌, ◌<◌, ◌≤◌}
 use native.Mathlib.Numerals.{add-one}
 use native.Mathlib.Omega.{arith}
-use lib.Dec.{ltb, leb-suc-suc}
-use lib.ListN.{length, take, drop, get_or, length-take, take-append-drop, drop_of_length-le}
+use native.Mathlib.Nat.{not-suc-le-zero, le_of_suc-le-suc}
+use lib.Dec.{eqb, ltb, leb-suc-suc}
+use lib.ListN.{length, take, drop, get_or, length-take, length-map, take-append-drop, drop_of_length-le}
 use lib.Seq.{take-suc, drop-cons, get_or-take}
 use borrow.Author.Tests.{lt-ltb, le-ltb}
 use Rattle.number_tests.proofs.Tests.{true-false, both_true}
-use Rattle.client_record.specs.Lists.{all, any, pairs, sum}
+use Rattle.client_record.specs.Lists.{same_bytes, all, any, pairs, sum}
 
 -- the middle two change sides
 pub and-middle : (a b c d : Bool) → (a && b) && (c && d) ≡ (a && c) && (b && d)
@@ -157,6 +158,9 @@ module _ {ℓ} {A : Type ℓ} where
     all_left p = ap (all p) drop-next
 
   -- the front of an array: its length, and its elements
+  pub length_front : (n : ℕ) (l : List A) → length (take n l) ≤ length l
+  length_front n l = omega (arith, length-take n l)
+
   pub front_below : (n : ℕ) (l : List A) → length (take n l) ≤ n
   front_below n l = omega (arith, length-take n l)
 
@@ -168,3 +172,22 @@ module _ {ℓ} {A : Type ℓ} where
   drop-front zero l = refl
   drop-front (suc n) [] = refl
   drop-front (suc n) (x ∷ l) = drop-front n l
+
+-- the length of an array as its relation has it, element by element
+pub unmapped {ℓ ℓ'} : {A : Type ℓ} {B : Type ℓ'} (f : A → B) (l : List A) (n : ℕ) → length (map f l) ≡ n → length l ≡ n
+unmapped f l n e = sym (length-map l f) ∙ e
+
+-- the comparison of the first bytes, with the next one
+same-suc : (a b : List ℕ) (i : ℕ) → i < length a → i < length b
+    → same_bytes (take (suc i) a) (take (suc i) b) ≡ same_bytes (take i a) (take i b) && eqb (get_or a i 0) (get_or b i 0)
+unfolding same_bytes
+same-suc [] b i h k = absurd (not-suc-le-zero h)
+same-suc (x ∷ a) [] i h k = absurd (not-suc-le-zero k)
+same-suc (x ∷ a) (y ∷ b) zero h k = and-true (eqb x y)
+same-suc (x ∷ a) (y ∷ b) (suc i) h k =
+    ap (λ (t : Bool). eqb x y && t) (same-suc a b i (le_of_suc-le-suc h) (le_of_suc-le-suc k))
+    ∙ sym (and_assoc (eqb x y) (same_bytes (take i a) (take i b)) (eqb (get_or a i 0) (get_or b i 0)))
+
+pub same_next : (a b : List ℕ) (i : ℕ) → i < length a → i < length b
+    → same_bytes (take (i + 1) a) (take (i + 1) b) ≡ same_bytes (take i a) (take i b) && eqb (get_or a i 0) (get_or b i 0)
+same_next a b i h k = ap (λ (n : ℕ). same_bytes (take n a) (take n b)) (add-one i) ∙ same-suc a b i h k

@@ -2,16 +2,20 @@
 -- Assumes nothing.
 use mathlib.Core.Path.{◌≡◌, refl, sym, ap, ap₂, ◌∙◌}
 use mathlib.Core.Bool.{Bool, true, false, cond, ◌&&◌}
-use mathlib.Core.List.{List, [], ◌∷◌}
-use Prim.Native.Nat.{ℕ, zero, suc, ◌+◌, ◌≤◌, ◌<◌}
+use mathlib.Core.List.{List, [], ◌∷◌, ◌++◌, reverse}
+use Prim.Native.Nat.{ℕ, zero, suc, ◌+◌, ◌*◌, ◌≤◌, ◌<◌}
+use native.Mathlib.Numerals.{add-one}
 use native.Mathlib.Omega.{arith}
 use borrow.Author.Tests.{eq-eqb, ne_eqb, eqb-true, eqb-false}
 use lib.Bits.{bit_or, or_add_and, and_le_l, and_le_r}
 use lib.Dec.{eqb}
-use lib.ListN.{length, get_or, replicate}
+use lib.ListN.{length, take, drop, get_or, replicate, take-append-drop}
+use lib.Seq.{take-add, drop-cons}
 use Rattle.std.specs.List.{fold}
+use Rattle.number_octets.specs.Octets.{number, part}
 use Rattle.number_octets.specs.Runs.{run_of}
 use Rattle.number_octets.specs.Zeros.{all_zero, zeros_of}
+use Rattle.number_octets.proofs.Laws.{part-four, little-four}
 
 -- ---- lists
 
@@ -22,6 +26,23 @@ and_assoc false b c = refl
 and-true : (a : Bool) → a ≡ a && true
 and-true true = refl
 and-true false = refl
+
+pub zero-append : (a b : List ℕ) → all_zero (a ++ b) ≡ all_zero a && all_zero b
+unfolding all_zero
+zero-append [] b = refl
+zero-append (x ∷ a) b = ap (λ (t : Bool). eqb x 0 && t) (zero-append a b) ∙ sym (and_assoc (eqb x 0) (all_zero a) (all_zero b))
+
+pub zero-split : (n : ℕ) (l : List ℕ) → all_zero l ≡ all_zero (take n l) && all_zero (drop n l)
+zero-split n l = ap all_zero (sym (take-append-drop n l)) ∙ zero-append (take n l) (drop n l)
+
+-- some bytes more
+pub zero_more : (n k : ℕ) (l : List ℕ) → all_zero (take (n + k) l) ≡ all_zero (take n l) && all_zero (part n k l)
+zero_more n k l = ap all_zero (take-add n k l) ∙ zero-append (take n l) (part n k l)
+
+-- the byte at `at`, and those behind it
+pub zero-at : (at : ℕ) (l : List ℕ) → at < length l → all_zero (drop at l) ≡ eqb (get_or l at 0) 0 && all_zero (drop (at + 1) l)
+unfolding all_zero
+zero-at at l h = ap all_zero (drop-cons l at 0 h) ∙ ap (λ (n : ℕ). eqb (get_or l at 0) 0 && all_zero (drop n l)) (sym (add-one at))
 
 pub zero-alike : (n : ℕ) → all_zero (replicate n 0) ≡ true
 unfolding all_zero
@@ -97,3 +118,23 @@ unfolding all_zero
 none-set n [] = and-true (eqb n 0)
 none-set n (b ∷ bs) =
     none-set (bit_or n b) bs ∙ ap (λ (t : Bool). t && all_zero bs) (or-zero n b) ∙ and_assoc (eqb n 0) (eqb b 0) (all_zero bs)
+
+four-zero : (a b c d : ℕ) → eqb (a + b * 256 + c * 65536 + d * 16777216) 0 ≡ eqb a 0 && (eqb b 0 && (eqb c 0 && (eqb d 0 && true)))
+four-zero a b c d = go (eqb a 0) (eqb b 0) (eqb c 0) (eqb d 0) refl refl refl refl
+  where
+    n : ℕ
+    n = a + b * 256 + c * 65536 + d * 16777216
+
+    go : (s t u v : Bool) → eqb a 0 ≡ s → eqb b 0 ≡ t → eqb c 0 ≡ u → eqb d 0 ≡ v → eqb n 0 ≡ s && (t && (u && (v && true)))
+    go true true true true p q r w = eq-eqb n 0 (omega (arith, eqb-true a 0 p, eqb-true b 0 q, eqb-true c 0 r, eqb-true d 0 w))
+    go true true true false p q r w = ne_eqb n 0 (λ e. eqb-false d 0 w (omega arith))
+    go true true false v p q r w = ne_eqb n 0 (λ e. eqb-false c 0 r (omega arith))
+    go true false u v p q r w = ne_eqb n 0 (λ e. eqb-false b 0 q (omega arith))
+    go false t u v p q r w = ne_eqb n 0 (λ e. eqb-false a 0 p (omega arith))
+
+-- four bytes as one number
+pub word-zero : (at : ℕ) (l : List ℕ) → at + 4 ≤ length l → eqb (number (reverse (part at 4 l))) 0 ≡ all_zero (part at 4 l)
+unfolding all_zero
+word-zero at l h =
+    ap (λ (n : ℕ). eqb n 0) (little-four at l h) ∙ four-zero (get_or l at 0) (get_or l (at + 1) 0) (get_or l (at + 2) 0) (get_or l (at + 3) 0)
+    ∙ sym (ap all_zero (part-four at l h))

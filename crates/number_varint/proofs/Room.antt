@@ -1,9 +1,11 @@
 -- The weight of the next group and the room that 64 bits leave it: their product is 2 ^ 64 throughout, since a turn multiplies the one by 128
 -- and divides the other, which is a power of 128 times 2. Assumes nothing.
 use mathlib.Core.Path.{◌≡◌}
+use mathlib.Core.Logic.{⊎_elim}
 use Prim.Native.Nat.{ℕ, zero, suc, ◌*◌, ◌/◌, ◌^◌, ◌≤◌, ◌<◌}
-use native.Mathlib.Nat.{mul_assoc, pow-suc, pow-succ', one-le-pow}
+use native.Mathlib.Nat.{mul_assoc, mul-le-mul_left, pow-suc, pow-succ', one-le-pow}
 use native.Mathlib.Omega.{arith}
+use Rattle.number_varint.proofs.Groups.{below_or_not}
 
 pub record Room (weight room : ℕ) : Type 0 where
   pub more : ℕ
@@ -31,3 +33,11 @@ module _ {weight room : ℕ} (r : Room weight room) where
       go : (m : ℕ) → room ≡ 128 ^ m * 2 → weight * 128 ^ m ≡ 2 ^ 63 → Room (weight * 128) (room / 128)
       go zero e f = absurd (omega arith)
       go (suc m) e f = record { more = m; left = omega (arith, pow-suc 128 m); whole = rw (mul_assoc, ← pow-succ' 128 m) f }
+
+  -- a group that others follow has a weight that a group of seven bits more still fits
+  pub weight-small : 128 < room → weight ≤ 2 ^ 56
+  weight-small h =
+      ⊎_elim
+      (λ l. absurd (omega (arith, room_small l)))
+      (λ l. omega (arith, mul-le-mul_left weight l, room_whole r))
+      (below_or_not room 256)

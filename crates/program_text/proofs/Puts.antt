@@ -6,7 +6,7 @@ use Prim.Native.Nat.{ℕ, zero, suc, ◌+◌, ◌-◌, ◌≤◌}
 use native.Mathlib.Nat.{add-zero}
 use native.Mathlib.Omega.{arith}
 use lib.ListN.{length, take, drop, length-append, length-take, take-append-drop}
-use lib.Seq.{take-nil}
+use lib.Seq.{take_all, take-nil, length-take-le}
 use Rattle.number_octets.specs.Octets.{overlay}
 use Rattle.number_octets.proofs.Laws.{length-overlay, overlay-append}
 use Rattle.program_text.specs.Put.{fitting, Put}
@@ -22,6 +22,17 @@ take-both (suc k) (x ∷ a) b =
 -- what fits stays within the buffer
 pub fits-within : (t : List ℕ) (at : ℕ) (s : List ℕ) → at ≤ length t → at + length (fitting t at s) ≤ length t
 fits-within t at s h = simp length-take (omega arith)
+
+-- a text that fits whole, and one that is cut
+pub put_whole : (t : List ℕ) (at : ℕ) (s : List ℕ) {r : ℕ} {left : List ℕ} → length s ≤ length t - at → r ≡ at + length s → left ≡ overlay t at s
+    → Put t at s r left
+put_whole t at s h e f =
+    let all : take (length t - at) s ≡ s = take_all (length t - at) s h in
+    record { ends = e ∙ ap (λ (l : List ℕ). at + length l) (sym all); leaves = f ∙ ap (overlay t at) (sym all) }
+
+pub put-cut : (t : List ℕ) (at : ℕ) (s : List ℕ) {r : ℕ} {left : List ℕ} → length t - at ≤ length s → r ≡ at + (length t - at)
+    → left ≡ overlay t at (fitting t at s) → Put t at s r left
+put-cut t at s h e f = record { ends = e ∙ ap (λ (n : ℕ). at + n) (sym (length-take-le (length t - at) s h)); leaves = f }
 
 pub put_as : {t s s' : List ℕ} {at r : ℕ} {left : List ℕ} → s ≡ s' → Put t at s r left → Put t at s' r left
 put_as {t} {s} {s'} {at} {r} {left} e p = subst (λ (x : List ℕ). Put t at x r left) e p

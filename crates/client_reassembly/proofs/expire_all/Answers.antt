@@ -1,4 +1,4 @@
--- `client_reassembly::expire_all` meets its contract: each assembly is replaced in its place (`mapped_next`), and one that is not old is as it was.
+-- `client_reassembly::expire_all` meets its contract: each assembly is replaced in its place (`mapped_in_place`), and one that is not old is as it was.
 use mathlib.Core.Path.{sym, ap, ◌∙◌}
 use lib.ListN.{set}
 use lib.Seq.{set-get_or}
@@ -7,7 +7,7 @@ use native.Mathlib.Omega.{arith}
 use Rattle.client_record.proofs.Shapes.{places}
 use Rattle.client_record.specs.Limits.{assembly_limit}
 use Rattle.client_record.specs.Record.{fresh_assembly}
-use Rattle.client_reassembly.proofs.Laws.{mapped_next}
+use Rattle.client_reassembly.proofs.Laws.{mapped_in_place}
 use Rattle.client_reassembly.specs.Advance.{old, expire}
 use Rattle.client_reassembly.proofs.expire_all.Goals as goal
 use Rattle.client_reassembly.proofs.expire_all.Goals.{then-old, else-old}
@@ -19,7 +19,7 @@ loop-i-preserved c =
     let t = c.args.time in
     let i = c.loop-i.i in
     let ys = c.loop-i.kept in
-    let more = mapped_next (expire t) c.args.c.assemblies ys i _ (omega (arith, long, c.loop-i-test.true)) c.loop-i.invariant in
+    let more = mapped_in_place (expire t) c.args.c.assemblies ys i _ (omega (arith, long, c.loop-i-test.true)) c.loop-i.invariant in
     elim c.if-old.branch [
       | then-old w ↦
           w.kept-is

@@ -6,7 +6,7 @@ use lib.ListN.{length, take, drop, set, drop_of_length-le}
 use lib.Seq.{take_all}
 use Rattle.std.proofs.lemmas.Result.{err_from_is_err_and}
 use Rattle.client_record.specs.declared.Client.{Client}
-use Rattle.client_reassembly.proofs.Laws.{mapped_next}
+use Rattle.client_reassembly.proofs.Laws.{mapped_in_place}
 use Rattle.table_rules.specs.Table.{table_of}
 use Rattle.table_calls.proofs.Contracts.{refused-reset, granted-reset}
 use Rattle.table_calls.proofs.reset.Goals as goal
@@ -24,7 +24,7 @@ returns-in_err-admit c =
 pub loop-record-preserved : goal.loop-record-preserved
 loop-record-preserved c =
     ap (set c.loop-record.record-items c.loop-record.record-index) c.fresh.ensures
-    ∙ mapped_next anew c.args.records.now c.loop-record.record-items c.loop-record.record-index _ c.loop-record-test.true c.loop-record.invariant
+    ∙ mapped_in_place anew c.args.records.now c.loop-record.record-items c.loop-record.record-index _ c.loop-record-test.true c.loop-record.invariant
 
 pub returns : goal.returns
 returns c =
