@@ -81,10 +81,10 @@ word_sum-cut odd n l even h =
     (ap (parity_after odd) (length-take-le n l h) ∙ parity-even odd n even)
 
 -- a block at the front added to a folded sum: its length is even, or nothing stands behind it
-pub folded-block : (odd : Bool) (sum r : ℕ) (whole block rest : List ℕ) → whole ≡ block ++ rest → length block ≡ min 65536 (length whole)
+pub folded-block : (odd : Bool) (sum r n : ℕ) (whole block rest : List ℕ) → n % 2 ≡ 0 → whole ≡ block ++ rest → length block ≡ min n (length whole)
     → r ≡ folded (sum + word_sum odd block) → folded (r + word_sum odd rest) ≡ folded (sum + word_sum odd whole)
 unfolding word_sum
-folded-block odd sum r whole block rest e n f =
+folded-block odd sum r n whole block rest even e short f =
     let cut : word_sum odd whole ≡ word_sum odd block + word_sum (parity_after odd (length block)) rest =
     ap (word_sum odd) e ∙ word_sum-append odd block rest in
     let size : length whole ≡ length block + length rest = ap length e ∙ length-append block rest in

@@ -20,7 +20,7 @@ use Rattle.client_record_test.proofs.spare_fresh.Goals as goal
 
 pub loop-i-init : goal.loop-i-init
 loop-i-init c = let a = c.args.a in
-    ap (λ (k : ℕ). all is_fresh_fragment (drop k a.fragments)) c.held_count-i.ensures.count ∙ ap (all is_fresh_fragment) (spare-from a)
+    ap (λ (k : ℕ). all is_fresh_fragment (drop k a.fragments)) (omega (arith, c.held_count-i.ensures.count)) ∙ ap (all is_fresh_fragment) (spare-from a)
 
 pub loop-i-preserved : goal.loop-i-preserved
 unfolding fragment_limit
