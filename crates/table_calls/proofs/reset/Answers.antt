@@ -1,20 +1,13 @@
 -- `table_calls::reset` meets its contract: what the admission refuses leaves everything, and behind it every record is made fresh in its place.
-use Prim.Native.Nat.{ℕ, ◌≤◌}
-use mathlib.Core.List.{List, ◌++◌, map, append-nil}
-use mathlib.Core.Path.{◌≡◌, ap, ap₂, ◌∙◌}
-use lib.ListN.{length, take, drop, set, drop_of_length-le}
-use lib.Seq.{take_all}
+use mathlib.Core.Path.{ap, ◌∙◌}
+use lib.ListN.{set}
 use Rattle.std.proofs.lemmas.Result.{err_from_is_err_and}
-use Rattle.client_record.specs.declared.Client.{Client}
 use Rattle.client_reassembly.proofs.Laws.{mapped_in_place}
 use Rattle.table_rules.specs.Table.{table_of}
 use Rattle.table_calls.proofs.Contracts.{refused-reset, granted-reset}
+use Rattle.table_calls.proofs.Replaced.{replaced-all}
 use Rattle.table_calls.proofs.reset.Goals as goal
 use Rattle.table_calls.proofs.reset.Invariants.{anew}
-
--- all of them
-all-anew : (rs : List Client) (i : ℕ) → length rs ≤ i → map anew (take i rs) ++ drop i rs ≡ map anew rs
-all-anew rs i h = ap₂ (λ (u v : List Client). map anew u ++ v) (take_all i rs h) (drop_of_length-le rs h) ∙ append-nil (map anew rs)
 
 pub returns-in_err-admit : goal.returns-in_err-admit
 returns-in_err-admit c =
@@ -29,4 +22,4 @@ loop-record-preserved c =
 pub returns : goal.returns
 returns c =
     granted-reset (table_of c.args.records.now c.args.store.now) _ c.in_ok-admit.ensures _
-    (c.loop-record.invariant ∙ all-anew c.args.records.now _ c.loop-record-test.false)
+    (c.loop-record.invariant ∙ replaced-all anew _ c.args.records.now c.loop-record-test.false)
